@@ -1,0 +1,7 @@
+pub mod Reading
+pub mod Tests
+pub mod Number
+pub mod Carry
+pub mod Iban
+pub mod Rows
+pub mod Cases

@@ -1,0 +1,18 @@
+-- What a test that passed tells. Assumes nothing.
+use mathlib.Core.Path.{_≡_, refl}
+use mathlib.Core.Bool.{Bool, true, false, _&&_}
+use Prim.Native.Nat.{ℕ, _≤_}
+use borrow.Author.Tests.{leb-true}
+use lib.Dec.{leb}
+
+pub and-left : (a b : Bool) → (a && b) ≡ true → a ≡ true
+and-left true b e = refl
+and-left false b e = e
+
+pub and-right : (a b : Bool) → (a && b) ≡ true → b ≡ true
+and-right true b e = e
+and-right false b e = cc
+
+-- a byte within a range is not below it
+pub not-below : (low high c : ℕ) → (leb low c && leb c high) ≡ true → low ≤ c
+not-below low high c e = leb-true low c (and-left (leb low c) (leb c high) e)
