@@ -42,7 +42,7 @@ module _ (s : List ℕ) where
 
   pub too-long : 34 < length s → isIban s ≡ false
   unfolding isIban
-  too-long h = rw (lt-leb (length s) 34 h) (and-false (leb 5 (length s)))
+  too-long h = simp (lt-leb (length s) 34 h, and-false)
 
   pub wrong-rest : carried LetterOrDigit (drop 4 s) 0 ≡ Wrong → isIban s ≡ false
   unfolding isIban

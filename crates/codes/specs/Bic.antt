@@ -11,4 +11,7 @@ use Rattle.codes.specs.declared.classes.Class.the-variants.{Capital, Cap
 unfoldable pub isBic : List ℕ → Bool
 isBic s =
     eqb (length s) 11
-    && (allIn Capital (take 6 s) && isIn CapitalOr2To9 (getD s 6 0) && isIn CapitalButOOrDigit (getD s 7 0) && allIn CapitalOrDigit (drop 8 s))
+    && allIn Capital (take 6 s)
+    && isIn CapitalOr2To9 (getD s 6 0)
+    && isIn CapitalButOOrDigit (getD s 7 0)
+    && allIn CapitalOrDigit (drop 8 s)

@@ -39,7 +39,8 @@ isIn CapitalButOOrDigit c = (capital c && not (is "O" c)) || digit c
 isIn CapitalOrDigit c = capital c || digit c
 isIn LetterOrDigit c = capital c || small c || digit c
 isIn Txid c =
-    capital c || small c || digit c || is "/" c || is "-" c || is "?" c || is ":" c || is "(" c || is ")" c || is "." c || is "," c || is "'" c || is "+" c
+    capital c || small c || digit c
+    || is "/" c || is "-" c || is "?" c || is ":" c || is "(" c || is ")" c || is "." c || is "," c || is "'" c || is "+" c
 
 abbrev pub allIn : Class → List ℕ → Bool
 allIn class [] = true

@@ -37,7 +37,8 @@ moved s = drop 4 s ++ take 4 s
 unfoldable pub isIban : List ℕ → Bool
 isIban s =
     leb 5 (length s)
-    && (leb (length s) 34
-    && (allIn Capital (take 2 s)
-    && (allIn Digit (take 2 (drop 2 s))
-    && (allIn LetterOrDigit (drop 4 s) && eqb (decimal (digits (moved s)) % 97) 1))))
+    && leb (length s) 34
+    && allIn Capital (take 2 s)
+    && allIn Digit (take 2 (drop 2 s))
+    && allIn LetterOrDigit (drop 4 s)
+    && eqb (decimal (digits (moved s)) % 97) 1

@@ -1,0 +1,219 @@
+/* Holds the three checks of zolfigar.h to an implementation of their rules that shares nothing with them, on a million
+ * random inputs, and to the examples of the IBAN registry. Prints the counts, and exits with 1 at the first difference. */
+#include "zolfigar.h"
+
+#include <stdio.h>
+#include <stdlib.h>
+#include <string.h>
+
+#include "registry.h"
+
+#define INPUTS 1000000
+#define LONGEST 80
+
+/* ---- the rules, written another way: by tables of characters, and by long division of the whole number */
+
+static int one_of(uint8_t c, const char *set)
+{
+    return c != 0 && strchr(set, c) != NULL;
+}
+
+static int all_of(const uint8_t *s, size_t n, const char *set)
+{
+    for (size_t i = 0; i < n; i++)
+        if (!one_of(s[i], set))
+            return 0;
+    return 1;
+}
+
+#define CAPITALS "ABCDEFGHIJKLMNOPQRSTUVWXYZ"
+#define SMALL "abcdefghijklmnopqrstuvwxyz"
+#define DIGITS "0123456789"
+
+static int expected_bic(const uint8_t *s, size_t n)
+{
+    return n == 11 && all_of(s, 6, CAPITALS) && one_of(s[6], CAPITALS "23456789") &&
+           one_of(s[7], "ABCDEFGHIJKLMNPQRSTUVWXYZ" DIGITS) && all_of(s + 8, 3, CAPITALS DIGITS);
+}
+
+static int expected_txid(const uint8_t *s, size_t n)
+{
+    return 1 <= n && n <= 35 && all_of(s, n, CAPITALS SMALL DIGITS "/-?:().,'+");
+}
+
+static int expected_iban(const uint8_t *s, size_t n)
+{
+    char number[2 * 34 + 1];
+    size_t used = 0;
+    int left = 0;
+
+    if (n < 5 || 34 < n || !all_of(s, 2, CAPITALS) || !all_of(s + 2, 2, DIGITS) ||
+        !all_of(s + 4, n - 4, CAPITALS SMALL DIGITS))
+        return 0;
+    for (size_t i = 0; i < n; i++) {
+        uint8_t c = s[(i + 4) % n];
+        const char *at;
+        if (one_of(c, DIGITS)) {
+            number[used++] = (char)c;
+            continue;
+        }
+        at = strchr(CAPITALS SMALL, c);
+        used += (size_t)sprintf(number + used, "%d", 10 + (int)((at - (CAPITALS SMALL)) % 26));
+    }
+    for (size_t i = 0; i < used; i++)
+        left = (left * 10 + (number[i] - '0')) % 97;
+    return left == 1;
+}
+
+/* ---- random inputs */
+
+static uint64_t state = 0x9e3779b97f4a7c15u;
+
+static uint32_t below(uint32_t n)
+{
+    state ^= state << 13;
+    state ^= state >> 7;
+    state ^= state << 17;
+    return (uint32_t)(state >> 33) % n;
+}
+
+static size_t fill(uint8_t *s, size_t n, const char *set)
+{
+    size_t size = strlen(set);
+    for (size_t i = 0; i < n; i++)
+        s[i] = (uint8_t)set[below((uint32_t)size)];
+    return n;
+}
+
+/* A BIC. */
+static size_t make_bic(uint8_t *s)
+{
+    fill(s, 6, CAPITALS);
+    fill(s + 6, 1, CAPITALS "23456789");
+    fill(s + 7, 1, "ABCDEFGHIJKLMNPQRSTUVWXYZ" DIGITS);
+    fill(s + 8, 3, CAPITALS DIGITS);
+    return 11;
+}
+
+/* An IBAN, or with `extra` above 30 characters behind the first four something too long whose remainder is right. */
+static size_t make_iban(uint8_t *s, size_t extra)
+{
+    uint32_t left = 0;
+    size_t n = 4 + extra;
+
+    fill(s, 2, CAPITALS);
+    s[2] = '0';
+    s[3] = '0';
+    fill(s + 4, extra, below(2) ? CAPITALS DIGITS : CAPITALS SMALL DIGITS);
+    for (size_t i = 0; i < n; i++) {
+        uint8_t c = s[(i + 4) % n];
+        if (one_of(c, DIGITS))
+            left = (left * 10 + (uint32_t)(c - '0')) % 97;
+        else
+            left = (left * 100 + 10 + (uint32_t)((strchr(CAPITALS SMALL, c) - (CAPITALS SMALL)) % 26)) % 97;
+    }
+    left = 98 - left;
+    s[2] = (uint8_t)('0' + left / 10);
+    s[3] = (uint8_t)('0' + left % 10);
+    return n;
+}
+
+/* The next input: valid, of a wrong length, of nothing but random bytes, and then, half the time, damaged at a place. */
+static size_t next_input(uint8_t *s)
+{
+    size_t n;
+
+    switch (below(6)) {
+    case 0:
+        n = make_bic(s);
+        break;
+    case 1:
+        n = make_iban(s, below(31));
+        break;
+    case 2:
+        n = make_iban(s, below(40));
+        break;
+    case 3:
+        n = fill(s, below(40), CAPITALS SMALL DIGITS "/-?:().,'+");
+        break;
+    case 4:
+        n = fill(s, below(LONGEST), CAPITALS DIGITS);
+        break;
+    default:
+        n = below(LONGEST);
+        for (size_t i = 0; i < n; i++)
+            s[i] = (uint8_t)below(256);
+        break;
+    }
+    if (n != 0 && below(2))
+        s[below((uint32_t)n)] = (uint8_t)below(below(2) ? 256 : 128);
+    if (n != 0 && below(8) == 0)
+        n -= 1;
+    return n;
+}
+
+/* ---- the comparison */
+
+struct check {
+    const char *name;
+    uint8_t (*found)(const uint8_t *, size_t);
+    int (*expected)(const uint8_t *, size_t);
+    long taken;
+};
+
+static void differ(const char *name, const uint8_t *s, size_t n, int found)
+{
+    fprintf(stderr, "%s answered %d to %zu bytes:", name, found, n);
+    for (size_t i = 0; i < n; i++)
+        fprintf(stderr, " %02x", s[i]);
+    fprintf(stderr, "\n");
+    exit(1);
+}
+
+int main(void)
+{
+    struct check checks[3] = {
+        { "zolfigar_bic_ok", zolfigar_bic_ok, expected_bic, 0 },
+        { "zolfigar_iban_ok", zolfigar_iban_ok, expected_iban, 0 },
+        { "zolfigar_txid_ok", zolfigar_txid_ok, expected_txid, 0 },
+    };
+    size_t examples = sizeof registry / sizeof registry[0];
+
+    for (int k = 0; k < 3; k++)
+        if (checks[k].found(NULL, 0) != 0)
+            differ(checks[k].name, NULL, 0, 1);
+
+    for (long i = 0; i < INPUTS; i++) {
+        uint8_t room[LONGEST];
+        size_t n = next_input(room);
+        /* A block of exactly n bytes, so that a tool that watches memory sees a read past its end. */
+        uint8_t *s = malloc(n == 0 ? 1 : n);
+        if (s == NULL)
+            return 2;
+        memcpy(s, room, n);
+        for (int k = 0; k < 3; k++) {
+            int found = checks[k].found(s, n);
+            if (found != checks[k].expected(s, n))
+                differ(checks[k].name, s, n, found);
+            checks[k].taken += found;
+        }
+        free(s);
+    }
+
+    for (size_t i = 0; i < examples; i++) {
+        const uint8_t *s = (const uint8_t *)registry[i];
+        size_t n = strlen(registry[i]);
+        uint8_t damaged[LONGEST];
+        if (zolfigar_iban_ok(s, n) != 1)
+            differ("zolfigar_iban_ok", s, n, 0);
+        /* One check digit changed: no IBAN any more. */
+        memcpy(damaged, s, n);
+        damaged[3] = damaged[3] == '9' ? '0' : (uint8_t)(damaged[3] + 1);
+        if (zolfigar_iban_ok(damaged, n) != 0)
+            differ("zolfigar_iban_ok", damaged, n, 1);
+    }
+
+    printf("gateway: %d inputs alike (%ld BICs, %ld IBANs, %ld TxIds among them), %zu registry examples taken\n", INPUTS,
+           checks[0].taken, checks[1].taken, checks[2].taken, examples);
+    return 0;
+}
