@@ -3,7 +3,6 @@
 // check is printed with a question mark.
 use libc::STDIN_FILENO;
 use libc::STDOUT_FILENO;
-
 ghost use Prim.Native.Nat.{_≤_};
 ghost use lib.ListN.{length};
 
