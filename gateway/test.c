@@ -9,7 +9,7 @@
 #include "registry.h"
 
 #define INPUTS 1000000
-#define LONGEST 80
+#define LONGEST 3000
 
 /* ---- the rules, written another way: by tables of characters, and by long division of the whole number */
 
@@ -137,10 +137,10 @@ static size_t next_input(uint8_t *s)
         n = fill(s, below(40), CAPITALS SMALL DIGITS "/-?:().,'+");
         break;
     case 4:
-        n = fill(s, below(LONGEST), CAPITALS DIGITS);
+        n = fill(s, below(80), CAPITALS DIGITS);
         break;
     default:
-        n = below(LONGEST);
+        n = below(below(100) ? 80 : LONGEST);
         for (size_t i = 0; i < n; i++)
             s[i] = (uint8_t)below(256);
         break;
@@ -179,18 +179,15 @@ int main(void)
     };
     size_t examples = sizeof registry / sizeof registry[0];
 
-    for (int k = 0; k < 3; k++)
-        if (checks[k].found(NULL, 0) != 0)
-            differ(checks[k].name, NULL, 0, 1);
-
     for (long i = 0; i < INPUTS; i++) {
         uint8_t room[LONGEST];
         size_t n = next_input(room);
-        /* A block of exactly n bytes, so that a tool that watches memory sees a read past its end. */
-        uint8_t *s = malloc(n == 0 ? 1 : n);
-        if (s == NULL)
+        /* A block of exactly n bytes, so that a tool that watches memory sees a read past its end; of none, null. */
+        uint8_t *s = n == 0 ? NULL : malloc(n);
+        if (n != 0 && s == NULL)
             return 2;
-        memcpy(s, room, n);
+        if (n != 0)
+            memcpy(s, room, n);
         for (int k = 0; k < 3; k++) {
             int found = checks[k].found(s, n);
             if (found != checks[k].expected(s, n))
