@@ -10,7 +10,7 @@ use Rattle.codes.specs.Carry.{behind, carried}
 use Rattle.codes.specs.declared.classes.Class.{Class}
 use Rattle.codes.specs.declared.remainder.Carried.{Carried}
 use Rattle.codes.specs.declared.remainder.Carried.the-variants.{Left, Wrong}
-use Rattle.codes.proofs.Reading.{left-from}
+use Rattle.fields.proofs.Reading.{left-from}
 use Rattle.codes.proofs.Number.{behind-append, behind-mod}
 
 -- a remainder serves for the number that it is of

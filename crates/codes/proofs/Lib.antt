@@ -1,5 +1,3 @@
-pub mod Reading
-pub mod Tests
 pub mod Number
 pub mod Carry
 pub mod Iban

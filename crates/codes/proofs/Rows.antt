@@ -1,26 +1,11 @@
 -- Rows are met where a test that the checker computes over them says so. Assumes nothing.
-use mathlib.Core.Path.{_≡_, refl, ap₂}
-use mathlib.Core.Bool.{Bool, true, false, _&&_}
+use mathlib.Core.Path.{_≡_}
+use mathlib.Core.Bool.{Bool, true, _&&_}
 use mathlib.Core.List.{List, [], _∷_}
-use Prim.Native.Nat.{ℕ}
-use borrow.Author.Tests.{eqb-true}
-use lib.Dec.{eqb}
 use Rattle.codes.specs.Rows.{Row, AllMet}
-use Rattle.codes.proofs.Tests.{and-left, and-right}
-
--- the same bytes
-abbrev pub same : List ℕ → List ℕ → Bool
-same [] [] = true
-same [] (b ∷ t) = false
-same (a ∷ s) [] = false
-same (a ∷ s) (b ∷ t) = eqb a b && same s t
-
-pub same-true : (s t : List ℕ) → same s t ≡ true → s ≡ t
-same-true [] [] e = refl
-same-true [] (b ∷ t) e = cc
-same-true (a ∷ s) [] e = cc
-same-true (a ∷ s) (b ∷ t) e =
-    ap₂ _∷_ (eqb-true a b (and-left (eqb a b) (same s t) e)) (same-true s t (and-right (eqb a b) (same s t) e))
+use Rattle.fields.specs.Text.{same}
+use Rattle.fields.proofs.Tests.{and-left, and-right}
+use Rattle.fields.proofs.Same.{same-true}
 
 abbrev pub allMet : List Row → Bool
 allMet [] = true

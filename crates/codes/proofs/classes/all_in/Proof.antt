@@ -11,7 +11,7 @@ use borrow.Author.Tests.{not-true, not-false}
 use denote.Ref.{now}
 use Rattle.codes.specs.Class.{isIn, allIn}
 use Rattle.codes.specs.declared.classes.Class.{Class}
-use Rattle.codes.proofs.Reading.{left-from}
+use Rattle.fields.proofs.Reading.{left-from}
 use Rattle.codes.proofs.classes.all_in.Statement.{statement}
 use Rattle.codes.proofs.classes.all_in.Tie as tie
 use Rattle.codes.proofs.classes.all_in.Reads as reads

@@ -3,7 +3,7 @@
 use mathlib.Core.Path.{_≡_, _∙_, sym}
 use native.Mathlib.Omega.{arith}
 use borrow.Author.Needs.{needs}
-use Rattle.codes.proofs.Tests.{not-below}
+use Rattle.fields.proofs.Tests.{not-below}
 use Rattle.codes.proofs.remainder.value.Statement.{statement}
 use Rattle.codes.proofs.remainder.value.Tie as tie
 

@@ -1,0 +1,6 @@
+pub mod Reading
+pub mod Tests
+pub mod Stores
+pub mod BigEndian
+pub mod Padding
+pub mod Same

@@ -1,0 +1,28 @@
+-- Fields of bytes: padding with zero bytes, and the same bytes.
+--     valueLength   how many bytes stand before the trailing zeros
+--     unpadded      those bytes: the value of a field that is padded with zero bytes
+--     blank         all bytes are zero
+--     same          two lists hold the same bytes
+-- Assumes nothing.
+use Prim.Native.Nat.{ℕ, suc}
+use mathlib.Core.Bool.{Bool, true, false, _&&_, cond}
+use mathlib.Core.List.{List, [], _∷_}
+use lib.Dec.{eqb}
+use lib.ListN.{take}
+
+abbrev pub blank : List ℕ → Bool
+blank [] = true
+blank (b ∷ s) = eqb b 0 && blank s
+
+abbrev pub valueLength : List ℕ → ℕ
+valueLength [] = 0
+valueLength (b ∷ s) = cond (eqb b 0 && blank s) 0 (suc (valueLength s))
+
+abbrev pub unpadded : List ℕ → List ℕ
+unpadded s = take (valueLength s) s
+
+abbrev pub same : List ℕ → List ℕ → Bool
+same [] [] = true
+same [] (b ∷ t) = false
+same (a ∷ s) [] = false
+same (a ∷ s) (b ∷ t) = eqb a b && same s t

@@ -1,0 +1,12 @@
+// Fields of bytes: big-endian numbers at a place, padding with zero bytes, and whether two fields hold the same bytes.
+mod number;
+mod text;
+
+pub use number::put_u16;
+pub use number::put_u32;
+pub use number::put_u64;
+pub use number::u16_at;
+pub use number::u32_at;
+pub use number::u64_at;
+pub use text::same_bytes;
+pub use text::used;
