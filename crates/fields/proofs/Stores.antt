@@ -1,11 +1,11 @@
--- A run of stores, in two parts; and a part of a list, in two parts. Assumes nothing.
+-- Runs of stores in a list, and parts of a list. Assumes nothing.
 use mathlib.Core.Path.{_≡_, refl, sym, _∙_, ap}
-use mathlib.Core.List.{List, [], _∷_, _++_}
-use Prim.Native.Nat.{ℕ, suc, _+_, _≤_, _<_}
-use native.Mathlib.Nat.{add-zero, add-suc, suc-add}
+use mathlib.Core.List.{List, [], _∷_, _++_, append-assoc}
+use Prim.Native.Nat.{ℕ, zero, suc, _+_, _≤_, _<_}
+use native.Mathlib.Nat.{add-zero, zero-add, add-suc, suc-add, add-assoc}
 use native.Mathlib.Omega.{arith}
-use lib.ListN.{length, getD, set, take, drop, length-drop}
-use lib.Seq.{sets, take-add, drop-drop, drop-cons, length-take-le}
+use lib.ListN.{length, getD, set, take, drop, length-drop, length-append}
+use lib.Seq.{sets, sets-eq, take-at, drop-at, take-nil, take-take, take-add, drop-drop, drop-cons, length-take-le}
 use Rattle.fields.specs.Number.{part}
 
 pub sets-append : (l : List ℕ) (i : ℕ) (a b : List ℕ) → sets l i (a ++ b) ≡ sets (sets l i a) (i + length a) b
@@ -23,3 +23,35 @@ length-part w at s h = length-take-le w (drop at s) (rw length-drop (omega arith
 
 pub part-one : (at : ℕ) (s : List ℕ) → at < length s → part 1 at s ≡ getD s at 0 ∷ []
 part-one at s h = ap (take 1) (drop-cons s at 0 h)
+
+-- a run of stores within the list: what stands before it, what it wrote, and what stands after it
+module _ (vs l : List ℕ) (i : ℕ) (h : i + length vs ≤ length l) where
+  front : length (take i l) ≡ i
+  front = length-take-le i l (omega arith)
+
+  pub sets-before : take i (sets l i vs) ≡ take i l
+  sets-before = ap (take i) (sets-eq vs l i h ∙ append-assoc (take i l) vs (drop (i + length vs) l)) ∙ take-at (take i l) (vs ++ drop (i + length vs) l) i front
+
+  pub sets-after : drop (i + length vs) (sets l i vs) ≡ drop (i + length vs) l
+  sets-after =
+      ap (drop (i + length vs)) (sets-eq vs l i h)
+      ∙ drop-at (take i l ++ vs) (drop (i + length vs) l) (i + length vs) (length-append (take i l) vs ∙ ap (λ (k : ℕ). k + length vs) front)
+
+  pub sets-part : part (length vs) i (sets l i vs) ≡ vs
+  sets-part =
+      ap (part (length vs) i) (sets-eq vs l i h ∙ append-assoc (take i l) vs (drop (i + length vs) l))
+      ∙ ap (take (length vs)) (drop-at (take i l) (vs ++ drop (i + length vs) l) i front)
+      ∙ take-at vs (drop (i + length vs) l) (length vs) refl
+
+-- a part of a part
+pub drop-take : (m n : ℕ) (s : List ℕ) → drop m (take (m + n) s) ≡ take n (drop m s)
+drop-take zero n s = ap (λ (k : ℕ). take k s) (zero-add n)
+drop-take (suc m) n [] = ap (drop (suc m)) (take-nil (suc m + n)) ∙ sym (take-nil n)
+drop-take (suc m) n (x ∷ s) = ap (λ (k : ℕ). drop (suc m) (take k (x ∷ s))) (suc-add m n) ∙ drop-take m n s
+
+pub part-part : (v a w at r : ℕ) (s : List ℕ) → a + v + r ≡ w → part v a (part w at s) ≡ part v (at + a) s
+part-part v a w at r s e =
+    ap (λ (k : ℕ). take v (drop a (take k (drop at s)))) (sym e ∙ add-assoc a v r)
+    ∙ ap (take v) (drop-take a (v + r) (drop at s))
+    ∙ take-take v (v + r) (drop a (drop at s)) (omega arith)
+    ∙ ap (take v) (drop-drop a at s)
