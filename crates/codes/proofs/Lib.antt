@@ -1,3 +1,4 @@
+pub mod Answer
 pub mod Number
 pub mod Carry
 pub mod Iban

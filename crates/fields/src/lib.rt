@@ -9,4 +9,5 @@ pub use number::u16_at;
 pub use number::u32_at;
 pub use number::u64_at;
 pub use text::same_bytes;
+pub use text::unpadded;
 pub use text::used;

@@ -7,7 +7,7 @@ use lib.ListN.{length, take}
 use lib.Seq.{take-all}
 use borrow.Author.Tests.{eq-eqb, ne-eqb}
 use Rattle.fields.specs.Text.{valueLength}
-use Rattle.fields.proofs.Padding.{length-more}
+use Rattle.fields.proofs.Padding.{length-more, length-within}
 use borrow.Author.Needs.{needs}
 use Rattle.fields.proofs.text.used.Statement.{statement}
 use Rattle.fields.proofs.text.used.Tie as tie
@@ -41,4 +41,8 @@ used-spec =
           (λ w. w .1 ∙ l .loop .inv .1 ∙ sym (more ∙ simp (eq-eqb _ _ (w .0 .left))))
           (c .if1 .came),
     ))
-    (λ c. let l = c .before in l .loop .inv .1 ∙ ap valueLength (take-all (l .loop .i) (now (l .before .args .s)) (c .loop-test .left))))
+    (λ c.
+    let l = c .before in
+    let s = now (l .before .args .s) in
+    let e = l .loop .inv .1 ∙ ap valueLength (take-all (l .loop .i) s (c .loop-test .left)) in
+    (e, rw e (length-within s))))

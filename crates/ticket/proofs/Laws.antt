@@ -1,0 +1,37 @@
+-- What the checks of a ticket tell. Assumes nothing.
+use mathlib.Core.Path.{_≡_, refl, sym, _∙_, ap}
+use mathlib.Core.Bool.{Bool, true, false, cond}
+use mathlib.Core.List.{List}
+use Prim.Native.Nat.{ℕ}
+use borrow.Author.Tests.{eqb-true}
+use lib.Dec.{eqb}
+use lib.ListN.{length}
+use Rattle.ticket.specs.Form.{formOf}
+use Rattle.ticket.specs.Shape.{shapeOf, accountOf}
+use Rattle.ticket.specs.Amount.{statedIn, limitOf}
+use Rattle.ticket.specs.Reading.{reading, readShape, readAccount, readStated, readLimit}
+use Rattle.ticket.specs.declared.kinds.Kind.{Kind}
+use Rattle.ticket.specs.declared.shapes.Shape.{Shape}
+use Rattle.ticket.specs.declared.shapes.Shape.the-variants.{Formed, Malformed}
+use Rattle.ticket.specs.declared.shapes.Account.the-variants.{Named}
+use Rattle.ticket.specs.declared.amounts.Stated.the-variants.{Amount}
+
+-- a ticket with a shape has 108 bytes
+pub formed-length : (t : List ℕ) (k : Kind) → shapeOf t ≡ Formed k → length t ≡ 108
+formed-length t k e = go (eqb (length t) 108) refl
+  where
+    go : (b : Bool) → eqb (length t) 108 ≡ b → length t ≡ 108
+    go true a = eqb-true (length t) 108 a
+    go false a = let e′ : _≡_ {A = Shape} Malformed (Formed k) = rw a at e in cc
+
+-- the checks one after the other
+module _ (t : List ℕ) (k : Kind) (formed : shapeOf t ≡ Formed k) where
+  pub read-formed : reading t ≡ readAccount k t (accountOf (formOf k) t)
+  unfolding reading
+  read-formed = ap (readShape t) formed
+
+  pub read-named : accountOf (formOf k) t ≡ Named → reading t ≡ readStated k t (statedIn (formOf k) t)
+  read-named named = read-formed ∙ ap (readAccount k t) named
+
+  pub read-stated : (n : ℕ) → accountOf (formOf k) t ≡ Named → statedIn (formOf k) t ≡ Amount n → reading t ≡ readLimit k t n (limitOf (formOf k) n)
+  read-stated n named stated = read-named named ∙ ap (readStated k t) stated

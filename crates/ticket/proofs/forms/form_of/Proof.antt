@@ -1,0 +1,44 @@
+-- `ticket::forms::form_of` meets its contract: in each arm the kind is the one named. Assumes nothing.
+use borrow.Author.Needs.{needs}
+use Rattle.ticket.proofs.forms.form_of.Statement.{statement}
+use Rattle.ticket.proofs.forms.form_of.Tie as tie
+
+pub form-of-spec : {M : Type 1} → statement M
+form-of-spec =
+    tie.close
+    (tie.spec
+    (λ c. search needs)
+    (λ c κs. search needs)
+    (λ c. search needs)
+    (λ c κs. search needs)
+    (λ c. search needs)
+    (λ c. search needs)
+    (λ c κs. search needs)
+    (λ c. search needs)
+    (λ c κs. search needs)
+    (λ c. search needs)
+    (λ c κs. search needs)
+    (λ c. search needs)
+    (λ c κs. search needs)
+    (λ c. search needs)
+    (λ c κs. search needs)
+    (λ c. search needs)
+    (λ c κs. search needs)
+    (λ c. search needs)
+    (λ c κs. search needs)
+    (λ c. search needs)
+    (λ c κs. search needs)
+    (λ c. search needs)
+    (λ c κs. search needs)
+    (λ c. rw (c .before .enum-told .given .1) (c .cover .ensures))
+    (λ c. rw (c .before .enum-told2 .given .1) (c .cover2 .ensures))
+    (λ c. rw (c .enum-told3 .given .1))
+    (λ c. rw (c .before .enum-told4 .given .1) (c .about .ensures))
+    (λ c. rw (c .before .enum-told5 .given .1) (c .about2 .ensures))
+    (λ c. rw (c .before .enum-told6 .given .1) (c .about3 .ensures))
+    (λ c. rw (c .before .enum-told7 .given .1) (c .about4 .ensures))
+    (λ c. rw (c .before .enum-told8 .given .1) (c .about5 .ensures))
+    (λ c. rw (c .before .enum-told9 .given .1) (c .about6 .ensures))
+    (λ c. search needs)
+    (λ c. rw (c .before .enum-told11 .given .1) (c .cover3 .ensures))
+    (λ c. search needs))

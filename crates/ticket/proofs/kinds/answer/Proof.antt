@@ -1,0 +1,13 @@
+-- `ticket::kinds::answer` meets its contract. Assumes nothing.
+use borrow.Author.Tests.{ne-eqb}
+use borrow.Author.Needs.{needs}
+use Rattle.ticket.proofs.kinds.answer.Statement.{statement}
+use Rattle.ticket.proofs.kinds.answer.Tie as tie
+
+pub answer-spec : {M : Type 1} → statement M
+answer-spec =
+    tie.close
+    (tie.spec
+    (λ c. rw (c .match .keys1))
+    (λ c. rw (c .match .keys2))
+    (λ c. simp (ne-eqb _ _ (c .match .rest .0 .1), ne-eqb _ _ (c .match .rest .1))))

@@ -1,0 +1,15 @@
+-- `ticket::shapes::bic_field` meets its contract. Assumes nothing.
+use Rattle.codes.proofs.Answer.{answer-is-1}
+use Rattle.fields.proofs.Padding.{blank-length}
+use borrow.Author.Needs.{needs}
+use Rattle.ticket.proofs.shapes.bic_field.Statement.{statement}
+use Rattle.ticket.proofs.shapes.bic_field.Tie as tie
+
+pub bic-field-spec : {M : Type 1} → statement M
+bic-field-spec =
+    tie.close
+    (tie.spec
+    (λ c κs. search needs)
+    (λ c κs. search needs)
+    (λ c. simp (c .before .if1 .taken, c .zolfigar-bic-ok .ensures, answer-is-1))
+    (λ c. simp (c .before .if1 .left, c .used .ensures .0, blank-length)))

@@ -1,0 +1,53 @@
+-- `ticket::shapes::well_formed` meets its contract: each field is what its own check says. Assumes nothing.
+use borrow.Author.Needs.{needs}
+use Rattle.ticket.proofs.shapes.well_formed.Statement.{statement}
+use Rattle.ticket.proofs.shapes.well_formed.Tie as tie
+
+pub well-formed-spec : {M : Type 1} → statement M
+well-formed-spec =
+    tie.close
+    (tie.spec
+    (λ c. search needs)
+    (λ c. search needs)
+    (λ c. search needs)
+    (λ c κs. search needs)
+    (λ c. search needs)
+    (λ c. search needs)
+    (λ c. search needs)
+    (λ c κs. search needs)
+    (λ c. search needs)
+    (λ c. search needs)
+    (λ c. search needs)
+    (λ c κs. search needs)
+    (λ c. search needs)
+    (λ c. search needs)
+    (λ c. search needs)
+    (λ c κs. search needs)
+    (λ c. search needs)
+    (λ c. search needs)
+    (λ c. search needs)
+    (λ c κs. search needs)
+    (λ c. search needs)
+    (λ c. search needs)
+    (λ c. search needs)
+    (λ c κs. search needs)
+    (λ c. search needs)
+    (λ c. search needs)
+    (λ c. search needs)
+    (λ c κs. search needs)
+    (λ c.
+    let iban = c .before .before in
+    let txid = iban .before .before in
+    let payee = txid .before .before in
+    let sender = payee .before .before in
+    let amount = sender .before .before in
+    let spare = amount .before .before .before in
+    simp (
+      spare .blank-field .ensures,
+      amount .blank-field2 .ensures,
+      sender .bic-field .ensures,
+      payee .bic-field2 .ensures,
+      txid .txid-field .ensures,
+      iban .blank-field3 .ensures,
+      c .blank-field4 .ensures,
+    )))

@@ -1,0 +1,7 @@
+pub mod Layout
+pub mod Kind
+pub mod Form
+pub mod Shape
+pub mod Amount
+pub mod Refusal
+pub mod Reading

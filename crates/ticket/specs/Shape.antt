@@ -1,0 +1,59 @@
+-- Refusals 7 and 8.
+--     bicField     a BIC where it is listed, else zero bytes
+--     txidField    a TxId padded with zero bytes where it is listed, else zero bytes
+--     blankField   anything where it is listed, else zero bytes
+--     wellFormed   each field as its kind's form has it
+--     shapeOf      refusal 7: the kind, or Malformed
+--     accountOf    refusal 8: Named, or Wrong
+-- Assumes nothing.
+use Prim.Native.Nat.{ℕ}
+use mathlib.Core.Bool.{Bool, true, false, _&&_, _||_, not, cond}
+use mathlib.Core.List.{List}
+use lib.Dec.{eqb}
+use lib.ListN.{length}
+use Rattle.codes.specs.Bic.{isBic}
+use Rattle.codes.specs.Iban.{isIban}
+use Rattle.codes.specs.Txid.{isTxid}
+use Rattle.fields.specs.Text.{blank, unpadded}
+use Rattle.ticket.specs.Layout as layout
+use Rattle.ticket.specs.Kind.{kinded}
+use Rattle.ticket.specs.Form.{formOf}
+use Rattle.ticket.specs.declared.forms.Form.{Form}
+use Rattle.ticket.specs.declared.kinds.Kinded.{Kinded}
+use Rattle.ticket.specs.declared.kinds.Kinded.the-variants.{As, Unknown}
+use Rattle.ticket.specs.declared.shapes.Shape.{Shape}
+use Rattle.ticket.specs.declared.shapes.Shape.the-variants.{Formed, Malformed}
+use Rattle.ticket.specs.declared.shapes.Account.{Account}
+use Rattle.ticket.specs.declared.shapes.Account.the-variants.{Named, Wrong}
+
+abbrev pub bicField : Bool → List ℕ → Bool
+bicField listed s = cond listed (isBic s) (blank s)
+
+abbrev pub txidField : Bool → List ℕ → Bool
+txidField listed s = cond listed (isTxid (unpadded s)) (blank s)
+
+abbrev pub blankField : Bool → List ℕ → Bool
+blankField listed s = listed || blank s
+
+-- 01: fields a kind doesn't list are zero; so are bytes 2, 3 and 107
+abbrev pub wellFormed : Form → List ℕ → Bool
+wellFormed form t =
+    blankField false (layout.spareField t)
+    && blankField (not (eqb (form .most) 0)) (layout.amountField t)
+    && bicField (form .sender) (layout.senderOf t)
+    && bicField (form .payee) (layout.payeeOf t)
+    && txidField (form .txid) (layout.txidField t)
+    && blankField (form .iban) (layout.ibanField t)
+    && blankField false (layout.lastField t)
+
+abbrev pub shapeAs : Kinded → List ℕ → Shape
+shapeAs (As kind) t = cond (wellFormed (formOf kind) t) (Formed kind) Malformed
+shapeAs Unknown t = Malformed
+
+-- 7. Ticket not 108 bytes, or kind, flag, BIC, TxId or unused field wrong (XT33)
+abbrev pub shapeOf : List ℕ → Shape
+shapeOf t = cond (eqb (length t) 108) (shapeAs (kinded (layout.kindByte t) (layout.flagByte t)) t) Malformed
+
+-- 8. IBAN wrong (XD19)
+abbrev pub accountOf : Form → List ℕ → Account
+accountOf form t = cond (form .iban) (cond (isIban (layout.ibanOf t)) Named Wrong) Named
