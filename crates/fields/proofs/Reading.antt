@@ -3,6 +3,7 @@ use mathlib.Core.Path.{_≡_}
 use mathlib.Core.List.{List, _∷_}
 use Prim.Native.Nat.{ℕ, _+_, _-_, _<_}
 use native.Mathlib.Nat.{le-of-eq}
+use native.Mathlib.Omega.{arith}
 use native.Mathlib.Numerals.{add-one}
 use lib.ListN.{length, getD, take, drop, length-drop}
 use lib.Seq.{drop-cons, take-all}
@@ -14,3 +15,7 @@ left-from s i h = rw (add-one, drop-cons s i 0)
 -- a part that goes to the end
 pub to-end : (s : List ℕ) (k : ℕ) → take (length s - k) (drop k s) ≡ drop k s
 to-end s k = take-all (length s - k) (drop k s) (le-of-eq (length-drop k s))
+
+-- the width of a part between two offsets
+pub span : (at b a : ℕ) → at + b - (at + a) ≡ b - a
+span at b a = omega arith

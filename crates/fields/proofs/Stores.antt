@@ -3,10 +3,12 @@ use mathlib.Core.Path.{_≡_, refl, sym, _∙_, ap}
 use mathlib.Core.List.{List, [], _∷_, _++_, append-assoc}
 use Prim.Native.Nat.{ℕ, zero, suc, _+_, _≤_, _<_}
 use native.Mathlib.Nat.{add-zero, zero-add, add-suc, suc-add, add-assoc}
+use native.Mathlib.Numerals.{add-one}
 use native.Mathlib.Omega.{arith}
 use lib.ListN.{length, getD, set, take, drop, length-drop, length-append}
-use lib.Seq.{sets, sets-eq, take-at, drop-at, take-nil, take-take, take-add, drop-drop, drop-cons, length-take-le}
+use lib.Seq.{set-at, append-snoc, take-suc, sets, sets-eq, take-at, drop-at, take-nil, take-take, take-add, drop-drop, drop-cons, length-take-le}
 use Rattle.fields.specs.Number.{part}
+use Rattle.fields.proofs.Reading.{left-from}
 
 pub sets-append : (l : List ℕ) (i : ℕ) (a b : List ℕ) → sets l i (a ++ b) ≡ sets (sets l i a) (i + length a) b
 sets-append l i [] b = ap (λ (k : ℕ). sets l k b) (sym (add-zero i))
@@ -55,3 +57,12 @@ part-part v a w at r s e =
     ∙ ap (take v) (drop-take a (v + r) (drop at s))
     ∙ take-take v (v + r) (drop a (drop at s)) (omega arith)
     ∙ ap (take v) (drop-drop a at s)
+
+-- filling a list from the front with another's elements
+pub filled-more : (s d : List ℕ) (i : ℕ) → i < length s → i < length d
+    → set (take i s ++ drop i d) i (getD s i 0) ≡ take (i + 1) s ++ drop (i + 1) d
+filled-more s d i h k =
+    ap (λ (t : List ℕ). set (take i s ++ t) i (getD s i 0)) (left-from d i k)
+    ∙ set-at (take i s) (getD d i 0) (drop (i + 1) d) (getD s i 0) i (length-take-le i s (omega arith))
+    ∙ sym (append-snoc (take i s) (getD s i 0) (drop (i + 1) d))
+    ∙ ap (λ (t : List ℕ). t ++ drop (i + 1) d) (sym (ap (λ (m : ℕ). take m s) (add-one i) ∙ take-suc s i 0 h))

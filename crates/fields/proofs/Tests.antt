@@ -1,6 +1,6 @@
 -- What a test that passed tells. Assumes nothing.
 use mathlib.Core.Path.{_≡_, refl}
-use mathlib.Core.Bool.{Bool, true, false, _&&_}
+use mathlib.Core.Bool.{Bool, true, false, _&&_, cond}
 use Prim.Native.Nat.{ℕ, _≤_}
 use borrow.Author.Tests.{leb-true}
 use lib.Dec.{leb}
@@ -16,3 +16,8 @@ and-right false b e = cc
 -- a byte within a range is not below it
 pub not-below : (low high c : ℕ) → (leb low c && leb c high) ≡ true → low ≤ c
 not-below low high c e = leb-true low c (and-left (leb low c) (leb c high) e)
+
+-- the first of two different answers was given: the test passed
+pub passed : {A : Type 0} (b : Bool) (yea nay : A) → (nay ≡ yea → ⊥) → cond b yea nay ≡ yea → b ≡ true
+passed true yea nay differ e = refl
+passed false yea nay differ e = absurd (differ e)

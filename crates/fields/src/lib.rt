@@ -8,6 +8,7 @@ pub use number::put_u64;
 pub use number::u16_at;
 pub use number::u32_at;
 pub use number::u64_at;
+pub use text::copy;
 pub use text::same_bytes;
 pub use text::unpadded;
 pub use text::used;

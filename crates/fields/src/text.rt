@@ -42,3 +42,15 @@ pub fn same_bytes(a: &[u8], b: &[u8]) -> bool
     }
     true
 }
+
+// Fills dst with the bytes of src, which are as many.
+pub fn copy(src: &[u8], dst: &mut [u8])
+    requires { ⌜ length (now src) ≡ length (now dst) ⌝ }
+    ensures { λ _. ⌜ now (dst .exit) ≡ now (src .entry) ⌝ }
+{
+    let mut i = 0;
+    while i < src.len() {
+        dst[i] = src[i];
+        i += 1;
+    }
+}

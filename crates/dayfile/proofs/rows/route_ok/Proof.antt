@@ -1,0 +1,34 @@
+-- `dayfile::rows::route_ok` meets its contract. Assumes nothing.
+use native.Mathlib.Nat.{add-sub-cancel-left}
+use Rattle.fields.proofs.Reading.{span}
+use Rattle.codes.proofs.Answer.{answer-is-1}
+use Rattle.fields.proofs.Padding.{blank-length}
+use borrow.Author.Needs.{needs}
+use Rattle.dayfile.proofs.rows.route_ok.Statement.{statement}
+use Rattle.dayfile.proofs.rows.route_ok.Tie as tie
+
+pub route-ok-spec : {M : Type 1} → statement M
+route-ok-spec =
+    tie.close
+    (tie.spec
+    (λ c. search needs)
+    (λ c. search needs)
+    (λ c. search needs)
+    (λ c. search needs)
+    (λ c κs. search needs)
+    (λ c. search needs)
+    (λ c. search needs)
+    (λ c. search needs)
+    (λ c κs. search needs)
+    (λ c. search needs)
+    (λ c. search needs)
+    (λ c. search needs)
+    (λ c. search needs)
+    (λ c. search needs)
+    (λ c. search needs)
+    (λ c κs. search needs)
+    (λ c.
+    let k = c .before .before in
+    let bic = k .before .before in
+    simp
+    (bic .zolfigar-bic-ok .ensures, answer-is-1, k .u16-at .ensures, c .used .ensures .0, blank-length, add-sub-cancel-left, span)))

@@ -1,0 +1,7 @@
+pub mod Header
+pub mod Rows
+pub mod Check
+pub mod Roster
+pub mod Route
+pub mod Refusal
+pub mod DayFile

@@ -1,0 +1,71 @@
+-- The roster that a file's rows give. Rows that are not in use are the zero of their type.
+--     participantAt, routeAt        the row at a place
+--     participantsTo, routesTo      the first n rows
+--     rosterOf                      participants and routes
+--     emptyRoster                   none of either
+-- Assumes nothing.
+use Prim.Native.Nat.{ℕ, zero, suc, _+_, _*_}
+use mathlib.Core.Bool.{cond}
+use mathlib.Core.List.{List}
+use lib.Dec.{eqb}
+use lib.ListN.{getD, set, replicate}
+use Rattle.fields.specs.Number.{part, numberAt}
+use Rattle.dayfile.specs.declared.header.Sections.{Sections}
+use Rattle.dayfile.specs.declared.roster.PartyKind.{PartyKind}
+use Rattle.dayfile.specs.declared.roster.PartyKind.the-variants.{Bank, Linked}
+use Rattle.dayfile.specs.declared.roster.Opening.{Opening}
+use Rattle.dayfile.specs.declared.roster.Opening.the-variants.{None, Cover}
+use Rattle.dayfile.specs.declared.roster.Target.{Target}
+use Rattle.dayfile.specs.declared.roster.Target.the-variants.{To, Row}
+use Rattle.dayfile.specs.declared.roster.Participant.{Participant}
+use Rattle.dayfile.specs.declared.roster.Route.{Route}
+use Rattle.dayfile.specs.declared.roster.Roster.{Roster}
+
+-- 01: a kind (0 bank, 1 linked system such as RT1)
+abbrev pub kindOf : ℕ → PartyKind
+kindOf b = cond (eqb b 1) Linked Bank
+
+-- 01: if it wishes, an opening cover (0 included)
+abbrev pub openingOf : ℕ → ℕ → Opening
+openingOf wish n = cond (eqb wish 1) (Cover n) None
+
+-- 01: leads either to participant k, or goes on from row k
+abbrev pub targetOf : ℕ → ℕ → Target
+targetOf kind k = cond (eqb kind 1) (Row k) (To k)
+
+abbrev pub participantAt : ℕ → List ℕ → Participant
+participantAt at f =
+    record {
+      bic = part 11 at f;
+      kind = kindOf (getD f (at + 11) 0);
+      opening = openingOf (getD f (at + 20) 0) (numberAt 8 (at + 12) f);
+    }
+
+abbrev pub routeAt : ℕ → List ℕ → Route
+routeAt at f = record { bic = part 11 at f; target = targetOf (getD f (at + 11) 0) (numberAt 2 (at + 12) f) }
+
+abbrev pub noParticipant : Participant
+noParticipant = record { bic = replicate 11 0; kind = Bank; opening = None }
+
+abbrev pub noRoute : Route
+noRoute = record { bic = replicate 11 0; target = To 0 }
+
+abbrev pub participantsTo : ℕ → List ℕ → List Participant
+participantsTo zero f = replicate 32 noParticipant
+participantsTo (suc i) f = set (participantsTo i f) i (participantAt (12 + 24 * i) f)
+
+abbrev pub routesTo : ℕ → ℕ → List ℕ → List Route
+routesTo start zero f = replicate 64 noRoute
+routesTo start (suc i) f = set (routesTo start i f) i (routeAt (start + 16 * i) f)
+
+abbrev pub rosterOf : Sections → ℕ → List ℕ → Roster
+rosterOf n start f =
+    record {
+      participants = participantsTo (n .participants) f;
+      size = n .participants;
+      routes = routesTo start (n .routes) f;
+      rows = n .routes;
+    }
+
+abbrev pub emptyRoster : Roster
+emptyRoster = record { participants = replicate 32 noParticipant; size = 0; routes = replicate 64 noRoute; rows = 0 }

@@ -1,0 +1,34 @@
+-- Following a route: 01 'Participants, routes, codes'.
+--     followed     from a row on: the participant reached and the number of rows followed, or Nowhere
+--     followTo     the same in at most n rows
+-- Assumes nothing.
+use Prim.Native.Nat.{ℕ, zero, suc, _+_}
+use mathlib.Core.Bool.{cond}
+use mathlib.Core.List.{List, []}
+use lib.Dec.{ltb}
+use lib.ListN.{getD}
+use Rattle.dayfile.specs.declared.roster.Target.{Target}
+use Rattle.dayfile.specs.declared.roster.Target.the-variants.{To, Row}
+use Rattle.dayfile.specs.declared.roster.Route.{Route}
+use Rattle.dayfile.specs.declared.follow.Followed.{Followed}
+use Rattle.dayfile.specs.declared.follow.Followed.the-variants.{At, Nowhere}
+
+abbrev pub oneMore : Followed → Followed
+oneMore (At p n) = At p (n + 1)
+oneMore Nowhere = Nowhere
+
+abbrev pub readRoute : List Route → ℕ → Target
+readRoute routes row = (getD routes row (record { bic = []; target = To 0 })) .target
+
+-- a row leads to a participant, or goes on from row k, where k is below its own number
+abbrev pub leads : (ℕ → Followed) → ℕ → Target → Followed
+leads on row (To p) = At p 1
+leads on row (Row k) = cond (ltb k row) (oneMore (on k)) Nowhere
+
+abbrev pub followTo : ℕ → List Route → ℕ → Followed
+followTo zero routes row = Nowhere
+followTo (suc n) routes row = leads (λ k. followTo n routes k) row (readRoute routes row)
+
+-- a row is followed in no more rows than its number and itself; there are 64 rows
+unfoldable pub followed : List Route → ℕ → Followed
+followed routes row = cond (ltb row 64) (followTo (suc row) routes row) Nowhere

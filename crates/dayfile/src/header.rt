@@ -1,0 +1,39 @@
+// The header of 12 bytes, and refusal 1.
+ghost use mathlib.Core.Path.{_≡_};
+ghost use Rattle.dayfile.specs.Header.{headed};
+
+// A number for each section.
+pub struct Sections {
+    pub participants: usize,
+    pub routes: usize,
+    pub tickets: usize,
+}
+
+pub struct Header {
+    pub counts: Sections,
+    pub offsets: Sections,
+}
+
+pub enum Headed {
+    As(Header),
+    Short,
+}
+
+pub fn read_header(f: &[u8]) -> Headed
+    ensures { λ r. ⌜ r ≡ headed (now (f .entry)) ⌝ }
+{
+    if f.len() < 12 {
+        return Headed::Short;
+    }
+    let counts = Sections {
+        participants: fields::u16_at(f, 0) as usize,
+        routes: fields::u16_at(f, 2) as usize,
+        tickets: fields::u16_at(f, 4) as usize,
+    };
+    let offsets = Sections {
+        participants: fields::u16_at(f, 6) as usize,
+        routes: fields::u16_at(f, 8) as usize,
+        tickets: fields::u16_at(f, 10) as usize,
+    };
+    Headed::As(Header { counts, offsets })
+}

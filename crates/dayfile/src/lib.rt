@@ -1,0 +1,63 @@
+// Reading a day file: refusals 1 to 5 in the paper's order, or the roster and where the tickets lie; and following a route.
+// Any bytes of any length may be handed in.
+mod check;
+mod follow;
+mod header;
+mod read;
+mod roster;
+mod rows;
+
+use check::Placed;
+use check::Ranged;
+use check::Rows;
+use header::Headed;
+use roster::Roster;
+ghost use mathlib.Core.Path.{_≡_};
+ghost use Rattle.dayfile.specs.DayFile.{dayFile, refusedFile};
+
+// What a day file gives: the refusal, 0 if none; the roster, empty if refused; how many tickets there are and where the first lies.
+pub struct DayFile {
+    pub refusal: u8,
+    pub roster: Roster,
+    pub tickets: usize,
+    pub first: usize,
+}
+
+fn refused(refusal: u8) -> DayFile
+    ensures { λ r. ⌜ r ≡ refusedFile refusal ⌝ }
+{
+    DayFile {
+        refusal,
+        roster: read::empty_roster(),
+        tickets: 0,
+        first: 0,
+    }
+}
+
+pub fn read_day_file(f: &[u8]) -> DayFile
+    ensures { λ r. ⌜ r ≡ dayFile (now (f .entry)) ⌝ }
+{
+    let Headed::As(h) = header::read_header(f) else {
+        return refused(1);
+    };
+    let Ranged::Within = check::check_counts(h) else {
+        return refused(2);
+    };
+    let Placed::Right = check::check_places(h, f.len()) else {
+        return refused(3);
+    };
+    let n = h.counts;
+    let at = h.offsets;
+    let Rows::Right = check::check_participants(n.participants, f) else {
+        return refused(4);
+    };
+    let Rows::Right = check::check_routes(n.participants, at.routes, n.routes, f) else {
+        return refused(5);
+    };
+    DayFile {
+        refusal: 0,
+        roster: read::read_roster(n, at.routes, f),
+        tickets: n.tickets,
+        first: at.tickets,
+    }
+}

@@ -1,0 +1,140 @@
+// The roster of a file whose rows are right.
+use super::header::Sections;
+use super::roster::Opening;
+use super::roster::Participant;
+use super::roster::PartyKind;
+use super::roster::Roster;
+use super::roster::Route;
+use super::roster::Target;
+ghost use mathlib.Core.Path.{_≡_};
+ghost use Prim.Native.Nat.{_+_, _*_, _≤_};
+ghost use lib.ListN.{length};
+ghost use Rattle.fields.specs.Number.{part};
+ghost use Rattle.dayfile.specs.Roster.{kindOf, openingOf, targetOf, participantAt, routeAt, participantsTo, routesTo, rosterOf, emptyRoster};
+
+fn bic_at(f: &[u8], at: usize) -> [u8; 11]
+    requires { ⌜ at + 11 ≤ length (now f) ⌝ }
+    ensures { λ r. ⌜ r ≡ part 11 at (now (f .entry)) ⌝ }
+{
+    let mut bic = [0u8; 11];
+    fields::copy(&f[at..at + 11], &mut bic);
+    bic
+}
+
+fn kind_of(b: u8) -> PartyKind
+    ensures { λ r. ⌜ r ≡ kindOf b ⌝ }
+{
+    if b == 1 {
+        PartyKind::Linked
+    } else {
+        PartyKind::Bank
+    }
+}
+
+fn opening_of(wish: u8, n: u64) -> Opening
+    ensures { λ r. ⌜ r ≡ openingOf wish n ⌝ }
+{
+    if wish == 1 {
+        Opening::Cover(n)
+    } else {
+        Opening::None
+    }
+}
+
+fn target_of(kind: u8, k: usize) -> Target
+    ensures { λ r. ⌜ r ≡ targetOf kind k ⌝ }
+{
+    if kind == 1 {
+        Target::Row(k)
+    } else {
+        Target::To(k)
+    }
+}
+
+fn participant_at(f: &[u8], at: usize) -> Participant
+    requires { ⌜ at + 24 ≤ length (now f) ⌝ }
+    ensures { λ r. ⌜ r ≡ participantAt at (now (f .entry)) ⌝ }
+{
+    Participant {
+        bic: bic_at(f, at),
+        kind: kind_of(f[at + 11]),
+        opening: opening_of(f[at + 20], fields::u64_at(f, at + 12)),
+    }
+}
+
+fn route_at(f: &[u8], at: usize) -> Route
+    requires { ⌜ at + 16 ≤ length (now f) ⌝ }
+    ensures { λ r. ⌜ r ≡ routeAt at (now (f .entry)) ⌝ }
+{
+    Route {
+        bic: bic_at(f, at),
+        target: target_of(f[at + 11], fields::u16_at(f, at + 12) as usize),
+    }
+}
+
+fn read_participants(n: usize, f: &[u8]) -> [Participant; 32]
+    requires { ⌜ (n ≤ 32) × (12 + 24 * n ≤ length (now f)) ⌝ }
+    ensures { λ r. ⌜ r ≡ participantsTo n (now (f .entry)) ⌝ }
+{
+    let none = Participant {
+        bic: [0u8; 11],
+        kind: PartyKind::Bank,
+        opening: Opening::None,
+    };
+    let mut all = [none; 32];
+    let mut i = 0;
+    while i < n {
+        all[i] = participant_at(f, 12 + 24 * i);
+        i += 1;
+    }
+    all
+}
+
+fn read_routes(start: usize, n: usize, f: &[u8]) -> [Route; 64]
+    requires { ⌜ (n ≤ 64) × (start + 16 * n ≤ length (now f)) ⌝ }
+    ensures { λ r. ⌜ r ≡ routesTo start n (now (f .entry)) ⌝ }
+{
+    let none = Route {
+        bic: [0u8; 11],
+        target: Target::To(0),
+    };
+    let mut all = [none; 64];
+    let mut i = 0;
+    while i < n {
+        all[i] = route_at(f, start + 16 * i);
+        i += 1;
+    }
+    all
+}
+
+pub fn read_roster(n: Sections, start: usize, f: &[u8]) -> Roster
+    requires { ⌜ (n .participants ≤ 32) × (12 + 24 * n .participants ≤ length (now f)) × (n .routes ≤ 64) × (start + 16 * n .routes ≤ length (now f)) ⌝ }
+    ensures { λ r. ⌜ r ≡ rosterOf n start (now (f .entry)) ⌝ }
+{
+    Roster {
+        participants: read_participants(n.participants, f),
+        size: n.participants,
+        routes: read_routes(start, n.routes, f),
+        rows: n.routes,
+    }
+}
+
+pub fn empty_roster() -> Roster
+    ensures { λ r. ⌜ r ≡ emptyRoster ⌝ }
+{
+    let participant = Participant {
+        bic: [0u8; 11],
+        kind: PartyKind::Bank,
+        opening: Opening::None,
+    };
+    let route = Route {
+        bic: [0u8; 11],
+        target: Target::To(0),
+    };
+    Roster {
+        participants: [participant; 32],
+        size: 0,
+        routes: [route; 64],
+        rows: 0,
+    }
+}

@@ -1,0 +1,36 @@
+// The participants and the routes of a day, by value.
+pub enum PartyKind {
+    Bank,
+    Linked,
+}
+
+// An opening cover, if the participant wishes one.
+pub enum Opening {
+    None,
+    Cover(u64),
+}
+
+pub struct Participant {
+    pub bic: [u8; 11],
+    pub kind: PartyKind,
+    pub opening: Opening,
+}
+
+// Where a route row leads: to a participant, or on to an earlier row.
+pub enum Target {
+    To(usize),
+    Row(usize),
+}
+
+pub struct Route {
+    pub bic: [u8; 11],
+    pub target: Target,
+}
+
+// The first size participants and the first rows route rows are in use.
+pub struct Roster {
+    pub participants: [Participant; 32],
+    pub size: usize,
+    pub routes: [Route; 64],
+    pub rows: usize,
+}
