@@ -11,8 +11,8 @@ use Rattle.dayfile.specs.Route.{oneMore, readRoute, leads, followTo, fol
 use Rattle.dayfile.specs.declared.roster.Target.{Target}
 use Rattle.dayfile.specs.declared.roster.Target.the-variants.{To, Row}
 use Rattle.dayfile.specs.declared.roster.Route.{Route}
-use Rattle.dayfile.specs.declared.follow.Followed.{Followed}
-use Rattle.dayfile.specs.declared.follow.Followed.the-variants.{At, Nowhere}
+use Rattle.dayfile.specs.declared.route.Followed.{Followed}
+use Rattle.dayfile.specs.declared.route.Followed.the-variants.{At, Nowhere}
 
 -- only rows below the row's own number matter
 leads-same : (f g : ℕ → Followed) (row : ℕ) (t : Target) → ((k : ℕ) → k < row → f k ≡ g k) → leads f row t ≡ leads g row t

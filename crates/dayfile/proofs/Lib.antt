@@ -1,3 +1,5 @@
 pub mod Places
 pub mod Following
 pub mod Passing
+pub mod Accepted
+pub mod Arriving

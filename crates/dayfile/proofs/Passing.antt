@@ -1,7 +1,8 @@
 -- What the checks of a day file tell, one after the other. Assumes nothing.
-use mathlib.Core.Path.{_≡_, _∙_, ap}
-use mathlib.Core.Bool.{Bool, true, _&&_}
+use mathlib.Core.Path.{_≡_, refl, _∙_, ap}
+use mathlib.Core.Bool.{Bool, true, false, _&&_}
 use mathlib.Core.List.{List}
+use mathlib.Core.Logic.{_⊎_, inl, inr, ⊎-elim}
 use Prim.Native.Nat.{ℕ, _+_, _*_, _≤_}
 use borrow.Author.Tests.{leb-true, eqb-true}
 use native.Mathlib.Omega.{arith}
@@ -10,9 +11,11 @@ use lib.ListN.{length}
 use Rattle.fields.proofs.Tests.{and-left, and-right, passed}
 use Rattle.dayfile.specs.Header.{headed}
 use Rattle.dayfile.specs.Check.{InRange, ranged, placed, rowed, participantsOk, routesOk}
-use Rattle.dayfile.specs.DayFile.{dayFile, fileHeaded, fileRanged, filePlaced, fileParticipants, fileRoutes}
+use Rattle.dayfile.specs.DayFile.{dayFile, fileHeaded, fileRanged, filePlaced, fileParticipants, fileRoutes, refusedFile, acceptedFile}
+use Rattle.dayfile.specs.declared.DayFile.{DayFile}
 use Rattle.dayfile.specs.declared.header.Header.{Header}
-use Rattle.dayfile.specs.declared.header.Headed.the-variants.{As}
+use Rattle.dayfile.specs.declared.header.Headed.{Headed}
+use Rattle.dayfile.specs.declared.header.Headed.the-variants.{As, Short}
 use Rattle.dayfile.specs.declared.check.Ranged.{Ranged}
 use Rattle.dayfile.specs.declared.check.Ranged.the-variants.{Within, Outside}
 use Rattle.dayfile.specs.declared.check.Placed.{Placed}
@@ -98,6 +101,10 @@ in-place h size e =
     ab : (a && b) ≡ true
     ab = and-left (a && b) c abc
 
+file-is-headed : (f : List ℕ) → dayFile f ≡ fileHeaded f (headed f)
+unfolding dayFile
+file-is-headed f = refl
+
 -- the file from each check on
 module _ (f : List ℕ) (h : Header) (head : headed f ≡ As h) where
   pub file-headed : dayFile f ≡ fileRanged h f (ranged h)
@@ -109,3 +116,61 @@ module _ (f : List ℕ) (h : Header) (head : headed f ≡ As h) where
 
   pub file-placed : ranged h ≡ Within → placed h (length f) ≡ Right → dayFile f ≡ fileParticipants h f (rowed (participantsOk (h .counts .participants) f))
   file-placed range place = file-ranged range ∙ ap (filePlaced h f) place
+
+-- a file that is not refused has passed all five
+pub record Accepted (f : List ℕ) : Type 0 where
+  pub header : Header
+  pub head : headed f ≡ As header
+  pub range : InRange (header .counts)
+  pub place : InPlace header (length f)
+  pub participants : participantsOk (header .counts .participants) f ≡ true
+  pub routes : routesOk (header .counts .participants) (header .offsets .routes) (header .counts .routes) f ≡ true
+  pub file : dayFile f ≡ acceptedFile header f
+
+-- or it is refused, with the empty roster
+pub record Refused (f : List ℕ) : Type 0 where
+  pub number : ℕ
+  pub some : 1 ≤ number
+  pub file : dayFile f ≡ refusedFile number
+
+refused-by : (f : List ℕ) (n : ℕ) → 1 ≤ n → dayFile f ≡ refusedFile n → Accepted f ⊎ Refused f
+refused-by f n h e = inr (record { number = n; some = h; file = e })
+
+pub outcome : (f : List ℕ) → Accepted f ⊎ Refused f
+outcome f = from-head (headed f) refl
+  where
+    from-routes : (h : Header) → headed f ≡ As h → ranged h ≡ Within → placed h (length f) ≡ Right
+        → (p : Bool) → participantsOk (h .counts .participants) f ≡ p
+        → (r : Bool) → routesOk (h .counts .participants) (h .offsets .routes) (h .counts .routes) f ≡ r → Accepted f ⊎ Refused f
+    from-routes h e₁ e₂ e₃ true e₄ true e₅ =
+        inl
+        (record {
+          header = h;
+          head = e₁;
+          range = in-range h e₂;
+          place = in-place h (length f) e₃;
+          participants = e₄;
+          routes = e₅;
+          file = file-placed f h e₁ e₂ e₃ ∙ ap (λ (b : Bool). fileParticipants h f (rowed b)) e₄ ∙ ap (λ (b : Bool). fileRoutes h f (rowed b)) e₅;
+        })
+    from-routes h e₁ e₂ e₃ true e₄ false e₅ =
+        refused-by f 5 (omega arith)
+        (file-placed f h e₁ e₂ e₃ ∙ ap (λ (b : Bool). fileParticipants h f (rowed b)) e₄ ∙ ap (λ (b : Bool). fileRoutes h f (rowed b)) e₅)
+    from-routes h e₁ e₂ e₃ false e₄ r e₅ =
+        refused-by f 4 (omega arith) (file-placed f h e₁ e₂ e₃ ∙ ap (λ (b : Bool). fileParticipants h f (rowed b)) e₄)
+
+    from-place : (h : Header) → headed f ≡ As h → ranged h ≡ Within → (p : Placed) → placed h (length f) ≡ p → Accepted f ⊎ Refused f
+    from-place h e₁ e₂ Right e₃ = from-routes h e₁ e₂ e₃ _ refl _ refl
+    from-place h e₁ e₂ Wrong e₃ = refused-by f 3 (omega arith) (file-ranged f h e₁ e₂ ∙ ap (filePlaced h f) e₃)
+
+    from-range : (h : Header) → headed f ≡ As h → (r : Ranged) → ranged h ≡ r → Accepted f ⊎ Refused f
+    from-range h e₁ Within e₂ = from-place h e₁ e₂ (placed h (length f)) refl
+    from-range h e₁ Outside e₂ = refused-by f 2 (omega arith) (file-headed f h e₁ ∙ ap (fileRanged h f) e₂)
+
+    from-head : (h : Headed) → headed f ≡ h → Accepted f ⊎ Refused f
+    from-head (As h) e = from-range h e (ranged h) refl
+    from-head Short e = refused-by f 1 (omega arith) (file-is-headed f ∙ ap (fileHeaded f) e)
+
+pub accepted : (f : List ℕ) → dayFile f .refusal ≡ 0 → Accepted f
+accepted f z =
+    ⊎-elim (λ (a : Accepted f). a) (λ (r : Refused f). absurd (let e = r .some in let w = ap (λ (d : DayFile). d .refusal) (r .file) in omega arith)) (outcome f)

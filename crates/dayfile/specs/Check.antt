@@ -5,11 +5,12 @@
 --     routesOk         the first n route rows are right
 --     InRange          what 2 leaves
 -- Assumes nothing.
-use Prim.Native.Nat.{ℕ, zero, suc, _+_, _*_, _≤_}
+use Prim.Native.Nat.{ℕ, _+_, _*_, _≤_}
 use mathlib.Core.Bool.{Bool, true, false, _&&_, not, cond}
 use mathlib.Core.List.{List}
 use lib.Dec.{leb, eqb}
 use Rattle.fields.specs.Number.{part}
+use Rattle.fields.specs.UpTo.{allTo}
 use Rattle.dayfile.specs.Rows.{participantOk, routeOk, bicAmong}
 use Rattle.dayfile.specs.declared.header.Sections.{Sections}
 use Rattle.dayfile.specs.declared.header.Header.{Header}
@@ -50,13 +51,15 @@ rowed true = rows-are.Right
 rowed false = rows-are.Wrong
 
 -- 4. Participant row: wrong by itself, or an earlier row's BIC
+abbrev pub participantRight : List ℕ → ℕ → Bool
+participantRight f i = participantOk (12 + 24 * i) f && not (bicAmong 12 24 i (part 11 (12 + 24 * i) f) f)
+
 abbrev pub participantsOk : ℕ → List ℕ → Bool
-participantsOk zero f = true
-participantsOk (suc i) f =
-    participantsOk i f && participantOk (12 + 24 * i) f && not (bicAmong 12 24 i (part 11 (12 + 24 * i) f) f)
+participantsOk n f = allTo (participantRight f) n
 
 -- 5. Route row: wrong by itself, or a BIC that an earlier route row has
+abbrev pub routeRight : ℕ → ℕ → List ℕ → ℕ → Bool
+routeRight size start f i = routeOk size i (start + 16 * i) f && not (bicAmong start 16 i (part 11 (start + 16 * i) f) f)
+
 abbrev pub routesOk : ℕ → ℕ → ℕ → List ℕ → Bool
-routesOk size start zero f = true
-routesOk size start (suc i) f =
-    routesOk size start i f && routeOk size i (start + 16 * i) f && not (bicAmong start 16 i (part 11 (start + 16 * i) f) f)
+routesOk size start n f = allTo (routeRight size start f) n

@@ -26,9 +26,12 @@ use Rattle.dayfile.specs.declared.check.Rows.the-variants as rows-are
 abbrev pub refusedFile : ℕ → DayFile
 refusedFile n = record { refusal = n; roster = emptyRoster; tickets = 0; first = 0 }
 
-abbrev pub fileRoutes : Header → List ℕ → Rows → DayFile
-fileRoutes h f rows-are.Right =
+abbrev pub acceptedFile : Header → List ℕ → DayFile
+acceptedFile h f =
     record { refusal = 0; roster = rosterOf (h .counts) (h .offsets .routes) f; tickets = h .counts .tickets; first = h .offsets .tickets }
+
+abbrev pub fileRoutes : Header → List ℕ → Rows → DayFile
+fileRoutes h f rows-are.Right = acceptedFile h f
 fileRoutes h f rows-are.Wrong = refusedFile (routesRefusal rows-are.Wrong)
 
 abbrev pub fileParticipants : Header → List ℕ → Rows → DayFile

@@ -5,3 +5,4 @@ pub mod Roster
 pub mod Route
 pub mod Refusal
 pub mod DayFile
+pub mod Guarantee

@@ -4,12 +4,13 @@
 --     rosterOf                      participants and routes
 --     emptyRoster                   none of either
 -- Assumes nothing.
-use Prim.Native.Nat.{ℕ, zero, suc, _+_, _*_}
+use Prim.Native.Nat.{ℕ, _+_, _*_}
 use mathlib.Core.Bool.{cond}
 use mathlib.Core.List.{List}
 use lib.Dec.{eqb}
-use lib.ListN.{getD, set, replicate}
+use lib.ListN.{getD, replicate}
 use Rattle.fields.specs.Number.{part, numberAt}
+use Rattle.fields.specs.UpTo.{rowsTo}
 use Rattle.dayfile.specs.declared.header.Sections.{Sections}
 use Rattle.dayfile.specs.declared.roster.PartyKind.{PartyKind}
 use Rattle.dayfile.specs.declared.roster.PartyKind.the-variants.{Bank, Linked}
@@ -51,12 +52,10 @@ abbrev pub noRoute : Route
 noRoute = record { bic = replicate 11 0; target = To 0 }
 
 abbrev pub participantsTo : ℕ → List ℕ → List Participant
-participantsTo zero f = replicate 32 noParticipant
-participantsTo (suc i) f = set (participantsTo i f) i (participantAt (12 + 24 * i) f)
+participantsTo n f = rowsTo 32 noParticipant (λ i. participantAt (12 + 24 * i) f) n
 
 abbrev pub routesTo : ℕ → ℕ → List ℕ → List Route
-routesTo start zero f = replicate 64 noRoute
-routesTo start (suc i) f = set (routesTo start i f) i (routeAt (start + 16 * i) f)
+routesTo start n f = rowsTo 64 noRoute (λ i. routeAt (start + 16 * i) f) n
 
 abbrev pub rosterOf : Sections → ℕ → List ℕ → Roster
 rosterOf n start f =

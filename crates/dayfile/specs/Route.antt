@@ -10,8 +10,8 @@ use lib.ListN.{getD}
 use Rattle.dayfile.specs.declared.roster.Target.{Target}
 use Rattle.dayfile.specs.declared.roster.Target.the-variants.{To, Row}
 use Rattle.dayfile.specs.declared.roster.Route.{Route}
-use Rattle.dayfile.specs.declared.follow.Followed.{Followed}
-use Rattle.dayfile.specs.declared.follow.Followed.the-variants.{At, Nowhere}
+use Rattle.dayfile.specs.declared.route.Followed.{Followed}
+use Rattle.dayfile.specs.declared.route.Followed.the-variants.{At, Nowhere}
 
 abbrev pub oneMore : Followed → Followed
 oneMore (At p n) = At p (n + 1)

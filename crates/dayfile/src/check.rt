@@ -59,7 +59,7 @@ pub fn check_participants(n: usize, f: &[u8]) -> Rows
     let mut i = 0;
     while i < n {
         let at = 12 + 24 * i;
-        ok = ok & rows::participant_ok(f, at) & !rows::bic_among(f, 12, 24, i, at);
+        ok = ok & (rows::participant_ok(f, at) & !rows::bic_among(f, 12, 24, i, at));
         i += 1;
     }
     if ok { Rows::Right } else { Rows::Wrong }
@@ -73,7 +73,7 @@ pub fn check_routes(size: usize, start: usize, n: usize, f: &[u8]) -> Rows
     let mut i = 0;
     while i < n {
         let at = start + 16 * i;
-        ok = ok & rows::route_ok(f, at, size, i) & !rows::bic_among(f, start, 16, i, at);
+        ok = ok & (rows::route_ok(f, at, size, i) & !rows::bic_among(f, start, 16, i, at));
         i += 1;
     }
     if ok { Rows::Right } else { Rows::Wrong }

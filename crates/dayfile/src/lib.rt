@@ -1,10 +1,10 @@
 // Reading a day file: refusals 1 to 5 in the paper's order, or the roster and where the tickets lie; and following a route.
 // Any bytes of any length may be handed in.
 mod check;
-mod follow;
 mod header;
 mod read;
-mod roster;
+pub mod roster;
+pub mod route;
 mod rows;
 
 use check::Placed;
@@ -13,6 +13,9 @@ use check::Rows;
 use header::Headed;
 use roster::Roster;
 ghost use mathlib.Core.Path.{_≡_};
+ghost use Prim.Native.Nat.{_+_, _*_, _≤_};
+ghost use lib.ListN.{length};
+ghost use Rattle.fields.specs.Number.{part};
 ghost use Rattle.dayfile.specs.DayFile.{dayFile, refusedFile};
 
 // What a day file gives: the refusal, 0 if none; the roster, empty if refused; how many tickets there are and where the first lies.
@@ -60,4 +63,13 @@ pub fn read_day_file(f: &[u8]) -> DayFile
         tickets: n.tickets,
         first: at.tickets,
     }
+}
+
+// Ticket k of an accepted file, as the file's own bytes, where first is the place of the first.
+pub fn ticket(f: &[u8], first: usize, k: usize) -> &[u8]
+    requires { ⌜ first + 108 * k + 108 ≤ length (now f) ⌝ }
+    ensures { λ r. ⌜ now r ≡ part 108 (first + 108 * k) (now (f .entry)) ⌝ }
+{
+    let at = first + 108 * k;
+    &f[at..at + 108]
 }

@@ -4,3 +4,4 @@ pub mod Stores
 pub mod BigEndian
 pub mod Padding
 pub mod Same
+pub mod UpTo

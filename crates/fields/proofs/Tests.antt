@@ -1,6 +1,6 @@
 -- What a test that passed tells. Assumes nothing.
 use mathlib.Core.Path.{_≡_, refl}
-use mathlib.Core.Bool.{Bool, true, false, _&&_, cond}
+use mathlib.Core.Bool.{Bool, true, false, _&&_, _||_, cond}
 use Prim.Native.Nat.{ℕ, _≤_}
 use borrow.Author.Tests.{leb-true}
 use lib.Dec.{leb}
@@ -21,3 +21,12 @@ not-below low high c e = leb-true low c (and-left (leb low c) (leb c high) e)
 pub passed : {A : Type 0} (b : Bool) (yea nay : A) → (nay ≡ yea → ⊥) → cond b yea nay ≡ yea → b ≡ true
 passed true yea nay differ e = refl
 passed false yea nay differ e = absurd (differ e)
+
+-- neither of two tests passed
+pub or-left : (a b : Bool) → (a || b) ≡ false → a ≡ false
+or-left true b e = e
+or-left false b e = refl
+
+pub or-right : (a b : Bool) → (a || b) ≡ false → b ≡ false
+or-right true b e = cc
+or-right false b e = e

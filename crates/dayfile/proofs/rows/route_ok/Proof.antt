@@ -21,6 +21,7 @@ route-ok-spec =
     (λ c. search needs)
     (λ c κs. search needs)
     (λ c. search needs)
+    (λ c κs. search needs)
     (λ c. search needs)
     (λ c. search needs)
     (λ c. search needs)
@@ -28,7 +29,16 @@ route-ok-spec =
     (λ c. search needs)
     (λ c κs. search needs)
     (λ c.
-    let k = c .before .before in
+    let limit = c .before .before in
+    let k = limit .before in
     let bic = k .before .before in
-    simp
-    (bic .zolfigar-bic-ok .ensures, answer-is-1, k .u16-at .ensures, c .used .ensures .0, blank-length, add-sub-cancel-left, span)))
+    simp (
+      bic .zolfigar-bic-ok .ensures,
+      answer-is-1,
+      k .u16-at .ensures,
+      limit .limit-of .ensures,
+      c .used .ensures .0,
+      blank-length,
+      add-sub-cancel-left,
+      span,
+    )))

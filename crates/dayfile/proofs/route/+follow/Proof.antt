@@ -1,4 +1,4 @@
--- `dayfile::follow::follow` meets its contract: each way through it is one row of the definition, and the row number falls.
+-- `dayfile::route::follow` meets its contract: each way through it is one row of the definition, and the row number falls.
 -- Assumes nothing.
 use mathlib.Core.Path.{_≡_, sym, _∙_, ap}
 use Prim.Native.Nat.{ℕ, _<_}
@@ -8,11 +8,11 @@ use borrow.Fn.Kinds.{In}
 use borrow.Fn.PlainCycle.{Measures, is, falls, and}
 use Rattle.dayfile.specs.Route.{oneMore, followed}
 use Rattle.dayfile.proofs.Following.{followed-out, followed-rows, follows-to, follows-row, follows-none}
-use Rattle.dayfile.proofs.follow.follow.Reads as follow
-use Rattle.dayfile.proofs.follow.follow.Kinds as follow-kinds
-use Rattle.dayfile.proofs.follow.+follow.Lts-follow as follow-lts
-use Rattle.dayfile.proofs.follow.+follow.{statement}
-use Rattle.dayfile.proofs.follow.+follow.Tie.{close}
+use Rattle.dayfile.proofs.route.follow.Reads as follow
+use Rattle.dayfile.proofs.route.follow.Kinds as follow-kinds
+use Rattle.dayfile.proofs.route.+follow.Lts-follow as follow-lts
+use Rattle.dayfile.proofs.route.+follow.{statement}
+use Rattle.dayfile.proofs.route.+follow.Tie.{close}
 
 abbrev μ-follow : Measures 0 follow-kinds.ps ℕ
 μ-follow κs a = a .1 .0

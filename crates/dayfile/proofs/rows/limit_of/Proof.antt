@@ -1,0 +1,12 @@
+-- `dayfile::rows::limit_of` meets its contract. Assumes nothing.
+use borrow.Author.Tests.{eq-eqb, ne-eqb}
+use borrow.Author.Needs.{needs}
+use Rattle.dayfile.proofs.rows.limit_of.Statement.{statement}
+use Rattle.dayfile.proofs.rows.limit_of.Tie as tie
+
+pub limit-of-spec : {M : Type 1} → statement M
+limit-of-spec =
+    tie.close
+    (tie.spec
+    (λ c. rw (eq-eqb _ _ (c .if1 .taken)))
+    (λ c. rw (ne-eqb _ _ (c .if1 .left))))

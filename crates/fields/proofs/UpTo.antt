@@ -1,0 +1,45 @@
+-- What a test up to n tells of each number below it, and what a table up to n holds. Assumes nothing.
+use mathlib.Core.Path.{_≡_, refl, sym, _∙_, ap}
+use mathlib.Core.Bool.{Bool, true, false, _&&_, _||_}
+use mathlib.Core.List.{List}
+use mathlib.Core.Logic.{_⊎_, ⊎-elim}
+use Prim.Native.Nat.{ℕ, zero, suc, _≤_, _<_}
+use native.Mathlib.Nat.{not-suc-le-zero, eq-or-lt-of-le, le-of-suc-le-suc}
+use native.Mathlib.Omega.{arith}
+use lib.ListN.{length, getD, set, replicate, length-set, length-replicate}
+use lib.Seq.{getD-set-same, getD-set-other}
+use Rattle.fields.specs.UpTo.{allTo, anyTo, rowsTo}
+use Rattle.fields.proofs.Tests.{and-left, and-right, or-left, or-right}
+
+-- each number below n is n - 1 or below that
+last-or-before : {i n : ℕ} → i < suc n → (i ≡ n) ⊎ (i < n)
+last-or-before h = eq-or-lt-of-le (le-of-suc-le-suc h)
+
+pub all-at : (test : ℕ → Bool) (n i : ℕ) → allTo test n ≡ true → i < n → test i ≡ true
+all-at test zero i e h = absurd (not-suc-le-zero h)
+all-at test (suc n) i e h =
+    ⊎-elim
+    (λ (q : i ≡ n). ap test q ∙ and-right (allTo test n) (test n) e)
+    (λ (l : i < n). all-at test n i (and-left (allTo test n) (test n) e) l)
+    (last-or-before h)
+
+pub none-at : (test : ℕ → Bool) (n i : ℕ) → anyTo test n ≡ false → i < n → test i ≡ false
+none-at test zero i e h = absurd (not-suc-le-zero h)
+none-at test (suc n) i e h =
+    ⊎-elim
+    (λ (q : i ≡ n). ap test q ∙ or-right (anyTo test n) (test n) e)
+    (λ (l : i < n). none-at test n i (or-left (anyTo test n) (test n) e) l)
+    (last-or-before h)
+
+module _ {A : Type 0} (size : ℕ) (none : A) (row : ℕ → A) where
+  pub rows-length : (n : ℕ) → length (rowsTo size none row n) ≡ size
+  rows-length zero = length-replicate size none
+  rows-length (suc n) = length-set (rowsTo size none row n) n (row n) ∙ rows-length n
+
+  pub row-at : (n i : ℕ) (d : A) → i < n → n ≤ size → getD (rowsTo size none row n) i d ≡ row i
+  row-at zero i d h k = absurd (not-suc-le-zero h)
+  row-at (suc n) i d h k =
+      ⊎-elim
+      (λ (q : i ≡ n). rw q (getD-set-same (rowsTo size none row n) n (row n) d (rw (rows-length n) k)))
+      (λ (l : i < n). getD-set-other (rowsTo size none row n) n i (row n) d (λ q. omega arith) ∙ row-at n i d l (omega arith))
+      (last-or-before h)
