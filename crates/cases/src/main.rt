@@ -1,45 +1,40 @@
-// Runs worked cases. Standard input has a case a line, at most 65,536 bytes in all: which check, five characters with the
-// spaces behind it, and the text to check. Each line is printed with the check's answer behind it; a line that names no
-// check is printed with a question mark.
+// Runs worked cases. Standard input has a case a line, at most 65,536 bytes in all. A line's first word says what is asked, in four
+// letters with a space behind them; each line is printed with the answer behind it, and a line that asks nothing known with a
+// question mark.
+//
+//     bic, iban, txid TEXT    whether the text is such a code
+//     read NAME BYTES         what the bytes read as if they are a ticket: the refusal, or 0 and the kind, time and amount
+//     part NAME BYTES         the TxId part of such a ticket
+//     file NAME BYTES         what they give as a day file: the refusal, the participants, the routes, the tickets and the first one's
+//                             place; then for each route row where it leads and in how many rows
+//
+// BYTES are groups of hexadecimal digits between spaces; a group with an x and a number behind it stands that many times.
+mod bytes;
+mod files;
+mod print;
+mod tickets;
+mod words;
+
 use libc::STDIN_FILENO;
 use libc::STDOUT_FILENO;
-ghost use Prim.Native.Nat.{_≤_};
-ghost use lib.ListN.{length};
-
-// Where the line that starts at from ends: at the next line feed, or at the end of s.
-fn line_end(s: &[u8], from: usize) -> usize
-    requires { ⌜ from ≤ length (now s) ⌝ }
-    ensures { λ r. ⌜ (from ≤ r) × (r ≤ length (now (s .entry))) ⌝ }
-{
-    let mut at = from;
-    while at < s.len() {
-        if s[at] == b'\n' {
-            return at;
-        }
-        at += 1;
-    }
-    at
-}
-
-fn print_answer(answer: u8) {
-    io::write_all(STDOUT_FILENO, b" ");
-    io::print_decimal(STDOUT_FILENO, answer as u64);
-    io::write_all(STDOUT_FILENO, b"\n");
-}
 
 fn run_line(line: &[u8]) {
-    io::write_all(STDOUT_FILENO, line);
     if line.len() < 5 {
+        io::write_all(STDOUT_FILENO, line);
         io::write_all(STDOUT_FILENO, b" ?\n");
         return;
     }
-    let text = &line[5..];
-    let name = line[0];
-    match name {
-        b'b' => print_answer(codes::zolfigar_bic_ok(text)),
-        b'i' => print_answer(codes::zolfigar_iban_ok(text)),
-        b't' => print_answer(codes::zolfigar_txid_ok(text)),
+    let rest = &line[5..];
+    let asked = line[0];
+    match asked {
+        b'b' => print::print_answer(line, codes::zolfigar_bic_ok(rest)),
+        b'i' => print::print_answer(line, codes::zolfigar_iban_ok(rest)),
+        b't' => print::print_answer(line, codes::zolfigar_txid_ok(rest)),
+        b'r' => tickets::run_read(rest),
+        b'p' => tickets::run_part(rest),
+        b'f' => files::run_file(rest),
         _ => {
+            io::write_all(STDOUT_FILENO, line);
             io::write_all(STDOUT_FILENO, b" ?\n");
         }
     }
@@ -48,7 +43,7 @@ fn run_line(line: &[u8]) {
 fn run_lines(s: &[u8]) {
     let mut at = 0;
     while at < s.len() {
-        let end = line_end(s, at);
+        let end = words::find(s, at, b'\n');
         run_line(&s[at..end]);
         at = end + 1;
     }

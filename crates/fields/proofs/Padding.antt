@@ -2,7 +2,7 @@
 use mathlib.Core.Path.{_≡_, refl, sym, _∙_, ap}
 use mathlib.Core.Bool.{Bool, true, false, _&&_, cond, and-true, and-false, and-assoc}
 use mathlib.Core.List.{List, [], _∷_, _++_}
-use Prim.Native.Nat.{ℕ, suc, _+_, _≤_, _<_, zero-le, suc-le-suc}
+use Prim.Native.Nat.{ℕ, suc, _+_, _<_}
 use native.Mathlib.Numerals.{add-one}
 use native.Mathlib.Omega.{arith}
 use lib.Dec.{eqb, eqb·suc-zero}
@@ -31,15 +31,6 @@ length-more s i h =
     ap valueLength (ap (λ (k : ℕ). take k s) (add-one i) ∙ take-suc s i 0 h)
     ∙ length-snoc (take i s) (getD s i 0)
     ∙ ap (λ (k : ℕ). cond (eqb (getD s i 0) 0) (valueLength (take i s)) k) (ap suc (length-take-le i s (omega arith)) ∙ sym (add-one i))
-
--- a value is no longer than its field
-pub length-within : (s : List ℕ) → valueLength s ≤ length s
-length-within [] = zero-le
-length-within (x ∷ s) = go (eqb x 0 && blank s) (length-within s)
-  where
-    go : (b : Bool) → valueLength s ≤ length s → cond b 0 (suc (valueLength s)) ≤ suc (length s)
-    go true h = zero-le
-    go false h = suc-le-suc h
 
 -- a field is blank where its value has no length
 pub blank-length : (s : List ℕ) → eqb (valueLength s) 0 ≡ blank s

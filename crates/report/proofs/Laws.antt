@@ -94,3 +94,6 @@ laid-more rs s r h =
 pub reports-read-back : (rs : List Report) (t : List ℕ) → AllFitting rs → reportsOf (length rs) (reportsBytes rs ++ t) ≡ rs
 reports-read-back [] t f = refl
 reports-read-back (r ∷ rs) t f = ap₂ _∷_ (own-bytes r (f .0) (reportsBytes rs ++ t)) (reports-read-back rs t (f .1))
+
+pub laid-reads-back : (rs : List Report) (s : List ℕ) → AllFitting rs → reportsOf (length rs) (laid rs s) ≡ rs
+laid-reads-back rs s f = reports-read-back rs (drop (12 * length rs) s) f

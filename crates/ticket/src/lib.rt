@@ -1,7 +1,7 @@
 // Reading a ticket of 108 bytes: refusals 7 to 10 in the paper's order, or the fields. Any bytes of any length may be handed in.
 mod amounts;
 mod forms;
-mod kinds;
+pub mod kinds;
 mod shapes;
 
 use amounts::Limit;

@@ -1,19 +1,20 @@
--- `fields::text::used` meets its contract. The loop's invariant: n is the length of the value of the first i bytes. Assumes nothing.
+-- `fields::text::used` meets its contract. The loop's invariant: n is the length of the value of the first i bytes, and at most i. Assumes nothing.
 use mathlib.Core.Logic.{⊎-elim}
 use denote.Ref.{now}
 use mathlib.Core.Path.{_≡_, refl, sym, _∙_, ap}
 use Prim.Native.Nat.{ℕ, _≤_, _-_}
 use lib.ListN.{length, take}
+use native.Mathlib.Omega.{arith}
 use lib.Seq.{take-all}
 use borrow.Author.Tests.{eq-eqb, ne-eqb}
 use Rattle.fields.specs.Text.{valueLength}
-use Rattle.fields.proofs.Padding.{length-more, length-within}
+use Rattle.fields.proofs.Padding.{length-more}
 use borrow.Author.Needs.{needs}
 use Rattle.fields.proofs.text.used.Statement.{statement}
 use Rattle.fields.proofs.text.used.Tie as tie
 
 abbrev Inv-loop : tie.InvT-loop
-Inv-loop s n₀ i₀ n i = (i ≤ length s) × (n ≡ valueLength (take i s))
+Inv-loop s n₀ i₀ n i = (i ≤ length s) × (n ≤ i) × (n ≡ valueLength (take i s))
 
 abbrev μ-loop : tie.MeasureT-loop
 μ-loop s n₀ i₀ n i = length s - i
@@ -34,15 +35,14 @@ used-spec =
     let s = now (l .before .args .s) in
     let more = length-more s (l .loop .i) (search needs) in (
       search needs,
+      ⊎-elim (λ w. let e = w .1 in omega arith) (λ w. let e = w .1 in omega arith) (c .if1 .came),
       ⊎-elim
           -- a byte that is not zero: the value goes up to it
           (λ w. w .1 ∙ sym (more ∙ simp (ne-eqb _ _ (w .0 .taken))))
           -- a zero byte
-          (λ w. w .1 ∙ l .loop .inv .1 ∙ sym (more ∙ simp (eq-eqb _ _ (w .0 .left))))
+          (λ w. w .1 ∙ l .loop .inv .2 ∙ sym (more ∙ simp (eq-eqb _ _ (w .0 .left))))
           (c .if1 .came),
     ))
     (λ c.
     let l = c .before in
-    let s = now (l .before .args .s) in
-    let e = l .loop .inv .1 ∙ ap valueLength (take-all (l .loop .i) s (c .loop-test .left)) in
-    (e, rw e (length-within s))))
+    (l .loop .inv .2 ∙ ap valueLength (take-all (l .loop .i) (now (l .before .args .s)) (c .loop-test .left)), search needs)))

@@ -1,0 +1,26 @@
+-- `cases::files::print_routes` is safe and ends. Assumes nothing.
+use Prim.Native.Nat.{_+_, _≤_, _-_}
+use lib.ListN.{length}
+use borrow.Author.Needs.{needs}
+use Rattle.cases.proofs.files.print_routes.Statement.{statement}
+use Rattle.cases.proofs.files.print_routes.Tie as tie
+
+abbrev Inv-loop : tie.InvT-loop
+Inv-loop r rows i₀ i = i ≤ rows
+
+abbrev μ-loop : tie.MeasureT-loop
+μ-loop r rows i₀ i = rows - i
+
+pub print-routes-spec : {M : Type 1} → statement M
+print-routes-spec =
+    tie.close
+    (tie.spec
+    Inv-loop
+    μ-loop
+    (λ c. search needs)
+    (λ c κs. search needs)
+    (λ c κs. search needs)
+    (λ c. search needs)
+    (λ c. search needs)
+    (λ c. search needs)
+    (λ c. search needs))
