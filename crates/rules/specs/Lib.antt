@@ -1,0 +1,10 @@
+pub mod Book
+pub mod Find
+pub mod Cover
+pub mod Tell
+pub mod Order
+pub mod Tick
+pub mod Refusal
+pub mod Own
+pub mod Step
+pub mod Program
