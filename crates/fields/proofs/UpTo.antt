@@ -1,14 +1,14 @@
 -- What a test up to n tells of each number below it, and what a table up to n holds. Assumes nothing.
-use mathlib.Core.Path.{_≡_, refl, sym, _∙_, ap}
+use mathlib.Core.Path.{_≡_, refl, _∙_, ap, ap₂}
 use mathlib.Core.Bool.{Bool, true, false, _&&_, _||_}
 use mathlib.Core.List.{List}
 use mathlib.Core.Logic.{_⊎_, ⊎-elim}
-use Prim.Native.Nat.{ℕ, zero, suc, _≤_, _<_}
+use Prim.Native.Nat.{ℕ, zero, suc, _+_, _≤_, _<_}
 use native.Mathlib.Nat.{not-suc-le-zero, eq-or-lt-of-le, le-of-suc-le-suc}
 use native.Mathlib.Omega.{arith}
 use lib.ListN.{length, getD, set, replicate, length-set, length-replicate}
 use lib.Seq.{getD-set-same, getD-set-other}
-use Rattle.fields.specs.UpTo.{allTo, anyTo, rowsTo}
+use Rattle.fields.specs.UpTo.{allTo, anyTo, rowsTo, sumTo}
 use Rattle.fields.proofs.Tests.{and-left, and-right, or-left, or-right}
 
 -- each number below n is n - 1 or below that
@@ -43,3 +43,35 @@ module _ {A : Type 0} (size : ℕ) (none : A) (row : ℕ → A) where
       (λ (q : i ≡ n). rw q (getD-set-same (rowsTo size none row n) n (row n) d (rw (rows-length n) k)))
       (λ (l : i < n). getD-set-other (rowsTo size none row n) n i (row n) d (λ q. omega arith) ∙ row-at n i d l (omega arith))
       (last-or-before h)
+
+-- sums: of the same terms, with one term changed, and not below any term
+pub sum-same : (f g : ℕ → ℕ) (n : ℕ) → ((i : ℕ) → i < n → f i ≡ g i) → sumTo f n ≡ sumTo g n
+sum-same f g zero h = refl
+sum-same f g (suc n) h = ap₂ _+_ (sum-same f g n (λ i l. h i (omega arith))) (h n (omega arith))
+
+pub sum-change : (f g : ℕ → ℕ) (n i : ℕ) → i < n → ((j : ℕ) → j < n → (j ≡ i → ⊥) → f j ≡ g j) → sumTo f n + g i ≡ sumTo g n + f i
+sum-change f g zero i l h = absurd (not-suc-le-zero l)
+sum-change f g (suc n) i l h =
+    ⊎-elim
+    (λ (q : i ≡ n).
+    let e = sum-same f g n (λ j k. h j (omega arith) (λ r. omega arith)) in
+    let a : f i ≡ f n = ap f q in
+    let b : g i ≡ g n = ap g q in
+    omega arith)
+    (λ (k : i < n).
+    let e = sum-change f g n i k (λ j m r. h j (omega arith) r) in
+    let a = h n (omega arith) (λ r. omega arith) in
+    omega arith)
+    (last-or-before l)
+
+pub sum-part : (f : ℕ → ℕ) (n i : ℕ) → i < n → f i ≤ sumTo f n
+sum-part f zero i l = absurd (not-suc-le-zero l)
+sum-part f (suc n) i l =
+    ⊎-elim
+    (λ (q : i ≡ n). let a : f i ≡ f n = ap f q in omega arith)
+    (λ (k : i < n). let a = sum-part f n i k in omega arith)
+    (last-or-before l)
+
+pub sum-zero : (f : ℕ → ℕ) (n : ℕ) → ((i : ℕ) → i < n → f i ≡ 0) → sumTo f n ≡ 0
+sum-zero f zero h = refl
+sum-zero f (suc n) h = let a = sum-zero f n (λ i l. h i (omega arith)) in let b = h n (omega arith) in omega arith

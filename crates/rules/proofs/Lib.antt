@@ -1,2 +1,12 @@
 pub mod Writing
 pub mod Cases
+pub mod Same
+pub mod Moves
+pub mod Orders
+pub mod Keeping
+pub mod Finding
+pub mod Refusing
+pub mod Sweeping
+pub mod Accepting
+pub mod Cutting
+pub mod Stepping

@@ -13,7 +13,7 @@ use Prim.Native.Nat.{ℕ, _+_, _-_}
 use mathlib.Core.List.{List}
 use lib.ListN.{getD, set}
 use Rattle.fields.specs.UpTo.{sumTo}
-use Rattle.rules.specs.Book.{noCover, coverOf}
+use Rattle.rules.specs.Book.{noCover}
 use Rattle.rules.specs.declared.Cover.{Cover}
 use Rattle.rules.specs.declared.Book.{Book}
 
@@ -54,8 +54,11 @@ clear p cs = set cs p (record { available = at cs p .available; reserved = at cs
 abbrev pub whole : Cover → ℕ
 whole c = c .available + c .reserved + c .held
 
+abbrev pub totalOf : ℕ → List Cover → ℕ
+totalOf size cs = sumTo (λ p. whole (at cs p)) size
+
 unfoldable pub total : Book → ℕ
-total b = sumTo (λ p. whole (coverOf b p)) (b .roster .size)
+total b = totalOf (b .roster .size) (b .covers)
 
 -- 01, refusal 22
 abbrev pub mostTotal : ℕ

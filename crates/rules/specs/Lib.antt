@@ -8,3 +8,4 @@ pub mod Refusal
 pub mod Own
 pub mod Step
 pub mod Program
+pub mod Sound

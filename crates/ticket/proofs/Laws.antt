@@ -10,6 +10,7 @@ use Rattle.ticket.specs.Form.{formOf}
 use Rattle.ticket.specs.Shape.{shapeOf, accountOf}
 use Rattle.ticket.specs.Amount.{statedIn, limitOf}
 use Rattle.ticket.specs.Reading.{reading, readShape, readAccount, readStated, readLimit}
+use Rattle.ticket.specs.declared.Reading.the-variants.{Refused}
 use Rattle.ticket.specs.declared.kinds.Kind.{Kind}
 use Rattle.ticket.specs.declared.shapes.Shape.{Shape}
 use Rattle.ticket.specs.declared.shapes.Shape.the-variants.{Formed, Malformed}
@@ -35,3 +36,7 @@ module _ (t : List ℕ) (k : Kind) (formed : shapeOf t ≡ Formed k) where
 
   pub read-stated : (n : ℕ) → accountOf (formOf k) t ≡ Named → statedIn (formOf k) t ≡ Amount n → reading t ≡ readLimit k t n (limitOf (formOf k) n)
   read-stated n named stated = read-named named ∙ ap (readStated k t) stated
+
+pub read-malformed : (t : List ℕ) → shapeOf t ≡ Malformed → reading t ≡ Refused 7
+unfolding reading
+read-malformed t e = ap (readShape t) e

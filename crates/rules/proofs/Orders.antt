@@ -1,0 +1,165 @@
+-- What keeps the facts of `OrdersSound`, and what it does to the sums of waiting orders: another status, a later clock, one order
+-- more. Assumes nothing.
+use mathlib.Core.Path.{_≡_, refl, sym, _∙_, ap, ap₂}
+use mathlib.Core.Bool.{Bool, true, false, _&&_, cond, and-false}
+use mathlib.Core.List.{List}
+use mathlib.Core.Logic.{_⊎_, ⊎-elim}
+use Prim.Native.Nat.{ℕ, suc, _+_, _≤_, _<_}
+use native.Mathlib.Numerals.{add-one}
+use native.Mathlib.Omega.{arith}
+use borrow.Author.Tests.{eq-eqb, ne-eqb}
+use lib.Dec.{eqb}
+use lib.ListN.{length, getD, set, length-set}
+use lib.Seq.{getD-set-same, getD-set-other}
+use Rattle.codes.specs.Txid.{isTxid}
+use Rattle.fields.specs.Text.{same, unpadded}
+use Rattle.fields.specs.UpTo.{sumTo}
+use Rattle.fields.proofs.UpTo.{sum-same, sum-change, sum-part}
+use Rattle.ticket.specs.Form.{mostOrder}
+use Rattle.rules.specs.Book.{noOrder, unusedOrder}
+use Rattle.rules.specs.Order.{withStatus}
+use Rattle.rules.specs.Tick.{isWaiting}
+use Rattle.rules.specs.Sound.{waitingAmount, waitingSum, OrdersSound}
+use Rattle.rules.specs.declared.Status.{Status}
+use Rattle.rules.specs.declared.Status.the-variants.{Waiting}
+use Rattle.rules.specs.declared.Order.{Order}
+use Rattle.rules.proofs.Same.{same-or-not}
+
+abbrev ord : List Order → ℕ → Order
+ord os i = getD os i noOrder
+
+-- the clock goes on
+pub orders-later : (size clock clock′ n : ℕ) (os : List Order) → clock ≤ clock′ → OrdersSound size clock n os → OrdersSound size clock′ n os
+orders-later size clock clock′ n os l s =
+    record {
+      long = s .long;
+      count = s .count;
+      payer = s .payer;
+      payee = s .payee;
+      least = s .least;
+      most = s .most;
+      padded = s .padded;
+      txid = s .txid;
+      distinct = s .distinct;
+      ordered = s .ordered;
+      early = λ i h. let e = s .early i h in omega arith;
+      unused = s .unused;
+    }
+
+-- order i gets another status
+module _ (size clock n : ℕ) (os : List Order) (s : OrdersSound size clock n os) (i : ℕ) (h : i < n) (status : Status) where
+  changed : List Order
+  changed = set os i (withStatus (ord os i) status)
+
+  here : ord changed i ≡ withStatus (ord os i) status
+  unfolding changed
+  here = getD-set-same os i (withStatus (ord os i) status) noOrder (rw (s .long) (let c = s .count in omega arith))
+
+  there : (j : ℕ) → (j ≡ i → ⊥) → ord changed j ≡ ord os j
+  unfolding changed
+  there j k = getD-set-other os i j (withStatus (ord os i) status) noOrder k
+
+  -- what a status is no part of is kept
+  kept : {A : Type 0} (f : Order → A) → f (withStatus (ord os i) status) ≡ f (ord os i) → (j : ℕ) → f (ord changed j) ≡ f (ord os j)
+  kept f e j =
+      ⊎-elim (λ (q : j ≡ i). rw q (ap f here ∙ e)) (λ (k : j ≡ i → ⊥). ap f (there j k)) (same-or-not j i)
+
+  pub status-keeps : OrdersSound size clock n (set os i (withStatus (ord os i) status))
+  unfolding changed
+  status-keeps =
+      record {
+        long = length-set os i (withStatus (ord os i) status) ∙ s .long;
+        count = s .count;
+        payer = λ j l. rw (kept (λ (o : Order). o .payer) refl j) (s .payer j l);
+        payee = λ j l. rw (kept (λ (o : Order). o .payee) refl j) (s .payee j l);
+        least = λ j l. rw (kept (λ (o : Order). o .amount) refl j) (s .least j l);
+        most = λ j l. rw (kept (λ (o : Order). o .amount) refl j) (s .most j l);
+        padded = λ j l. rw (kept (λ (o : Order). o .txid) refl j) (s .padded j l);
+        txid = λ j l. rw (kept (λ (o : Order). o .txid) refl j) (s .txid j l);
+        distinct = λ j k l m. rw (kept (λ (o : Order). o .txid) refl j, kept (λ (o : Order). o .txid) refl k) (s .distinct j k l m);
+        ordered = λ j k l m. rw (kept (λ (o : Order). o .time) refl j, kept (λ (o : Order). o .time) refl k) (s .ordered j k l m);
+        early = λ j l. rw (kept (λ (o : Order). o .time) refl j) (s .early j l);
+        unused = λ j l m. there j (λ q. omega arith) ∙ s .unused j l m;
+      }
+
+  -- the sums: another participant's is kept; the payer's changes by the order's part
+  pub sum-others : (p : ℕ) → (p ≡ ord os i .payer → ⊥) → waitingSum n os p ≡ waitingSum n (set os i (withStatus (ord os i) status)) p
+  unfolding changed
+  sum-others p k =
+      sum-same (λ j. waitingAmount p (ord os j)) (λ j. waitingAmount p (ord changed j)) n
+      (λ j l. sym (⊎-elim (λ (q : j ≡ i). rw q (ap (waitingAmount p) here ∙ nothing status ∙ sym (nothing (ord os i .status)))) (λ (m : j ≡ i → ⊥). ap (waitingAmount p) (there j m)) (same-or-not j i)))
+    where
+      nothing : (t : Status) → cond (isWaiting t && eqb (ord os i .payer) p) (ord os i .amount) 0 ≡ 0
+      nothing t = simp (ne-eqb (ord os i .payer) p (λ e. k (sym e)), and-false)
+
+  pub sum-changed : (p : ℕ) → waitingSum n os p + waitingAmount p (withStatus (ord os i) status) ≡ waitingSum n (set os i (withStatus (ord os i) status)) p + waitingAmount p (ord os i)
+  unfolding changed
+  sum-changed p =
+      ap (λ (o : Order). waitingSum n os p + waitingAmount p o) (sym here)
+      ∙ sum-change (λ j. waitingAmount p (ord os j)) (λ j. waitingAmount p (ord changed j)) n i h (λ j l m. ap (waitingAmount p) (sym (there j m)))
+
+-- one order more
+pub record NewOrder (size clock n : ℕ) (os : List Order) (o : Order) : Type 0 where
+  pub room : n < 256
+  pub payer : o .payer < size
+  pub payee : o .payee < size
+  pub least : 1 ≤ o .amount
+  pub most : o .amount ≤ mostOrder
+  pub padded : length (o .txid) ≡ 35
+  pub txid : isTxid (unpadded (o .txid)) ≡ true
+  pub fresh : (i : ℕ) → i < n → same (ord os i .txid) (o .txid) ≡ false
+  pub time : o .time ≡ clock
+
+module _ (size clock n : ℕ) (os : List Order) (s : OrdersSound size clock n os) (o : Order) (new : NewOrder size clock n os o) where
+  last : ord (set os n o) n ≡ o
+  last = getD-set-same os n o noOrder (rw (s .long) (new .room))
+
+  earlier : (j : ℕ) → (j ≡ n → ⊥) → ord (set os n o) j ≡ ord os j
+  earlier j k = getD-set-other os n j o noOrder k
+
+  -- what holds of each order and of the new one
+  each : (P : Order → Type 0) → ((j : ℕ) → j < n → P (ord os j)) → P o → (j : ℕ) → j < n + 1 → P (ord (set os n o) j)
+  each P all this j l =
+      ⊎-elim
+      (λ (q : j ≡ n). rw (q, last) this)
+      (λ (k : j ≡ n → ⊥). rw (earlier j k) (all j (omega arith)))
+      (same-or-not j n)
+
+  -- what holds between each two, and between each and the new one
+  pairs : (P : Order → Order → Type 0) → ((j k : ℕ) → j < k → k < n → P (ord os j) (ord os k)) → ((j : ℕ) → j < n → P (ord os j) o)
+      → (j k : ℕ) → j < k → k < n + 1 → P (ord (set os n o) j) (ord (set os n o) k)
+  pairs P all this j k l m =
+      ⊎-elim
+      (λ (q : k ≡ n). rw (q, last, earlier j (λ e. omega arith)) (this j (omega arith)))
+      (λ (r : k ≡ n → ⊥). rw (earlier j (λ e. omega arith), earlier k r) (all j k l (omega arith)))
+      (same-or-not k n)
+
+  pub order-keeps : OrdersSound size clock (n + 1) (set os n o)
+  order-keeps =
+      record {
+        long = length-set os n o ∙ s .long;
+        count = let r = new .room in omega arith;
+        payer = each (λ (x : Order). x .payer < size) (s .payer) (new .payer);
+        payee = each (λ (x : Order). x .payee < size) (s .payee) (new .payee);
+        least = each (λ (x : Order). 1 ≤ x .amount) (s .least) (new .least);
+        most = each (λ (x : Order). x .amount ≤ mostOrder) (s .most) (new .most);
+        padded = each (λ (x : Order). length (x .txid) ≡ 35) (s .padded) (new .padded);
+        txid = each (λ (x : Order). isTxid (unpadded (x .txid)) ≡ true) (s .txid) (new .txid);
+        distinct = pairs (λ (x y : Order). same (x .txid) (y .txid) ≡ false) (s .distinct) (new .fresh);
+        ordered = pairs (λ (x y : Order). x .time ≤ y .time) (s .ordered) (λ j l. rw (new .time) (s .early j l));
+        early = each (λ (x : Order). x .time ≤ clock) (s .early) (let e = new .time in omega arith);
+        unused = λ j l m. earlier j (λ q. omega arith) ∙ s .unused j (omega arith) m;
+      }
+
+  pub sum-new : (p : ℕ) → waitingSum (n + 1) (set os n o) p ≡ waitingSum n os p + waitingAmount p o
+  sum-new p =
+      ap (λ (m : ℕ). waitingSum m (set os n o) p) (add-one n)
+      ∙ ap₂ _+_
+      (sum-same (λ j. waitingAmount p (ord (set os n o) j)) (λ j. waitingAmount p (ord os j)) n (λ j l. ap (waitingAmount p) (earlier j (λ q. omega arith))))
+      (ap (waitingAmount p) last)
+
+-- a waiting order is part of its payer's sum
+pub sum-holds : (n : ℕ) (os : List Order) (i : ℕ) → i < n → isWaiting (ord os i .status) ≡ true → ord os i .amount ≤ waitingSum n os (ord os i .payer)
+sum-holds n os i h w =
+    let e : waitingAmount (ord os i .payer) (ord os i) ≡ ord os i .amount = simp (w, eq-eqb (ord os i .payer) (ord os i .payer) refl) in
+    rw e at (sum-part (λ j. waitingAmount (ord os i .payer) (ord os j)) n i h)

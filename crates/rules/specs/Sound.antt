@@ -1,0 +1,66 @@
+-- What every book that tickets can reach has, and what the code's sums, differences and indexes rest on.
+--     waitingAmount   what an order adds to the reserved cover of participant p: its amount, if p pays it and it waits
+--     waitingSum      what all orders in use add
+--     OrdersSound     the orders
+--     CoversSound     the cover, each participant's reserved being what is due
+--     Sound           the book
+-- Assumes nothing.
+use Prim.Native.Nat.{ℕ, _≤_, _<_}
+use mathlib.Core.Path.{_≡_}
+use mathlib.Core.Bool.{Bool, true, false, _&&_, cond}
+use mathlib.Core.List.{List}
+use mathlib.Core.Logic.{_⊎_}
+use lib.Dec.{eqb}
+use lib.ListN.{length, getD}
+use Rattle.codes.specs.Txid.{isTxid}
+use Rattle.fields.specs.Text.{same, unpadded}
+use Rattle.fields.specs.UpTo.{sumTo}
+use Rattle.ticket.specs.Form.{mostOrder}
+use Rattle.dayfile.specs.Rows.{mostOpening}
+use Rattle.dayfile.specs.Guarantee.{Guaranteed}
+use Rattle.rules.specs.Book.{noOrder, noCover, unusedOrder}
+use Rattle.rules.specs.Cover.{at, total, mostTotal}
+use Rattle.rules.specs.Tick.{isWaiting}
+use Rattle.rules.specs.declared.Order.{Order}
+use Rattle.rules.specs.declared.Cover.{Cover}
+use Rattle.rules.specs.declared.Book.{Book}
+
+abbrev pub waitingAmount : ℕ → Order → ℕ
+waitingAmount p o = cond (isWaiting (o .status) && eqb (o .payer) p) (o .amount) 0
+
+abbrev pub waitingSum : ℕ → List Order → ℕ → ℕ
+waitingSum count os p = sumTo (λ i. waitingAmount p (getD os i noOrder)) count
+
+pub record OrdersSound (size clock n : ℕ) (os : List Order) : Type 0 where
+  pub long : length os ≡ 256
+  pub count : n ≤ 256
+  -- each order in use: its parties are participants, its amount and TxId are such as tickets may have
+  pub payer : (i : ℕ) → i < n → getD os i noOrder .payer < size
+  pub payee : (i : ℕ) → i < n → getD os i noOrder .payee < size
+  pub least : (i : ℕ) → i < n → 1 ≤ getD os i noOrder .amount
+  pub most : (i : ℕ) → i < n → getD os i noOrder .amount ≤ mostOrder
+  pub padded : (i : ℕ) → i < n → length (getD os i noOrder .txid) ≡ 35
+  pub txid : (i : ℕ) → i < n → isTxid (unpadded (getD os i noOrder .txid)) ≡ true
+  -- no two share a TxId; their times never fall in arrival order, and none is after the clock
+  pub distinct : (i j : ℕ) → i < j → j < n → same (getD os i noOrder .txid) (getD os j noOrder .txid) ≡ false
+  pub ordered : (i j : ℕ) → i < j → j < n → getD os i noOrder .time ≤ getD os j noOrder .time
+  pub early : (i : ℕ) → i < n → getD os i noOrder .time ≤ clock
+  -- a slot that is not in use is as the fresh book made it
+  pub unused : (i : ℕ) → n ≤ i → i < 256 → getD os i noOrder ≡ unusedOrder
+
+pub record CoversSound (size : ℕ) (due : ℕ → ℕ) (cs : List Cover) : Type 0 where
+  pub long : length cs ≡ 32
+  pub reserved : (p : ℕ) → p < size → at cs p .reserved ≡ due p
+  -- nobody has both held and open debit
+  pub either : (p : ℕ) → p < size → (at cs p .held ≡ 0) ⊎ (at cs p .debit ≡ 0)
+  pub debit : (p : ℕ) → p < size → at cs p .debit ≤ mostOpening
+  -- who is no participant has no cover
+  pub outside : (p : ℕ) → size ≤ p → p < 32 → at cs p ≡ noCover
+
+pub record Sound (b : Book) : Type 0 where
+  pub roster : Guaranteed (b .roster)
+  pub orders : OrdersSound (b .roster .size) (b .clock) (b .count) (b .orders)
+  -- a participant's reserved is the sum of its waiting orders
+  pub covers : CoversSound (b .roster .size) (waitingSum (b .count) (b .orders)) (b .covers)
+  -- all cover together is limited
+  pub limited : total b ≤ mostTotal
