@@ -6,6 +6,7 @@ use mathlib.Core.Logic.{_⊎_, ⊎-elim}
 use Prim.Native.Nat.{ℕ, zero, suc, _+_, _≤_, _<_}
 use native.Mathlib.Nat.{not-suc-le-zero, eq-or-lt-of-le, le-of-suc-le-suc}
 use native.Mathlib.Omega.{arith}
+use lib.Arith.{le-zero}
 use lib.ListN.{length, getD, set, replicate, length-set, length-replicate}
 use lib.Seq.{getD-set-same, getD-set-other}
 use Rattle.fields.specs.UpTo.{allTo, anyTo, rowsTo, sumTo}
@@ -75,3 +76,11 @@ sum-part f (suc n) i l =
 pub sum-zero : (f : ℕ → ℕ) (n : ℕ) → ((i : ℕ) → i < n → f i ≡ 0) → sumTo f n ≡ 0
 sum-zero f zero h = refl
 sum-zero f (suc n) h = let a = sum-zero f n (λ i l. h i (omega arith)) in let b = h n (omega arith) in omega arith
+
+pub sum-prefix : (f : ℕ → ℕ) (i n : ℕ) → i ≤ n → sumTo f i ≤ sumTo f n
+sum-prefix f i zero h = rw (le-zero h) (omega arith)
+sum-prefix f i (suc n) h =
+    ⊎-elim
+    (λ (q : i ≡ suc n). rw q (omega arith))
+    (λ (l : i < suc n). let a = sum-prefix f i n (omega arith) in omega arith)
+    (eq-or-lt-of-le h)

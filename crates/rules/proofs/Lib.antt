@@ -10,3 +10,5 @@ pub mod Sweeping
 pub mod Accepting
 pub mod Cutting
 pub mod Stepping
+pub mod Limits
+pub mod Reporting
