@@ -12,3 +12,4 @@ pub mod Cutting
 pub mod Stepping
 pub mod Limits
 pub mod Reporting
+pub mod Biting
