@@ -19,4 +19,4 @@ centOff = let b = bookOf (file (bank "AAAALV22XXX" ∷ []) [] []) in withCovers 
 
 pub cent-off-not-sound : Sound centOff → ⊥
 unfolding isBic dayFile
-cent-off-not-sound s = let e : 1 ≡ 0 = s .covers .reserved 0 (omega arith) in omega arith
+cent-off-not-sound s = let e : _≡_ {A = ℕ} 1 0 = s .covers .reserved 0 (omega arith) in omega arith
