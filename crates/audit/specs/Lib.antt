@@ -1,0 +1,5 @@
+pub mod History
+pub mod Sums
+pub mod Orders
+pub mod Claim
+pub mod Run
