@@ -1,26 +1,31 @@
--- Rows of histories, right and wrong. A right one is what the rules give for a day file and its tickets; a wrong one is written down by
--- hand. Assumes nothing.
---     right        the run of the rules on a day's tickets, oldest first, each with a buffer of 6,528 zero bytes
---     sums         a participant's eight sums: cover in and out, debits and credits, settled to and from, returns by and to
---     told         an order as seen: amount, time, whether for a bank, whether it waits, and the codes of its endings, newest first
-use Prim.Native.Nat.{ℕ}
+-- Rows of histories. A day is what the rules give for a day file and its tickets; a written history is put down by hand, right or wrong.
+--     Day          a day file, its tickets, and what the sums, the orders and the book at the end come to
+--     IsRight      they come to that, and the claim holds
+--     Written      what was seen, the book at the end, and the claim's clauses that fail of them, by name
+--     AllFalse     of each, just these clauses fail, and the claim is false
+--     AllTrue      of each, no clause fails, and the claim holds
+-- Assumes nothing.
+use Prim.Native.Nat.{ℕ, zero, suc}
 use Prim.Native.String.{String}
-use mathlib.Core.Path.{_≡_}
-use mathlib.Core.Bool.{Bool, true, false, cond}
+use mathlib.Core.Path.{_≡_, refl, sym}
+use mathlib.Core.Bool.{Bool, true, false, _&&_, not, cond}
 use mathlib.Core.List.{List, [], _∷_, _++_, map}
 use lib.ListN.{length, replicate}
+use Rattle.codes.specs.Text.{text}
+use Rattle.fields.specs.Text.{same}
+use Rattle.fields.proofs.Tests.{and-left, and-right}
+use Rattle.fields.proofs.Same.{same-true}
 use Rattle.report.specs.Layout.{reportsBytes}
 use Rattle.report.specs.declared.Report.{Report}
-use Rattle.rules.specs.Book.{bookOf, noCover, unusedOrder}
+use Rattle.rules.specs.Book.{bookOf, coverOf, unusedOrder}
 use Rattle.rules.specs.Step.{leastBuffer}
 use Rattle.rules.specs.Order.{withStatus}
 use Rattle.rules.specs.declared.Status.{Status}
 use Rattle.rules.specs.declared.Cover.{Cover}
-use Rattle.rules.specs.declared.Order.{Order}
 use Rattle.rules.specs.declared.Book.{Book}
-use Rattle.audit.specs.History.{Seen, History}
+use Rattle.audit.specs.History.{Seen, History, size}
 use Rattle.audit.specs.Sums.{coverIns, coverOuts, debits, credits, settledTo, settledFrom, returnsBy, returnsTo}
-use Rattle.audit.specs.Orders.{orderAmount, orderTime, isForBank, waits, allEndings, asNumber}
+use Rattle.audit.specs.Orders.{orderCount, orderAmount, orderTime, isForBank, waits, allEndings, asNumber}
 use Rattle.audit.specs.Claim.{Claim}
 use Rattle.audit.specs.Run.{Input, Run, run}
 use Rattle.audit.proofs.Testing.{clauses, allPass, claim-holds, claim-fails}
@@ -29,11 +34,13 @@ abbrev pub inputs : List (List ℕ) → List Input → List Input
 inputs [] before = before
 inputs (t ∷ ts) before = inputs ts (record { ticket = t; buffer = replicate leastBuffer 0 } ∷ before)
 
-abbrev pub right : List ℕ → List (List ℕ) → Run
-right file tickets = run file (inputs tickets [])
+-- the run of the rules on tickets, oldest first, each with a buffer of the least length, all zero
+abbrev pub ruled : List ℕ → List (List ℕ) → Run
+ruled file tickets = run file (inputs tickets [])
 
-abbrev pub sums : List ℕ → ℕ → History → List ℕ
-sums file p h =
+-- a participant's eight sums: cover in and out, debits and credits, settled to and from, returns by and to
+abbrev pub sums : List ℕ → History → ℕ → List ℕ
+sums file h p =
     coverIns file p h
     ∷ coverOuts file p h
     ∷ debits file p h
@@ -44,37 +51,127 @@ sums file p h =
     ∷ returnsTo p h
     ∷ []
 
-abbrev pub codes : List Report → List ℕ
-codes rs = map (λ (r : Report). r .code) rs
+-- a participant's cover in the book: available, reserved, held
+abbrev pub left : Book → ℕ → List ℕ
+left b p = coverOf b p .available ∷ coverOf b p .reserved ∷ coverOf b p .held ∷ []
 
-abbrev pub told : List ℕ → ℕ → History → List ℕ
-told file i h =
-    orderAmount i h ∷ orderTime i h ∷ asNumber (isForBank file i h) ∷ asNumber (waits i h) ∷ codes (allEndings i h)
+-- an order as seen: amount, time, whether for a bank, whether it waits, and the codes of its endings, newest ticket first
+abbrev pub told : List ℕ → History → ℕ → List ℕ
+told file h i =
+    orderAmount i h
+    ∷ orderTime i h
+    ∷ asNumber (isForBank file i h)
+    ∷ asNumber (waits i h)
+    ∷ map (λ (r : Report). r .code) (allEndings i h)
 
--- a wrong history: oldest first, and the book at its end
-pub record Wrong : Type 0 where
+-- a row for each number below n
+abbrev pub rowsTo : (ℕ → List ℕ) → ℕ → List (List ℕ)
+rowsTo row zero = []
+rowsTo row (suc n) = rowsTo row n ++ (row n ∷ [])
+
+pub record Day : Type 0 where
+  pub shows : String
+  pub file : List ℕ
+  pub tickets : List (List ℕ)
+  -- each participant's eight sums
+  pub sums : List (List ℕ)
+  -- each order
+  pub orders : List (List ℕ)
+  -- each participant's cover at the end
+  pub covers : List (List ℕ)
+
+abbrev pub runOf : Day → Run
+runOf d = ruled (d .file) (d .tickets)
+
+abbrev pub IsRight : Day → Type 0
+IsRight d =
+    (rowsTo (sums (d .file) (runOf d .history)) (size (d .file)) ≡ d .sums)
+    × (rowsTo (told (d .file) (runOf d .history)) (orderCount (runOf d .history)) ≡ d .orders)
+    × (rowsTo (left (runOf d .book)) (size (d .file)) ≡ d .covers)
+    × Claim (d .file) (runOf d .history) (runOf d .book)
+
+-- oldest first
+pub record Written : Type 0 where
   pub shows : String
   pub file : List ℕ
   pub seen : List Seen
   pub book : Book
-  -- which clauses pass: cover, reserved, waiting, expiry, once, alike
-  pub clauses : List Bool
+  pub fails : String
 
 abbrev pub newestFirst : List Seen → History → History
 newestFirst [] before = before
 newestFirst (s ∷ rest) before = newestFirst rest (s ∷ before)
 
-abbrev pub historyOf : Wrong → History
+abbrev pub historyOf : Written → History
 historyOf w = newestFirst (w .seen) []
 
--- the claim is false of each
-abbrev pub AllFalse : List Wrong → Type 0
+-- the names of the clauses that fail
+abbrev pub failing : List Bool → List String → List (List ℕ)
+failing [] names = []
+failing (c ∷ cs) [] = []
+failing (c ∷ cs) (name ∷ names) = cond c [] (text name ∷ []) ++ failing cs names
+
+abbrev pub listed : List (List ℕ) → List ℕ
+listed [] = []
+listed (s ∷ []) = s
+listed (s ∷ (t ∷ rest)) = s ++ text ", " ++ listed (t ∷ rest)
+
+abbrev pub clausesOf : Written → List Bool
+clausesOf w = clauses (w .file) (historyOf w) (w .book)
+
+abbrev pub failsOf : Written → List ℕ
+failsOf w = listed (failing (clausesOf w) ("cover" ∷ "reserved" ∷ "waiting" ∷ "expiry" ∷ "once" ∷ "alike" ∷ []))
+
+abbrev pub AllFalse : List Written → Type 0
 AllFalse [] = Unit {0}
-AllFalse (w ∷ ws) = (Claim (w .file) (historyOf w) (w .book) → ⊥) × AllFalse ws
+AllFalse (w ∷ ws) = (failsOf w ≡ text (w .fails)) × (Claim (w .file) (historyOf w) (w .book) → ⊥) × AllFalse ws
+
+abbrev pub AllTrue : List Written → Type 0
+AllTrue [] = Unit {0}
+AllTrue (w ∷ ws) = (failsOf w ≡ text (w .fails)) × Claim (w .file) (historyOf w) (w .book) × AllTrue ws
+
+-- the tests that the checker computes
+abbrev pub allWrong : List Written → Bool
+allWrong [] = true
+allWrong (w ∷ ws) = same (failsOf w) (text (w .fails)) && (not (allPass (clausesOf w)) && allWrong ws)
+
+abbrev pub allPassed : List Written → Bool
+allPassed [] = true
+allPassed (w ∷ ws) = same (failsOf w) (text (w .fails)) && (allPass (clausesOf w) && allPassed ws)
+
+not-true : (a : Bool) → not a ≡ true → a ≡ false
+not-true true e = sym e
+not-true false e = refl
+
+pub all-false : (ws : List Written) → allWrong ws ≡ true → AllFalse ws
+all-false [] e = tt
+all-false (w ∷ ws) e =
+    let named = same (failsOf w) (text (w .fails)) in
+    let fails = not (allPass (clausesOf w)) in
+    let rest = and-right named (fails && allWrong ws) e in (
+      same-true (failsOf w) (text (w .fails)) (and-left named (fails && allWrong ws) e),
+      claim-fails (w .file) (historyOf w) (w .book) (not-true (allPass (clausesOf w)) (and-left fails (allWrong ws) rest)),
+      all-false ws (and-right fails (allWrong ws) rest),
+    )
+
+pub all-true : (ws : List Written) → allPassed ws ≡ true → AllTrue ws
+all-true [] e = tt
+all-true (w ∷ ws) e =
+    let named = same (failsOf w) (text (w .fails)) in
+    let passes = allPass (clausesOf w) in
+    let rest = and-right named (passes && allPassed ws) e in (
+      same-true (failsOf w) (text (w .fails)) (and-left named (passes && allPassed ws) e),
+      claim-holds (w .file) (historyOf w) (w .book) (and-left passes (allPassed ws) rest),
+      all-true ws (and-right passes (allPassed ws) rest),
+    )
 
 -- a ticket with its answer and its reports
 abbrev pub answered : List ℕ → ℕ → List Report → Seen
 answered t refusal rs = record { ticket = t; refusal = refusal; count = length rs; rows = 0; buffer = reportsBytes rs }
+
+-- an accepted order that followed one route row
+abbrev pub passedOn : List ℕ → List Report → Seen
+passedOn t rs = record { ticket = t; refusal = 0; count = length rs; rows = 1; buffer = reportsBytes rs }
 
 -- a report: to whom, code, order, amount
 abbrev pub report : ℕ → ℕ → ℕ → ℕ → Report
