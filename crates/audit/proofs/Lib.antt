@@ -1,3 +1,4 @@
 pub mod Testing
 pub mod Rows
 pub mod Days
+pub mod Wrong
