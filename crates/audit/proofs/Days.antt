@@ -13,7 +13,7 @@ use Rattle.rules.specs.Find.{senderIn, orderIn, routeIn}
 use Rattle.rules.specs.Cover.{total}
 use Rattle.rules.specs.Tick.{tick}
 use Rattle.rules.specs.Step.{stepOf, outcome}
-use Rattle.rules.proofs.Writing.{file, bank, bankOpening, linked, direct, onward, coverIn, coverOut, order, yea, nay, recall, return, decline, inquiry, cut, confirm, tickOf}
+use Rattle.rules.proofs.Writing.{file, bank, bankOpening, linked, direct, onward, ticket, coverIn, coverOut, order, yea, nay, recall, return, decline, inquiry, cut, confirm, tickOf}
 use Rattle.rules.proofs.Cases.{twoBanks}
 use Rattle.audit.proofs.Testing.{claim-holds}
 use Rattle.audit.proofs.Rows.{Day, IsRight, runOf}
@@ -61,7 +61,8 @@ busyFile =
     ∷ [])
     []
 
--- all eleven kinds, and refusals 7, 11, 12, 13, 18, 19 and 21. At 26 an inquiry and at 29 a yes come in the very second of a time-out
+-- All eleven kinds, and refusals 7, 11, 12, 13, 18, 19 and 21. At 26 an inquiry, at 29 a yes and at 125 a cover in of no participant come in the very
+-- second of a time-out; a tick with a flag, refused by 7, is late enough for all and lets none expire.
 abbrev pub busyDay : Day
 busyDay = record {
   shows = "a busy day";
@@ -84,6 +85,7 @@ busyDay = record {
       ∷ return 13 "BBBBLV22XXX" 399 "TX1"
       ∷ return 14 "BBBBLV22XXX" 400 "TX1"
       ∷ order 14 "AAAALV22XXX" "BBBBLV22XXX" 70 "TX6"
+      ∷ ticket 11 1 4294967295 0 "" "" "" ""
       ∷ inquiry 26 "AAAALV22XXX" "TX2"
       ∷ inquiry 27 "AAAALV22XXX" "TX3"
       ∷ yea 29 "BBBBLV22XXX" "TX5"
@@ -99,6 +101,7 @@ busyDay = record {
       ∷ confirm 104 "BBBBLV22XXX" 40
       ∷ order 105 "BBBBLV22XXX" "AAAALV22XXX" 90 "TX7"
       ∷ tickOf 124
+      ∷ coverIn 125 "ZZZZLV22XXX" 5
       ∷ tickOf 125
       ∷ order 126 "AAAALV22XXX" "BBBBLV22XXX" 5 "TX8"
       ∷ []);

@@ -155,6 +155,12 @@ more =
     ∷ row "more cover out than there is, and the difference cut off at zero" banks
     (lodged ∷ answered (coverOut 1 "AAAALV22XXX" 1001) 0 [] ∷ [])
     (cover 0 0 0 ∷ cover 0 0 0 ∷ []) [] "cover"
+    ∷ row "a time-out at a ticket refused by 6" banks
+    (lodged ∷ ordered ∷ answered (tickOf 25) 6 (report 0 4 0 400 ∷ report 1 4 0 400 ∷ []) ∷ [])
+    freed (Expired ∷ []) "expiry"
+    ∷ row "a time-out at a ticket refused by 11" banks
+    (lodged ∷ ordered ∷ answered (tickOf 25) 11 (report 0 4 0 400 ∷ report 1 4 0 400 ∷ []) ∷ [])
+    freed (Expired ∷ []) "expiry"
     ∷ row "Waiting in the book after its ending" banks (lodged ∷ ordered ∷ settledAt 24 ∷ []) moved (Waiting ∷ []) "waiting"
     ∷ []
 
