@@ -26,7 +26,7 @@ toLinked = file (bank "AAAALV22XXX" ∷ linked "LLLLLV22XXX" ∷ []) (direct "LL
 abbrev opening : List ℕ
 opening = file (bankOpening "AAAALV22XXX" 100 ∷ bank "BBBBLV22XXX" ∷ []) (direct "BBBBLV22XXX" 1 ∷ []) []
 
--- what is seen, the clauses that fail, and the book: covers and statuses
+-- what it shows, the day file, what is seen, the book's covers and its orders' statuses, the clauses that fail
 abbrev row : String → List ℕ → List Seen → List Cover → List Status → String → Written
 row shows file seen covers statuses fails =
     record { shows = shows; file = file; seen = seen; book = bookWith file covers statuses; fails = fails }
@@ -82,7 +82,9 @@ reviewers =
 -- 01 'Mistakes a clerk would make'
 abbrev pub mistakes : List Written
 mistakes =
-    row "expiring at more than 20 seconds: a yes at 20 settles" banks (lodged ∷ ordered ∷ settledAt 25 ∷ []) moved (Settled None ∷ []) "expiry"
+    row "expiring at more than 20 seconds: a yes at 20 settles" banks
+    (lodged ∷ ordered ∷ settledAt 25 ∷ [])
+    moved (Settled None ∷ []) "expiry"
     ∷ row "adding 20 to a time near the top of 32 bits: the sum wraps, and after 15 seconds the order expires" banks
     (lodged
     ∷ passedOn (order 4294967280 "AAAALV22XXX" "BBBBLV22XXX" 400 "TX1") (report 1 1 0 400 ∷ [])
