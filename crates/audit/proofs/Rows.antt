@@ -65,9 +65,9 @@ told file h i =
     ∷ map (λ (r : Report). r .code) (allEndings i h)
 
 -- a row for each number below n
-abbrev pub rowsTo : (ℕ → List ℕ) → ℕ → List (List ℕ)
-rowsTo row zero = []
-rowsTo row (suc n) = rowsTo row n ++ (row n ∷ [])
+abbrev pub eachTo : (ℕ → List ℕ) → ℕ → List (List ℕ)
+eachTo row zero = []
+eachTo row (suc n) = eachTo row n ++ (row n ∷ [])
 
 pub record Day : Type 0 where
   pub shows : String
@@ -85,9 +85,9 @@ runOf d = ruled (d .file) (d .tickets)
 
 abbrev pub IsRight : Day → Type 0
 IsRight d =
-    (rowsTo (sums (d .file) (runOf d .history)) (size (d .file)) ≡ d .sums)
-    × (rowsTo (told (d .file) (runOf d .history)) (orderCount (runOf d .history)) ≡ d .orders)
-    × (rowsTo (left (runOf d .book)) (size (d .file)) ≡ d .covers)
+    (eachTo (sums (d .file) (runOf d .history)) (size (d .file)) ≡ d .sums)
+    × (eachTo (told (d .file) (runOf d .history)) (orderCount (runOf d .history)) ≡ d .orders)
+    × (eachTo (left (runOf d .book)) (size (d .file)) ≡ d .covers)
     × Claim (d .file) (runOf d .history) (runOf d .book)
 
 -- oldest first

@@ -19,18 +19,18 @@ use Rattle.audit.specs.Orders.{orderCount, orderAmount, waits, waitingSu
 use Rattle.audit.specs.Claim.{outgoing, incoming, AllCarry, codeOf, Claim}
 
 -- two truth values are the same
-abbrev pub alike : Bool → Bool → Bool
-alike true b = b
-alike false b = not b
+abbrev pub agree : Bool → Bool → Bool
+agree true b = b
+agree false b = not b
 
-alike-true : (a b : Bool) → alike a b ≡ true → a ≡ b
-alike-true true b e = sym e
-alike-true false true e = e
-alike-true false false e = refl
+agree-true : (a b : Bool) → agree a b ≡ true → a ≡ b
+agree-true true b e = sym e
+agree-true false true e = e
+agree-true false false e = refl
 
-true-alike : (a b : Bool) → a ≡ b → alike a b ≡ true
-true-alike true b e = sym e
-true-alike false b e = rw (← e)
+true-agree : (a b : Bool) → a ≡ b → agree a b ≡ true
+true-agree true b e = sym e
+true-agree false b e = rw (← e)
 
 and-both : (a b : Bool) → a ≡ true → b ≡ true → (a && b) ≡ true
 and-both a b e f = rw (e, f)
@@ -49,13 +49,13 @@ module _ (file : List ℕ) (h : History) (b : Book) where
   reservedAt p = eqb (coverOf b p .reserved) (waitingSum file p h)
 
   abbrev pub waitingAt : ℕ → Bool
-  waitingAt i = alike (isWaiting (orderOf b i .status)) (waits i h)
+  waitingAt i = agree (isWaiting (orderOf b i .status)) (waits i h)
 
   abbrev pub onceAt : ℕ → Bool
   onceAt i = leb (endingTickets i h) 1
 
 abbrev pub expiryAt : List ℕ → Seen → History → ℕ → Bool
-expiryAt file s before i = alike (letsExpire i s before) (mustExpire file i s before)
+expiryAt file s before i = agree (letsExpire i s before) (mustExpire file i s before)
 
 abbrev pub expiryIn : List ℕ → History → Bool
 expiryIn file [] = true
@@ -100,7 +100,7 @@ expiry-true : (file : List ℕ) (h : History) → expiryIn file h ≡ true
 expiry-true file [] e = tt
 expiry-true file (s ∷ before) e =
     let here = and-left (allTo (expiryAt file s before) (orderCount (s ∷ before))) (expiryIn file before) e in (
-      (λ i l. alike-true (letsExpire i s before) (mustExpire file i s before) (all-at (expiryAt file s before) (orderCount (s ∷ before)) i here l)),
+      (λ i l. agree-true (letsExpire i s before) (mustExpire file i s before) (all-at (expiryAt file s before) (orderCount (s ∷ before)) i here l)),
       expiry-true file before (and-right (allTo (expiryAt file s before) (orderCount (s ∷ before))) (expiryIn file before) e),
     )
 
@@ -109,7 +109,7 @@ true-expiry : (file : List ℕ) (h : History)
 true-expiry file [] c = refl
 true-expiry file (s ∷ before) c =
     and-both (allTo (expiryAt file s before) (orderCount (s ∷ before))) (expiryIn file before)
-    (all-of (expiryAt file s before) (orderCount (s ∷ before)) (λ i l. true-alike (letsExpire i s before) (mustExpire file i s before) (c .0 i l)))
+    (all-of (expiryAt file s before) (orderCount (s ∷ before)) (λ i l. true-agree (letsExpire i s before) (mustExpire file i s before) (c .0 i l)))
     (true-expiry file before (c .1))
 
 -- every clause passes: the claim holds
@@ -134,7 +134,7 @@ module _ (file : List ℕ) (h : History) (b : Book) where
       record {
         cover = λ p l. eqb-true _ _ (all-at (coverAt file h b) (size file) p (and-left c₁ _ e) l);
         reserved = λ p l. eqb-true _ _ (all-at (reservedAt file h b) (size file) p (and-left c₂ _ e₂) l);
-        waiting = λ i l. alike-true _ _ (all-at (waitingAt file h b) (orderCount h) i (and-left c₃ _ e₃) l);
+        waiting = λ i l. agree-true _ _ (all-at (waitingAt file h b) (orderCount h) i (and-left c₃ _ e₃) l);
         expiry = expiry-true file h (and-left c₄ _ e₄);
         once = λ i l. leb-true _ _ (all-at (onceAt file h b) (orderCount h) i (and-left c₅ _ e₅) l);
         alike = λ i l. carry-true (codeOf (allEndings i h)) (orderAmount i h) (allEndings i h) (all-at (alikeAt h) (orderCount h) i (and-left c₆ true e₆) l);
@@ -145,7 +145,7 @@ module _ (file : List ℕ) (h : History) (b : Book) where
   clauses-pass c =
       and-both _ _ (all-of (coverAt file h b) (size file) (λ p l. eq-eqb _ _ (c .cover p l)))
       (and-both _ _ (all-of (reservedAt file h b) (size file) (λ p l. eq-eqb _ _ (c .reserved p l)))
-      (and-both _ _ (all-of (waitingAt file h b) (orderCount h) (λ i l. true-alike _ _ (c .waiting i l)))
+      (and-both _ _ (all-of (waitingAt file h b) (orderCount h) (λ i l. true-agree _ _ (c .waiting i l)))
       (and-both _ _ (true-expiry file h (c .expiry))
       (and-both _ _ (all-of (onceAt file h b) (orderCount h) (λ i l. le-leb _ _ (c .once i l)))
       (and-both _ true (all-of (alikeAt h) (orderCount h) (λ i l. true-carry (codeOf (allEndings i h)) (orderAmount i h) (allEndings i h) (c .alike i l))) refl)))))

@@ -5,10 +5,10 @@
 --     reports       a ticket's reports: as many as its report count, from the buffer's start
 --     isAccepted    its refusal is 0
 --     isSentBy      its sender is participant p
---     isBankTo      participant p is a bank
+--     isBank        participant p is a bank
 -- Everything is read off the day file's bytes and the history's. Assumes nothing.
 use Prim.Native.Nat.{ℕ}
-use mathlib.Core.Bool.{Bool, true, false, _&&_}
+use mathlib.Core.Bool.{Bool, _&&_}
 use mathlib.Core.List.{List, [], _∷_}
 use lib.Dec.{ltb, eqb}
 use Rattle.fields.specs.Text.{same}
@@ -17,8 +17,7 @@ use Rattle.report.specs.Layout.{reportsOf}
 use Rattle.report.specs.declared.Report.{Report}
 use Rattle.dayfile.specs.DayFile.{dayFile}
 use Rattle.dayfile.specs.Guarantee.{participantOf}
-use Rattle.dayfile.specs.declared.roster.PartyKind.{PartyKind}
-use Rattle.dayfile.specs.declared.roster.PartyKind.the-variants.{Bank, Linked}
+use Rattle.dayfile.specs.Roster.{bankKind}
 
 pub record Seen : Type 0 where
   pub ticket : List ℕ
@@ -54,9 +53,5 @@ size file = dayFile file .roster .size
 abbrev pub isSentBy : List ℕ → ℕ → Seen → Bool
 isSentBy file p s = same (participantOf (dayFile file .roster) p .bic) (senderOf (s .ticket))
 
-abbrev pub bankKind : PartyKind → Bool
-bankKind Bank = true
-bankKind Linked = false
-
-abbrev pub isBankTo : List ℕ → ℕ → Bool
-isBankTo file p = ltb p (size file) && bankKind (participantOf (dayFile file .roster) p .kind)
+abbrev pub isBank : List ℕ → ℕ → Bool
+isBank file p = ltb p (size file) && bankKind (participantOf (dayFile file .roster) p .kind)

@@ -15,7 +15,7 @@ use lib.Dec.{leb, ltb, eqb}
 use Rattle.fields.specs.Text.{same}
 use Rattle.ticket.specs.Layout.{timeOf, amountOf, txidOf}
 use Rattle.report.specs.declared.Report.{Report}
-use Rattle.audit.specs.History.{Seen, History, reports, isKind, isSentBy, isBankTo}
+use Rattle.audit.specs.History.{Seen, History, reports, isKind, isSentBy, isBank}
 use Rattle.audit.specs.Sums.{sumOver, firstWith, amountIf}
 
 -- an order is an accepted ticket of kind 3
@@ -44,7 +44,7 @@ orderTime i h = ofOrder i (λ s. timeOf (s .ticket)) h
 -- it is for a bank if its report 1 goes to one
 abbrev pub toBank : List ℕ → List Report → Bool
 toBank file [] = false
-toBank file (r ∷ rs) = isBankTo file (r .to)
+toBank file (r ∷ rs) = isBank file (r .to)
 
 abbrev pub asNumber : Bool → ℕ
 asNumber true = 1

@@ -1,11 +1,12 @@
 -- The roster that a file's rows give. Rows that are not in use are the zero of their type.
 --     participantAt, routeAt        the row at a place
 --     participantsTo, routesTo      the first n rows
+--     bankKind                      whether a kind is that of a bank
 --     rosterOf                      participants and routes
 --     emptyRoster                   none of either
 -- Assumes nothing.
 use Prim.Native.Nat.{ℕ, _+_, _*_}
-use mathlib.Core.Bool.{cond}
+use mathlib.Core.Bool.{Bool, true, false, cond}
 use mathlib.Core.List.{List}
 use lib.Dec.{eqb}
 use lib.ListN.{getD, replicate}
@@ -25,6 +26,10 @@ use Rattle.dayfile.specs.declared.roster.Roster.{Roster}
 -- 01: a kind (0 bank, 1 linked system such as RT1)
 abbrev pub kindOf : ℕ → PartyKind
 kindOf b = cond (eqb b 1) Linked Bank
+
+abbrev pub bankKind : PartyKind → Bool
+bankKind Bank = true
+bankKind Linked = false
 
 -- 01: if it wishes, an opening cover (0 included)
 abbrev pub openingOf : ℕ → ℕ → Opening

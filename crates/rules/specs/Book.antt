@@ -5,13 +5,12 @@
 --     isBank              participant p is a bank, and no linked system
 -- Assumes nothing.
 use Prim.Native.Nat.{ℕ}
-use mathlib.Core.Bool.{Bool, true, false}
+use mathlib.Core.Bool.{Bool}
 use mathlib.Core.List.{List, []}
 use lib.ListN.{getD, replicate}
 use Rattle.dayfile.specs.DayFile.{dayFile}
 use Rattle.dayfile.specs.Guarantee.{participantOf}
-use Rattle.dayfile.specs.declared.roster.PartyKind.{PartyKind}
-use Rattle.dayfile.specs.declared.roster.PartyKind.the-variants.{Bank, Linked}
+use Rattle.dayfile.specs.Roster.{bankKind}
 use Rattle.dayfile.specs.declared.roster.Roster.{Roster}
 use Rattle.rules.specs.declared.Status.the-variants.{Waiting}
 use Rattle.rules.specs.declared.Order.{Order}
@@ -40,10 +39,6 @@ freshBook roster = record { clock = 0; covers = replicate 32 noCover; orders = r
 
 abbrev pub bookOf : List ℕ → Book
 bookOf file = freshBook (dayFile file .roster)
-
-abbrev pub bankKind : PartyKind → Bool
-bankKind Bank = true
-bankKind Linked = false
 
 abbrev pub isBank : Book → ℕ → Bool
 isBank b p = bankKind (participantOf (b .roster) p .kind)

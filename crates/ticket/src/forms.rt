@@ -46,6 +46,20 @@ fn about(least: u64, most: u64) -> Form
     }
 }
 
+// A kind that lists nothing.
+fn nothing() -> Form
+    ensures { λ r. ⌜ r ≡ emptyForm ⌝ }
+{
+    Form {
+        sender: false,
+        payee: false,
+        txid: false,
+        iban: false,
+        least: 0,
+        most: 0,
+    }
+}
+
 pub fn form_of(kind: Kind) -> Form
     ensures { λ r. ⌜ r ≡ formOf kind ⌝ }
 {
@@ -69,18 +83,5 @@ pub fn form_of(kind: Kind) -> Form
         Kind::Cut => nothing(),
         Kind::Confirm => cover(0),
         Kind::Tick => nothing(),
-    }
-}
-
-fn nothing() -> Form
-    ensures { λ r. ⌜ r ≡ emptyForm ⌝ }
-{
-    Form {
-        sender: false,
-        payee: false,
-        txid: false,
-        iban: false,
-        least: 0,
-        most: 0,
     }
 }
