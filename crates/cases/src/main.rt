@@ -1,8 +1,8 @@
-// Runs worked cases. Standard input has a case a line, at most 65,536 bytes in all. A line's first word says what is asked, in four
-// letters with a space behind them; each line is printed with the answer behind it, and a line that asks nothing known with a
-// question mark.
+// Runs worked cases. Standard input has a case a line, at most 65,536 bytes in all. A line's first letter says what is asked, and what
+// it is asked of begins at the sixth place; each line is printed with the answer behind it, and one that is too short or begins
+// otherwise with a question mark.
 //
-//     bic, iban, txid TEXT    whether the text is such a code
+//     bic, iban, txid TEXT    (a bic has two spaces before its text) whether the text is such a code
 //     read NAME BYTES         what the bytes read as if they are a ticket: the refusal, or 0 and the kind, time and amount
 //     part NAME BYTES         the TxId part of such a ticket
 //     file NAME BYTES         what they give as a day file: the refusal, the participants, the routes, the tickets and the first one's
