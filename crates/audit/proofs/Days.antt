@@ -9,7 +9,7 @@ use Rattle.codes.specs.Txid.{isTxid}
 use Rattle.ticket.specs.Reading.{reading}
 use Rattle.dayfile.specs.DayFile.{dayFile}
 use Rattle.dayfile.specs.Route.{followed}
-use Rattle.rules.specs.Find.{senderIn, orderIn, routeIn}
+use Rattle.rules.specs.Find.{senderIn, orderIn, routeIn, wayIn}
 use Rattle.rules.specs.Cover.{total}
 use Rattle.rules.specs.Tick.{tick}
 use Rattle.rules.specs.Step.{stepOf, outcome}
@@ -127,13 +127,13 @@ busyDay = record {
 }
 
 pub caseD-right : IsRight caseD
-unfolding isBic isIban isTxid reading dayFile followed senderIn orderIn routeIn total tick stepOf outcome
+unfolding isBic isIban isTxid reading dayFile followed senderIn orderIn routeIn wayIn total tick stepOf outcome
 caseD-right = (refl, refl, refl, claim-holds (caseD .file) (runOf caseD .history) (runOf caseD .book) refl)
 
 pub caseE-right : IsRight caseE
-unfolding isBic isIban isTxid reading dayFile followed senderIn orderIn routeIn total tick stepOf outcome
+unfolding isBic isIban isTxid reading dayFile followed senderIn orderIn routeIn wayIn total tick stepOf outcome
 caseE-right = (refl, refl, refl, claim-holds (caseE .file) (runOf caseE .history) (runOf caseE .book) refl)
 
 pub busyDay-right : IsRight busyDay
-unfolding isBic isIban isTxid reading dayFile followed senderIn orderIn routeIn total tick stepOf outcome
+unfolding isBic isIban isTxid reading dayFile followed senderIn orderIn routeIn wayIn total tick stepOf outcome
 busyDay-right = (refl, refl, refl, claim-holds (busyDay .file) (runOf busyDay .history) (runOf busyDay .book) refl)

@@ -5,6 +5,9 @@ use super::words;
 use dayfile::roster::Roster;
 use dayfile::route::Followed;
 use libc::STDOUT_FILENO;
+ghost use mathlib.Core.Path.{_≡_};
+ghost use Rattle.dayfile.specs.DayFile.{dayFile};
+ghost use Rattle.dayfile.specs.Route.{followedBic};
 
 fn print_way(way: Followed) {
     match way {
@@ -43,5 +46,29 @@ pub fn run_file(line: &[u8]) {
     print::print_number(d.tickets as u64);
     print::print_number(d.first as u64);
     print_routes(r);
+    print::print_end();
+}
+
+fn way_of(f: &[u8], bic: &[u8]) -> Followed
+    ensures { λ r. ⌜ r ≡ followedBic (dayFile (now (f .entry)) .roster) (now (bic .entry)) ⌝ }
+{
+    let d = dayfile::read_day_file(f);
+    let r = d.roster;
+    dayfile::route::follow_bic(r, bic)
+}
+
+pub fn run_way(line: &[u8]) {
+    let name = words::find(line, 0, b' ');
+    io::write_all(STDOUT_FILENO, b"way  ");
+    if line.len() <= name {
+        io::write_all(STDOUT_FILENO, line);
+        io::write_all(STDOUT_FILENO, b" ?\n");
+        return;
+    }
+    let end = words::find(line, name + 1, b' ');
+    io::write_all(STDOUT_FILENO, &line[0..end]);
+    let mut buffer = io::large_buffer();
+    let n = bytes::put_bytes(line, end, &mut buffer);
+    print_way(way_of(&buffer[0..n], &line[name + 1..end]));
     print::print_end();
 }

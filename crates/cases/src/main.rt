@@ -7,6 +7,7 @@
 //     part NAME BYTES         the TxId part of such a ticket
 //     file NAME BYTES         what they give as a day file: the refusal, the participants, the routes, the tickets and the first one's
 //                             place; then for each route row where it leads and in how many rows
+//     way  NAME BIC BYTES     (two spaces before the name) where the BIC leads in such a day file and in how many rows, or - for nowhere
 //
 // BYTES are groups of hexadecimal digits between spaces; a group with an x and a number behind it stands that many times.
 mod bytes;
@@ -33,6 +34,7 @@ fn run_line(line: &[u8]) {
         b'r' => tickets::run_read(rest),
         b'p' => tickets::run_part(rest),
         b'f' => files::run_file(rest),
+        b'w' => files::run_way(rest),
         _ => {
             io::write_all(STDOUT_FILENO, line);
             io::write_all(STDOUT_FILENO, b" ?\n");

@@ -1,4 +1,4 @@
--- The roster of a file has what `Guaranteed` says, accepted or refused; an accepted file's tickets lie within it.
+-- An accepted file has what `GuaranteedFile` says; the roster of a refused one has what `Guaranteed` says too.
 -- Assumes nothing.
 use mathlib.Core.Path.{_≡_, refl, sym, _∙_, ap, ap₂, subst}
 use mathlib.Core.Bool.{Bool, true, false, _&&_, _||_, not, cond}
@@ -18,9 +18,9 @@ use Rattle.fields.proofs.UpTo.{all-at, none-at, rows-length, row-at}
 use Rattle.dayfile.specs.Header.{headed}
 use Rattle.dayfile.specs.Rows.{participantOk, limitOf, routeOk, bicAmong, mostOpening}
 use Rattle.dayfile.specs.Check.{InRange, ranged, placed, rowed, participantRight, routeRight, participantsOk, routesOk}
-use Rattle.dayfile.specs.Roster.{kindOf, openingOf, targetOf, participantAt, routeAt, participantsTo, routesTo, rosterOf, emptyRoster, noParticipant, noRoute}
+use Rattle.dayfile.specs.Roster.{kindOf, openingOf, targetOf, participantAt, routeAt, participantsTo, routesTo, rosterOf, emptyRoster, noParticipant, noRoute, participantOf, routeOf}
 use Rattle.dayfile.specs.DayFile.{dayFile}
-use Rattle.dayfile.specs.Guarantee.{participantOf, routeOf, OpeningWithin, LeadsWithin, Guaranteed}
+use Rattle.dayfile.specs.Guarantee.{OpeningWithin, LeadsWithin, Guaranteed, GuaranteedFile}
 use Rattle.dayfile.proofs.Passing.{Accepted, Refused, outcome, accepted}
 use Rattle.dayfile.specs.declared.header.Sections.{Sections}
 use Rattle.dayfile.specs.declared.roster.Opening.the-variants.{None, Cover}
@@ -162,10 +162,19 @@ guaranteed f =
     (λ (r : Refused f). rw (r .file) empty-guaranteed)
     (outcome f)
 
--- an accepted file's tickets lie within it
-pub tickets-within : (f : List ℕ) → dayFile f .refusal ≡ 0 → (k : ℕ) → k < dayFile f .tickets → dayFile f .first + 108 * k + 108 ≤ length f
-tickets-within f z k h =
+-- what an accepted file guarantees
+pub file-guaranteed : (f : List ℕ) → dayFile f .refusal ≡ 0 → GuaranteedFile f
+file-guaranteed f z =
     let a = accepted f z in
     let p = a .place in
-    let l : k < a .header .counts .tickets = rw (a .file) at h in
-    rw (a .file) (omega arith)
+    record {
+      roster = guaranteed f;
+      least = rw (a .file) (a .range .least);
+      tickets = rw (a .file) (a .range .tickets);
+      first = rw (a .file) (p .tickets);
+      end = rw (a .file) (omega arith);
+    }
+
+-- its tickets lie within it
+pub tickets-within : (f : List ℕ) → dayFile f .refusal ≡ 0 → (k : ℕ) → k < dayFile f .tickets → dayFile f .first + 108 * k + 108 ≤ length f
+tickets-within f z k h = let g = file-guaranteed f z in omega arith

@@ -1,31 +1,24 @@
--- What the roster of an accepted file guarantees.
---     participantOf, routeOf   the rows in use, by number
+-- What an accepted file guarantees.
 --     OpeningWithin            an opening is none or at most 10^15
 --     LeadsWithin              a target is a participant, or a row below the row's own number
---     Guaranteed               all of it
+--     Guaranteed               the roster: counts, BICs, openings, where each row points
+--     GuaranteedFile           the roster, at least one participant, and where the tickets lie
 -- Assumes nothing.
-use Prim.Native.Nat.{ℕ, _≤_, _<_}
+use Prim.Native.Nat.{ℕ, _+_, _*_, _≤_, _<_}
 use mathlib.Core.Path.{_≡_}
 use mathlib.Core.Bool.{Bool, true, false}
-use mathlib.Core.List.{List, []}
-use lib.ListN.{length, getD}
+use mathlib.Core.List.{List}
+use lib.ListN.{length}
 use Rattle.codes.specs.Bic.{isBic}
 use Rattle.fields.specs.Text.{same}
 use Rattle.dayfile.specs.Rows.{mostOpening}
-use Rattle.dayfile.specs.declared.roster.PartyKind.the-variants.{Bank}
+use Rattle.dayfile.specs.Roster.{participantOf, routeOf}
+use Rattle.dayfile.specs.DayFile.{dayFile}
 use Rattle.dayfile.specs.declared.roster.Opening.{Opening}
 use Rattle.dayfile.specs.declared.roster.Opening.the-variants.{None, Cover}
 use Rattle.dayfile.specs.declared.roster.Target.{Target}
 use Rattle.dayfile.specs.declared.roster.Target.the-variants.{To, Row}
-use Rattle.dayfile.specs.declared.roster.Participant.{Participant}
-use Rattle.dayfile.specs.declared.roster.Route.{Route}
 use Rattle.dayfile.specs.declared.roster.Roster.{Roster}
-
-abbrev pub participantOf : Roster → ℕ → Participant
-participantOf r p = getD (r .participants) p (record { bic = []; kind = Bank; opening = None })
-
-abbrev pub routeOf : Roster → ℕ → Route
-routeOf r i = getD (r .routes) i (record { bic = []; target = To 0 })
 
 abbrev pub OpeningWithin : Opening → Type 0
 OpeningWithin None = Unit {0}
@@ -46,3 +39,10 @@ pub record Guaranteed (r : Roster) : Type 0 where
   pub routeBic : (i : ℕ) → i < r .rows → isBic (routeOf r i .bic) ≡ true
   pub routeDistinct : (i j : ℕ) → i < j → j < r .rows → same (routeOf r i .bic) (routeOf r j .bic) ≡ false
   pub leads : (i : ℕ) → i < r .rows → LeadsWithin (r .size) i (routeOf r i .target)
+
+pub record GuaranteedFile (f : List ℕ) : Type 0 where
+  pub roster : Guaranteed (dayFile f .roster)
+  pub least : 1 ≤ dayFile f .roster .size
+  pub tickets : dayFile f .tickets ≤ 512
+  pub first : dayFile f .first ≡ 12 + 24 * dayFile f .roster .size + 16 * dayFile f .roster .rows
+  pub end : length f ≡ dayFile f .first + 108 * dayFile f .tickets

@@ -3,11 +3,12 @@
 --     participantsTo, routesTo      the first n rows
 --     bankKind                      whether a kind is that of a bank
 --     rosterOf                      participants and routes
+--     participantOf, routeOf        the rows of a roster, by number
 --     emptyRoster                   none of either
 -- Assumes nothing.
 use Prim.Native.Nat.{ℕ, _+_, _*_}
 use mathlib.Core.Bool.{Bool, true, false, cond}
-use mathlib.Core.List.{List}
+use mathlib.Core.List.{List, []}
 use lib.Dec.{eqb}
 use lib.ListN.{getD, replicate}
 use Rattle.fields.specs.Number.{part, numberAt}
@@ -73,3 +74,9 @@ rosterOf n start f =
 
 abbrev pub emptyRoster : Roster
 emptyRoster = record { participants = replicate 32 noParticipant; size = 0; routes = replicate 64 noRoute; rows = 0 }
+
+abbrev pub participantOf : Roster → ℕ → Participant
+participantOf r p = getD (r .participants) p (record { bic = []; kind = Bank; opening = None })
+
+abbrev pub routeOf : Roster → ℕ → Route
+routeOf r i = getD (r .routes) i (record { bic = []; target = To 0 })

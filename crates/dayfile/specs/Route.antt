@@ -1,15 +1,23 @@
--- Following a route: 01 'Participants, routes, codes'.
---     followed     from a row on: the participant reached and the number of rows followed, or Nowhere
---     followTo     the same in at most n rows
+-- Following a payee BIC: 01 'Participants, routes, codes'.
+--     followed      from a row on: the participant reached and the number of rows followed, or Nowhere
+--     followTo      the same in at most n rows
+--     rowWith       the row with a BIC
+--     followedBic   from that row on
 -- Assumes nothing.
 use Prim.Native.Nat.{ℕ, zero, suc, _+_}
 use mathlib.Core.Bool.{cond}
 use mathlib.Core.List.{List, []}
 use lib.Dec.{ltb}
 use lib.ListN.{getD}
+use Rattle.fields.specs.Text.{same}
+use Rattle.fields.specs.Search.{firstTo}
+use Rattle.fields.specs.declared.search.Found.{Found}
+use Rattle.fields.specs.declared.search.Found.the-variants as found
+use Rattle.dayfile.specs.Roster.{routeOf}
 use Rattle.dayfile.specs.declared.roster.Target.{Target}
 use Rattle.dayfile.specs.declared.roster.Target.the-variants.{To, Row}
 use Rattle.dayfile.specs.declared.roster.Route.{Route}
+use Rattle.dayfile.specs.declared.roster.Roster.{Roster}
 use Rattle.dayfile.specs.declared.route.Followed.{Followed}
 use Rattle.dayfile.specs.declared.route.Followed.the-variants.{At, Nowhere}
 
@@ -32,3 +40,15 @@ followTo (suc n) routes row = leads (λ k. followTo n routes k) row (readRoute r
 -- a row is followed in no more rows than its number and itself; there are 64 rows
 unfoldable pub followed : List Route → ℕ → Followed
 followed routes row = cond (ltb row 64) (followTo (suc row) routes row) Nowhere
+
+-- the first row with the BIC; in an accepted file no other has it
+abbrev pub rowWith : Roster → List ℕ → Found
+rowWith r bic = firstTo (λ i. same (routeOf r i .bic) bic) (r .rows)
+
+abbrev pub followedFrom : Roster → Found → Followed
+followedFrom r (found.At row) = followed (r .routes) row
+followedFrom r found.Nothing = Nowhere
+
+-- 01: following a payee BIC starts at the row with that BIC
+abbrev pub followedBic : Roster → List ℕ → Followed
+followedBic r bic = followedFrom r (rowWith r bic)

@@ -1,4 +1,4 @@
-// Reading a day file: refusals 1 to 5 in the paper's order, or the roster and where the tickets lie; and following a route.
+// Reading a day file: refusals 1 to 5 in the paper's order, or the roster and where the tickets lie; and following a payee BIC.
 // Any bytes of any length may be handed in.
 mod check;
 mod header;

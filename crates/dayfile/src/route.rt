@@ -1,8 +1,12 @@
-// Following a route: from a row on, until a participant is reached. The row number falls at each call.
+// Following a payee BIC: from the row with that BIC on, until a participant is reached. The row number falls at each call.
+use super::roster::Roster;
 use super::roster::Route;
 use super::roster::Target;
+use fields::Found;
 ghost use mathlib.Core.Path.{_≡_};
-ghost use Rattle.dayfile.specs.Route.{followed};
+ghost use Prim.Native.Nat.{_≤_};
+ghost use Rattle.fields.specs.Text.{same};
+ghost use Rattle.dayfile.specs.Route.{followed, rowWith, followedBic};
 
 // The participant reached and the number of rows followed.
 pub enum Followed {
@@ -30,4 +34,38 @@ pub fn follow(routes: [Route; 64], row: usize) -> Followed
             }
         }
     }
+}
+
+fn has_bic(route: Route, bic: &[u8]) -> bool
+    ensures { λ q. ⌜ q ≡ same (route .bic) (now (bic .entry)) ⌝ }
+{
+    let own = route.bic;
+    fields::same_bytes(&own, bic)
+}
+
+// The row with a BIC. A roster that was read from a file has at most 64 rows.
+pub fn row_with(r: Roster, bic: &[u8]) -> Found
+    requires { ⌜ r .rows ≤ 64 ⌝ }
+    ensures { λ q. ⌜ q ≡ rowWith r (now (bic .entry)) ⌝ }
+{
+    let rows = r.rows;
+    let routes = r.routes;
+    let mut found = Found::Nothing;
+    let mut i = 0;
+    while i < rows {
+        found = fields::found_or(found, i, has_bic(routes[i], bic));
+        i += 1;
+    }
+    found
+}
+
+pub fn follow_bic(r: Roster, bic: &[u8]) -> Followed
+    requires { ⌜ r .rows ≤ 64 ⌝ }
+    ensures { λ q. ⌜ q ≡ followedBic r (now (bic .entry)) ⌝ }
+{
+    let Found::At(row) = row_with(r, bic) else {
+        return Followed::Nowhere;
+    };
+    let routes = r.routes;
+    follow(routes, row)
 }

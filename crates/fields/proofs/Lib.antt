@@ -5,3 +5,4 @@ pub mod BigEndian
 pub mod Padding
 pub mod Same
 pub mod UpTo
+pub mod Finding

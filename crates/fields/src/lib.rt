@@ -1,5 +1,7 @@
-// Fields of bytes: big-endian numbers at a place, padding with zero bytes, and whether two fields hold the same bytes.
+// Fields of bytes: big-endian numbers at a place, padding with zero bytes, and whether two fields hold the same bytes; and what a
+// search among rows finds.
 mod number;
+mod search;
 mod text;
 
 pub use number::put_u16;
@@ -8,6 +10,8 @@ pub use number::put_u64;
 pub use number::u16_at;
 pub use number::u32_at;
 pub use number::u64_at;
+pub use search::Found;
+pub use search::found_or;
 pub use text::copy;
 pub use text::same_bytes;
 pub use text::unpadded;

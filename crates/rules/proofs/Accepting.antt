@@ -6,16 +6,19 @@ use Prim.Native.Nat.{ℕ, _+_, _≤_, _<_}
 use borrow.Author.Tests.{ltb-false, leb-false, eqb-true, not-false, not-true}
 use lib.Dec.{leb, ltb, eqb}
 use Rattle.fields.specs.Text.{same}
+use Rattle.fields.specs.Search.{isFound, numberOf}
+use Rattle.fields.proofs.Finding.{FoundAt, found-at, not-found}
 use Rattle.ticket.specs.Layout.{senderOf, payeeOf, txidField}
 use Rattle.ticket.specs.Form.{formOf}
 use Rattle.ticket.specs.declared.kinds.Kind.{Kind}
-use Rattle.dayfile.specs.Guarantee.{participantOf, routeOf}
+use Rattle.dayfile.specs.Roster.{participantOf}
+use Rattle.dayfile.specs.Guarantee.{Guaranteed}
+use Rattle.dayfile.proofs.Arriving.{bic-arrives}
 use Rattle.rules.specs.Book.{orderOf, coverOf}
-use Rattle.rules.specs.Find.{isFound, numberOf, senderIn, orderIn, routeIn}
+use Rattle.rules.specs.Find.{senderIn, orderIn, routeIn, wayIn, payeeOfWay}
 use Rattle.rules.specs.Cover.{total, mostTotal}
 use Rattle.rules.specs.Refusal.{senderNumber, orderNumber, isOrder, isAbout, partyOf, isReady, isReturn, isDrawing, isAdding, refusal12, refusal13, refusal14, refusal15, refusal16, refusal17, refusal18, refusal19, refusal20, refusal22}
 use Rattle.rules.specs.declared.Book.{Book}
-use Rattle.rules.proofs.Finding.{FoundAt, found-at, not-found}
 
 -- the second of two tests failed, the first having passed
 second : (a c : Bool) → (a && c) ≡ false → a ≡ true → c ≡ false
@@ -38,12 +41,11 @@ module _ (b : Book) (k : Kind) (t : List ℕ) where
       not-found (λ i. same (orderOf b i .txid) (txidField t)) (b .count) (second (isOrder k) (isFound (orderIn b t)) e is)
 
   -- 14 passed
-  pub route-found : refusal14 b k t ≡ false → isOrder k ≡ true → isFound (routeIn b t) ≡ true
-  route-found e is = not-false _ (second (isOrder k) (not (isFound (routeIn b t))) e is)
-
-  pub route-row : isFound (routeIn b t) ≡ true → FoundAt (λ i. same (routeOf (b .roster) i .bic) (payeeOf t)) (b .roster .rows) (numberOf (routeIn b t))
-  unfolding routeIn
-  route-row e = found-at (λ i. same (routeOf (b .roster) i .bic) (payeeOf t)) (b .roster .rows) e
+  pub payee-known : Guaranteed (b .roster) → refusal14 b k t ≡ false → isOrder k ≡ true → payeeOfWay (wayIn b t) < b .roster .size
+  unfolding routeIn wayIn
+  payee-known g e is =
+      let a = bic-arrives (b .roster) g (payeeOf t) (not-false _ (second (isOrder k) (not (isFound (routeIn b t))) e is)) in
+      rw (a .is) (a .known)
 
   -- 15 passed
   pub room-left : refusal15 b k ≡ false → isOrder k ≡ true → b .count < 256

@@ -12,7 +12,8 @@ use Rattle.fields.specs.UpTo.{anyTo}
 use Rattle.fields.proofs.Tests.{or-left, or-right}
 use Rattle.fields.proofs.UpTo.{none-at}
 use Rattle.dayfile.specs.Rows.{mostOpening}
-use Rattle.dayfile.specs.Guarantee.{participantOf, OpeningWithin}
+use Rattle.dayfile.specs.Roster.{participantOf}
+use Rattle.dayfile.specs.Guarantee.{OpeningWithin}
 use Rattle.dayfile.specs.declared.roster.Opening.{Opening}
 use Rattle.dayfile.specs.declared.roster.Opening.the-variants as opening
 use Rattle.rules.specs.Book.{noCover, coverOf}

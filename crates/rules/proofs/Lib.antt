@@ -4,7 +4,6 @@ pub mod Same
 pub mod Moves
 pub mod Orders
 pub mod Keeping
-pub mod Finding
 pub mod Refusing
 pub mod Sweeping
 pub mod Accepting

@@ -19,11 +19,12 @@ use Rattle.ticket.proofs.Telling.{Tells, read-tells}
 use Rattle.report.specs.Layout.{Fitting, AllFitting}
 use Rattle.report.specs.declared.Report.{Report}
 use Rattle.dayfile.specs.Rows.{mostOpening}
-use Rattle.dayfile.specs.Guarantee.{participantOf, OpeningWithin}
+use Rattle.dayfile.specs.Roster.{participantOf}
+use Rattle.dayfile.specs.Guarantee.{OpeningWithin}
 use Rattle.dayfile.specs.declared.roster.Opening.{Opening}
 use Rattle.dayfile.specs.declared.roster.Opening.the-variants as opening
 use Rattle.rules.specs.Book.{orderOf, coverOf, isBank}
-use Rattle.rules.specs.Find.{routeIn, followFound, payeeOfWay}
+use Rattle.rules.specs.Find.{wayIn, payeeOfWay}
 use Rattle.rules.specs.Tell.{Told, tellOrder, tellCut}
 use Rattle.rules.specs.Tick.{due, expireTold, sweepTo, atTime, tick}
 use Rattle.rules.specs.Refusal.{senderNumber, orderNumber, isOpen, firstRefusal}
@@ -37,12 +38,11 @@ use Rattle.rules.specs.declared.Status.the-variants as status
 use Rattle.rules.specs.declared.Book.{Book}
 use Rattle.rules.proofs.Limits.{available-limited, participant-below, order-below}
 use Rattle.rules.proofs.Refusing.{NoRefusal, none-applies}
-use Rattle.rules.proofs.Accepting.{route-found, route-row, room-left, order-found}
+use Rattle.rules.proofs.Accepting.{payee-known, room-left, order-found}
 use Rattle.rules.proofs.Keeping.{later-sound}
 use Rattle.rules.proofs.Sweeping.{Swept, swept}
 use Rattle.rules.proofs.Sweeping as sweeping
 use Rattle.rules.proofs.Cutting.{Cut, cut-to}
-use Rattle.rules.proofs.Stepping.{payee-known}
 
 -- reports that fit, and at most so many of them
 pub record Few (n : ℕ) (rs : List Report) : Type 0 where
@@ -165,8 +165,7 @@ own-few : (b : Book) → Sound b → (n time : ℕ) (t : List ℕ) (k : Kind) �
 own-few b s n time t kind.CoverIn tells r = few-more 0 32 [] (omega arith) few-none
 own-few b s n time t kind.CoverOut tells r = few-more 0 32 [] (omega arith) few-none
 own-few b s n time t kind.Order tells r =
-    let route = route-found b kind.Order t (r .r14) refl in
-    let known = payee-known b s (routeIn b t) route (route-row b kind.Order t route .below) in
+    let known = payee-known b kind.Order t (s .roster) (r .r14) refl in
     few-more 1 32 _ (omega arith)
     (few-one _
     (record {

@@ -19,9 +19,8 @@ use Rattle.ticket.proofs.Telling.{Tells, read-tells, listed-txid}
 use Rattle.dayfile.specs.DayFile.{dayFile}
 use Rattle.dayfile.specs.declared.route.Followed.{Followed}
 use Rattle.dayfile.proofs.Accepted.{guaranteed}
-use Rattle.dayfile.proofs.Arriving.{Arrives, arrives}
 use Rattle.rules.specs.Book.{orderOf, coverOf, bookOf}
-use Rattle.rules.specs.Find.{isFound, numberOf, routeIn, followFound, payeeOfWay}
+use Rattle.rules.specs.Find.{wayIn, payeeOfWay}
 use Rattle.rules.specs.Cover.{total}
 use Rattle.rules.specs.Tell.{Told}
 use Rattle.rules.specs.Tick.{isWaiting, tick}
@@ -32,13 +31,11 @@ use Rattle.rules.specs.Sound.{Sound}
 use Rattle.rules.specs.declared.Recall.the-variants as mark
 use Rattle.rules.specs.declared.Status.{Status}
 use Rattle.rules.specs.declared.Status.the-variants as status
-use Rattle.rules.specs.declared.Found.{Found}
-use Rattle.rules.specs.declared.Found.the-variants.{At, Nothing}
 use Rattle.rules.specs.declared.Book.{Book}
 use Rattle.rules.proofs.Keeping as keeping
 use Rattle.rules.proofs.Cutting.{cut-to, confirmed-sound}
 use Rattle.rules.proofs.Refusing.{NoRefusal, none-applies}
-use Rattle.rules.proofs.Accepting.{sender-found, txid-free, route-found, route-row, room-left, order-found, right-party, status-ready, full-amount, cover-there, limit-kept}
+use Rattle.rules.proofs.Accepting.{sender-found, txid-free, payee-known, room-left, order-found, right-party, status-ready, full-amount, cover-there, limit-kept}
 use Rattle.rules.proofs.Sweeping.{Swept}
 use Rattle.rules.proofs.Sweeping as sweeping
 
@@ -57,11 +54,6 @@ asked-not-waiting status.Expired e = refl
 asked-not-waiting status.Returned e = refl
 asked-not-waiting (status.Settled m) e = refl
 
--- a route that is found arrives at a participant
-pub payee-known : (b : Book) → Sound b → (f : Found) → isFound f ≡ true → numberOf f < b .roster .rows → payeeOfWay (followFound b f) < b .roster .size
-payee-known b s (At row) e l = let a = arrives (b .roster) (s .roster) row l in rw (a .is) (a .known)
-payee-known b s Nothing e l = let z : _≡_ {A = ℕ} 0 1 = cc in absurd (omega arith)
-
 module _ (b : Book) (s : Sound b) (n time : ℕ) (t : List ℕ) where
   -- the ticket's own step
   pub own-sound : (k : Kind) → Tells t (record { kind = k; time = time; amount = n }) → time ≡ b .clock → NoRefusal b k n t → Sound (ownStep b k n time t .book)
@@ -71,12 +63,11 @@ module _ (b : Book) (s : Sound b) (n time : ℕ) (t : List ℕ) where
   own-sound kind.CoverOut tells now r =
       keeping.drawn-sound b s (senderNumber b t) (sender-found b kind.CoverOut t (r .r12) refl .below) n (cover-there b kind.CoverOut t n (r .r20) refl)
   own-sound kind.Order tells now r =
-      let route = route-found b kind.Order t (r .r14) refl in
-      keeping.new-sound b s (senderNumber b t) (payeeOfWay (followFound b (routeIn b t))) n time (txidField t)
+      keeping.new-sound b s (senderNumber b t) (payeeOfWay (wayIn b t)) n time (txidField t)
       (record {
         room = room-left b kind.Order t (r .r15) refl;
         payer = sender-found b kind.Order t (r .r12) refl .below;
-        payee = payee-known b s (routeIn b t) route (route-row b kind.Order t route .below);
+        payee = payee-known b kind.Order t (s .roster) (r .r14) refl;
         least = tells .least;
         most = tells .most;
         padded = length-part 35 38 t (rw (tells .whole) (omega arith));

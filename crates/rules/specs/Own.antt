@@ -11,13 +11,13 @@ use Rattle.ticket.specs.Layout.{txidField}
 use Rattle.ticket.specs.declared.Fields.{Fields}
 use Rattle.ticket.specs.declared.kinds.Kind.{Kind}
 use Rattle.ticket.specs.declared.kinds.Kind.the-variants as kind
-use Rattle.dayfile.specs.Guarantee.{participantOf}
+use Rattle.dayfile.specs.Roster.{participantOf}
 use Rattle.dayfile.specs.declared.roster.Opening.{Opening}
 use Rattle.dayfile.specs.declared.roster.Opening.the-variants as opening
 use Rattle.dayfile.specs.declared.route.Followed.{Followed}
 use Rattle.report.specs.declared.Report.{Report}
 use Rattle.rules.specs.Book.{orderOf, coverOf, isBank}
-use Rattle.rules.specs.Find.{routeIn, followFound, payeeOfWay, rowsOfWay}
+use Rattle.rules.specs.Find.{wayIn, payeeOfWay, rowsOfWay}
 use Rattle.rules.specs.Cover.{give, draw, reserve, hold, owe, clear}
 use Rattle.rules.specs.Tell.{Told, tellOrder, tellCut}
 use Rattle.rules.specs.Order.{refused, settled, asked, returned, declined}
@@ -114,7 +114,7 @@ confirmed b p n = withCovers b (cond (eqb (coverOf b p .held) 0) (clear p (give 
 abbrev pub ownStep : Book → Kind → ℕ → ℕ → List ℕ → Change
 ownStep b kind.CoverIn n time t = change (withCovers b (give (senderNumber b t) n (b .covers))) []
 ownStep b kind.CoverOut n time t = change (withCovers b (draw (senderNumber b t) n (b .covers))) []
-ownStep b kind.Order n time t = ordered b (senderNumber b t) (followFound b (routeIn b t)) n time (txidField t)
+ownStep b kind.Order n time t = ordered b (senderNumber b t) (wayIn b t) n time (txidField t)
 ownStep b kind.Yes n time t = change (settled b (orderNumber b t)) (settledReports b (orderNumber b t))
 ownStep b kind.No n time t =
     change (refused b (orderNumber b t)) (tellOrder b (orderOf b (orderNumber b t) .payer) 3 (orderNumber b t) ∷ [])

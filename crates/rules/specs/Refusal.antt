@@ -5,12 +5,13 @@ use mathlib.Core.Bool.{Bool, true, false, _&&_, _||_, not, cond}
 use mathlib.Core.List.{List}
 use lib.Dec.{leb, ltb, eqb}
 use Rattle.fields.specs.UpTo.{anyTo}
+use Rattle.fields.specs.Search.{isFound, numberOf}
 use Rattle.ticket.specs.Form.{formOf}
 use Rattle.ticket.specs.declared.Fields.{Fields}
 use Rattle.ticket.specs.declared.kinds.Kind.{Kind}
 use Rattle.ticket.specs.declared.kinds.Kind.the-variants.{CoverIn, CoverOut, Order, Yes, No, Recall, Return, Decline, Inquiry, Cut, Confirm, Tick}
 use Rattle.rules.specs.Book.{orderOf, coverOf}
-use Rattle.rules.specs.Find.{isFound, numberOf, senderIn, orderIn, routeIn}
+use Rattle.rules.specs.Find.{senderIn, orderIn, routeIn}
 use Rattle.rules.specs.Cover.{total, mostTotal}
 use Rattle.rules.specs.Tick.{isWaiting}
 use Rattle.rules.specs.declared.Recall.the-variants as mark

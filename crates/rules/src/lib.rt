@@ -42,9 +42,3 @@ pub struct Book {
     pub count: usize,
     pub roster: Roster,
 }
-
-// What a search finds.
-pub enum Found {
-    At(usize),
-    Nothing,
-}

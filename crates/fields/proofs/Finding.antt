@@ -5,9 +5,9 @@ use mathlib.Core.Logic.{⊎-elim}
 use Prim.Native.Nat.{ℕ, zero, suc, _<_}
 use native.Mathlib.Nat.{not-suc-le-zero, eq-or-lt-of-le, le-of-suc-le-suc}
 use native.Mathlib.Omega.{arith}
-use Rattle.rules.specs.Find.{isFound, numberOf, foundOr, firstTo}
-use Rattle.rules.specs.declared.Found.{Found}
-use Rattle.rules.specs.declared.Found.the-variants.{At, Nothing}
+use Rattle.fields.specs.Search.{isFound, numberOf, foundOr, firstTo}
+use Rattle.fields.specs.declared.search.Found.{Found}
+use Rattle.fields.specs.declared.search.Found.the-variants.{At, Nothing}
 
 -- the number found
 pub record FoundAt (test : ℕ → Bool) (n : ℕ) (i : ℕ) : Type 0 where
