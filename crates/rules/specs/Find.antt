@@ -24,7 +24,7 @@ orderIn b t = firstTo (λ i. same (orderOf b i .txid) (txidField t)) (b .count)
 unfoldable pub routeIn : Book → List ℕ → Found
 routeIn b t = rowWith (b .roster) (payeeOf t)
 
--- 01: following a payee BIC starts at the row with that BIC
+-- where the ticket's payee BIC leads
 unfoldable pub wayIn : Book → List ℕ → Followed
 wayIn b t = followedBic (b .roster) (payeeOf t)
 
