@@ -16,8 +16,7 @@ use Rattle.ticket.specs.Layout.{kindByte, flagByte, senderOf}
 use Rattle.report.specs.Layout.{reportsOf}
 use Rattle.report.specs.declared.Report.{Report}
 use Rattle.dayfile.specs.DayFile.{dayFile}
-use Rattle.dayfile.specs.Roster.{participantOf}
-use Rattle.dayfile.specs.Roster.{bankKind}
+use Rattle.dayfile.specs.Roster.{participantOf, bankKind}
 
 pub record Seen : Type 0 where
   pub ticket : List ℕ

@@ -9,8 +9,7 @@ use mathlib.Core.Bool.{Bool}
 use mathlib.Core.List.{List, []}
 use lib.ListN.{getD, replicate}
 use Rattle.dayfile.specs.DayFile.{dayFile}
-use Rattle.dayfile.specs.Roster.{participantOf}
-use Rattle.dayfile.specs.Roster.{bankKind}
+use Rattle.dayfile.specs.Roster.{participantOf, bankKind}
 use Rattle.dayfile.specs.declared.roster.Roster.{Roster}
 use Rattle.rules.specs.declared.Status.the-variants.{Waiting}
 use Rattle.rules.specs.declared.Order.{Order}
