@@ -14,7 +14,7 @@ use Rattle.fields.proofs.Tests.{and-left, and-right}
 use Rattle.ticket.specs.Layout as layout
 use Rattle.ticket.specs.Kind.{kinded}
 use Rattle.ticket.specs.Form.{formOf}
-use Rattle.ticket.specs.Shape.{bicField, txidField, blankField, wellFormed, shapeAs, shapeOf, accountOf}
+use Rattle.ticket.specs.Shape.{bicIfListed, txidIfListed, blankUnlessListed, wellFormed, shapeAs, shapeOf, accountOf}
 use Rattle.ticket.specs.Amount.{statedIn, limitOf}
 use Rattle.ticket.specs.Reading.{reading, readShape, readAccount, readStated, readLimit}
 use Rattle.ticket.specs.declared.Fields.{Fields}
@@ -125,19 +125,19 @@ read-tells t f e = from-shape (shapeOf t) refl
 
 -- a TxId that is listed is one
 pub listed-txid : (t : List ℕ) (f : Fields) → Tells t f → formOf (f .kind) .txid ≡ true → isTxid (layout.txidOf t) ≡ true
-listed-txid t f tells listed = rw listed at (and-right before (txidField (formOf (f .kind) .txid) (layout.txidField t)) to-txid)
+listed-txid t f tells listed = rw listed at (and-right before (txidIfListed (formOf (f .kind) .txid) (layout.txidField t)) to-txid)
   where
     before : Bool
     before =
-        blankField false (layout.spareField t)
-        && blankField (not (eqb (formOf (f .kind) .most) 0)) (layout.amountField t)
-        && bicField (formOf (f .kind) .sender) (layout.senderOf t)
-        && bicField (formOf (f .kind) .payee) (layout.payeeOf t)
+        blankUnlessListed false (layout.spareField t)
+        && blankUnlessListed (not (eqb (formOf (f .kind) .most) 0)) (layout.amountField t)
+        && bicIfListed (formOf (f .kind) .sender) (layout.senderOf t)
+        && bicIfListed (formOf (f .kind) .payee) (layout.payeeOf t)
 
-    to-txid : (before && txidField (formOf (f .kind) .txid) (layout.txidField t)) ≡ true
+    to-txid : (before && txidIfListed (formOf (f .kind) .txid) (layout.txidField t)) ≡ true
     to-txid =
-        and-left (before && txidField (formOf (f .kind) .txid) (layout.txidField t)) (blankField (formOf (f .kind) .iban) (layout.ibanField t))
+        and-left (before && txidIfListed (formOf (f .kind) .txid) (layout.txidField t)) (blankUnlessListed (formOf (f .kind) .iban) (layout.ibanField t))
         (and-left
-        (before && txidField (formOf (f .kind) .txid) (layout.txidField t) && blankField (formOf (f .kind) .iban) (layout.ibanField t))
-        (blankField false (layout.lastField t))
+        (before && txidIfListed (formOf (f .kind) .txid) (layout.txidField t) && blankUnlessListed (formOf (f .kind) .iban) (layout.ibanField t))
+        (blankUnlessListed false (layout.lastField t))
         (tells .formed))

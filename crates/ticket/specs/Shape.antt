@@ -1,10 +1,10 @@
 -- Refusals 7 and 8.
---     bicField     a BIC where it is listed, else zero bytes
---     txidField    a TxId padded with zero bytes where it is listed, else zero bytes
---     blankField   anything where it is listed, else zero bytes
---     wellFormed   each field as its kind's form has it
---     shapeOf      refusal 7: the kind, or Malformed
---     accountOf    refusal 8: Named, or Wrong
+--     bicIfListed         a BIC where it is listed, else zero bytes
+--     txidIfListed        a TxId padded with zero bytes where it is listed, else zero bytes
+--     blankUnlessListed   anything where it is listed, else zero bytes
+--     wellFormed          each field as its kind's form has it
+--     shapeOf             refusal 7: the kind, or Malformed
+--     accountOf           refusal 8: Named, or Wrong
 -- Assumes nothing.
 use Prim.Native.Nat.{ℕ}
 use mathlib.Core.Bool.{Bool, true, false, _&&_, _||_, not, cond}
@@ -26,25 +26,25 @@ use Rattle.ticket.specs.declared.shapes.Shape.the-variants.{Formed, Malf
 use Rattle.ticket.specs.declared.shapes.Account.{Account}
 use Rattle.ticket.specs.declared.shapes.Account.the-variants.{Named, Wrong}
 
-abbrev pub bicField : Bool → List ℕ → Bool
-bicField listed s = cond listed (isBic s) (blank s)
+abbrev pub bicIfListed : Bool → List ℕ → Bool
+bicIfListed listed s = cond listed (isBic s) (blank s)
 
-abbrev pub txidField : Bool → List ℕ → Bool
-txidField listed s = cond listed (isTxid (unpadded s)) (blank s)
+abbrev pub txidIfListed : Bool → List ℕ → Bool
+txidIfListed listed s = cond listed (isTxid (unpadded s)) (blank s)
 
-abbrev pub blankField : Bool → List ℕ → Bool
-blankField listed s = listed || blank s
+abbrev pub blankUnlessListed : Bool → List ℕ → Bool
+blankUnlessListed listed s = listed || blank s
 
 -- 01: fields a kind doesn't list are zero; so are bytes 2, 3 and 107
 abbrev pub wellFormed : Form → List ℕ → Bool
 wellFormed form t =
-    blankField false (layout.spareField t)
-    && blankField (not (eqb (form .most) 0)) (layout.amountField t)
-    && bicField (form .sender) (layout.senderOf t)
-    && bicField (form .payee) (layout.payeeOf t)
-    && txidField (form .txid) (layout.txidField t)
-    && blankField (form .iban) (layout.ibanField t)
-    && blankField false (layout.lastField t)
+    blankUnlessListed false (layout.spareField t)
+    && blankUnlessListed (not (eqb (form .most) 0)) (layout.amountField t)
+    && bicIfListed (form .sender) (layout.senderOf t)
+    && bicIfListed (form .payee) (layout.payeeOf t)
+    && txidIfListed (form .txid) (layout.txidField t)
+    && blankUnlessListed (form .iban) (layout.ibanField t)
+    && blankUnlessListed false (layout.lastField t)
 
 abbrev pub shapeAs : Kinded → List ℕ → Shape
 shapeAs (As kind) t = cond (wellFormed (formOf kind) t) (Formed kind) Malformed

@@ -6,7 +6,7 @@ use super::kinds::Kind;
 use super::kinds::Kinded;
 ghost use mathlib.Core.Path.{_≡_};
 ghost use lib.ListN.{length};
-ghost use Rattle.ticket.specs.Shape.{bicField, txidField, blankField, wellFormed, shapeOf, accountOf};
+ghost use Rattle.ticket.specs.Shape.{bicIfListed, txidIfListed, blankUnlessListed, wellFormed, shapeOf, accountOf};
 
 pub enum Shape {
     Formed(Kind),
@@ -18,8 +18,8 @@ pub enum Account {
     Wrong,
 }
 
-fn bic_field(listed: bool, s: &[u8]) -> bool
-    ensures { λ r. ⌜ r ≡ bicField listed (now (s .entry)) ⌝ }
+fn bic_if_listed(listed: bool, s: &[u8]) -> bool
+    ensures { λ r. ⌜ r ≡ bicIfListed listed (now (s .entry)) ⌝ }
 {
     if listed {
         codes::zolfigar_bic_ok(s) == 1
@@ -28,8 +28,8 @@ fn bic_field(listed: bool, s: &[u8]) -> bool
     }
 }
 
-fn txid_field(listed: bool, s: &[u8]) -> bool
-    ensures { λ r. ⌜ r ≡ txidField listed (now (s .entry)) ⌝ }
+fn txid_if_listed(listed: bool, s: &[u8]) -> bool
+    ensures { λ r. ⌜ r ≡ txidIfListed listed (now (s .entry)) ⌝ }
 {
     if listed {
         codes::zolfigar_txid_ok(fields::unpadded(s)) == 1
@@ -38,8 +38,8 @@ fn txid_field(listed: bool, s: &[u8]) -> bool
     }
 }
 
-fn blank_field(listed: bool, s: &[u8]) -> bool
-    ensures { λ r. ⌜ r ≡ blankField listed (now (s .entry)) ⌝ }
+fn blank_unless_listed(listed: bool, s: &[u8]) -> bool
+    ensures { λ r. ⌜ r ≡ blankUnlessListed listed (now (s .entry)) ⌝ }
 {
     listed | (fields::used(s) == 0)
 }
@@ -48,13 +48,13 @@ fn well_formed(form: Form, t: &[u8]) -> bool
     requires { ⌜ length (now t) ≡ 108 ⌝ }
     ensures { λ r. ⌜ r ≡ wellFormed form (now (t .entry)) ⌝ }
 {
-    let spare = blank_field(false, &t[2..4]);
-    let amount = blank_field(form.most != 0, &t[8..16]);
-    let sender = bic_field(form.sender, &t[16..27]);
-    let payee = bic_field(form.payee, &t[27..38]);
-    let txid = txid_field(form.txid, &t[38..73]);
-    let iban = blank_field(form.iban, &t[73..107]);
-    let last = blank_field(false, &t[107..108]);
+    let spare = blank_unless_listed(false, &t[2..4]);
+    let amount = blank_unless_listed(form.most != 0, &t[8..16]);
+    let sender = bic_if_listed(form.sender, &t[16..27]);
+    let payee = bic_if_listed(form.payee, &t[27..38]);
+    let txid = txid_if_listed(form.txid, &t[38..73]);
+    let iban = blank_unless_listed(form.iban, &t[73..107]);
+    let last = blank_unless_listed(false, &t[107..108]);
     spare & amount & sender & payee & txid & iban & last
 }
 

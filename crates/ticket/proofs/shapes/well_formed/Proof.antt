@@ -43,11 +43,11 @@ well-formed-spec =
     let amount = sender .before .before in
     let spare = amount .before .before .before in
     simp (
-      spare .blank-field .ensures,
-      amount .blank-field2 .ensures,
-      sender .bic-field .ensures,
-      payee .bic-field2 .ensures,
-      txid .txid-field .ensures,
-      iban .blank-field3 .ensures,
-      c .blank-field4 .ensures,
+      spare .blank-unless-listed .ensures,
+      amount .blank-unless-listed2 .ensures,
+      sender .bic-if-listed .ensures,
+      payee .bic-if-listed2 .ensures,
+      txid .txid-if-listed .ensures,
+      iban .blank-unless-listed3 .ensures,
+      c .blank-unless-listed4 .ensures,
     )))

@@ -1,12 +1,12 @@
--- `ticket::shapes::txid_field` meets its contract. Assumes nothing.
+-- `ticket::shapes::txid_if_listed` meets its contract. Assumes nothing.
 use Rattle.codes.proofs.Answer.{answer-is-1}
 use Rattle.fields.proofs.Padding.{blank-length}
 use borrow.Author.Needs.{needs}
-use Rattle.ticket.proofs.shapes.txid_field.Statement.{statement}
-use Rattle.ticket.proofs.shapes.txid_field.Tie as tie
+use Rattle.ticket.proofs.shapes.txid_if_listed.Statement.{statement}
+use Rattle.ticket.proofs.shapes.txid_if_listed.Tie as tie
 
-pub txid-field-spec : {M : Type 1} → statement M
-txid-field-spec =
+pub txid-if-listed-spec : {M : Type 1} → statement M
+txid-if-listed-spec =
     tie.close
     (tie.spec
     (λ c κs. search needs)

@@ -1,12 +1,12 @@
--- `ticket::shapes::bic_field` meets its contract. Assumes nothing.
+-- `ticket::shapes::bic_if_listed` meets its contract. Assumes nothing.
 use Rattle.codes.proofs.Answer.{answer-is-1}
 use Rattle.fields.proofs.Padding.{blank-length}
 use borrow.Author.Needs.{needs}
-use Rattle.ticket.proofs.shapes.bic_field.Statement.{statement}
-use Rattle.ticket.proofs.shapes.bic_field.Tie as tie
+use Rattle.ticket.proofs.shapes.bic_if_listed.Statement.{statement}
+use Rattle.ticket.proofs.shapes.bic_if_listed.Tie as tie
 
-pub bic-field-spec : {M : Type 1} → statement M
-bic-field-spec =
+pub bic-if-listed-spec : {M : Type 1} → statement M
+bic-if-listed-spec =
     tie.close
     (tie.spec
     (λ c κs. search needs)
