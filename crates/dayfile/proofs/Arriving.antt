@@ -6,13 +6,12 @@ use mathlib.Core.List.{List}
 use Prim.Native.Nat.{ℕ, zero, suc, _+_, _≤_, _<_}
 use native.Mathlib.Nat.{not-suc-le-zero}
 use native.Mathlib.Omega.{arith}
-use Rattle.fields.specs.Text.{same}
 use Rattle.fields.specs.Search.{isFound, numberOf}
 use Rattle.fields.specs.declared.search.Found.{Found}
 use Rattle.fields.specs.declared.search.Found.the-variants as found
 use Rattle.fields.proofs.Finding.{found-at}
 use Rattle.dayfile.specs.Roster.{routeOf}
-use Rattle.dayfile.specs.Route.{oneMore, followed, rowWith, followedFrom, followedBic}
+use Rattle.dayfile.specs.Route.{oneMore, followed, hasBic, rowWith, followedFrom, followedBic}
 use Rattle.dayfile.specs.Guarantee.{LeadsWithin, Guaranteed}
 use Rattle.dayfile.specs.declared.roster.Target.{Target}
 use Rattle.dayfile.specs.declared.roster.Target.the-variants.{To, Row}
@@ -59,4 +58,4 @@ module _ (r : Roster) (g : Guaranteed r) where
   from-found found.Nothing e l = let z : _≡_ {A = ℕ} 0 1 = cc in absurd (omega arith)
 
   pub bic-arrives : (bic : List ℕ) → isFound (rowWith r bic) ≡ true → Arrives r (followedBic r bic)
-  bic-arrives bic e = from-found (rowWith r bic) e (found-at (λ i. same (routeOf r i .bic) bic) (r .rows) e .below)
+  bic-arrives bic e = from-found (rowWith r bic) e (found-at (hasBic (r .routes) bic) (r .rows) e .below)

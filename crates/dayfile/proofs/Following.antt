@@ -7,7 +7,8 @@ use native.Mathlib.Nat.{le-of-suc-le-suc, not-suc-le-zero}
 use native.Mathlib.Omega.{arith}
 use borrow.Author.Tests.{ltb-true, lt-ltb, le-ltb}
 use lib.Dec.{ltb}
-use Rattle.dayfile.specs.Route.{oneMore, readRoute, leads, followTo, followed}
+use Rattle.dayfile.specs.Roster.{rowOf}
+use Rattle.dayfile.specs.Route.{oneMore, leads, followTo, followed}
 use Rattle.dayfile.specs.declared.roster.Target.{Target}
 use Rattle.dayfile.specs.declared.roster.Target.the-variants.{To, Row}
 use Rattle.dayfile.specs.declared.roster.Route.{Route}
@@ -28,7 +29,7 @@ enough : (n m : ℕ) (routes : List Route) (row : ℕ) → row < n → row < m �
 enough zero m routes row h k = absurd (not-suc-le-zero h)
 enough (suc n) zero routes row h k = absurd (not-suc-le-zero k)
 enough (suc n) (suc m) routes row h k =
-    leads-same (λ j. followTo n routes j) (λ j. followTo m routes j) row (readRoute routes row) (λ j l. enough n m routes j (omega arith) (omega arith))
+    leads-same (λ j. followTo n routes j) (λ j. followTo m routes j) row (rowOf routes row .target) (λ j l. enough n m routes j (omega arith) (omega arith))
 
 module _ (routes : List Route) (row : ℕ) where
   pub followed-out : 64 ≤ row → followed routes row ≡ Nowhere
@@ -40,10 +41,10 @@ module _ (routes : List Route) (row : ℕ) where
   within h = rw (lt-ltb row 64 h)
 
 -- one row, and on from there
-pub followed-on : (routes : List Route) (row : ℕ) → row < 64 → followed routes row ≡ leads (followed routes) row (readRoute routes row)
+pub followed-on : (routes : List Route) (row : ℕ) → row < 64 → followed routes row ≡ leads (followed routes) row (rowOf routes row .target)
 followed-on routes row h =
     within routes row h
-    ∙ leads-same (λ k. followTo row routes k) (followed routes) row (readRoute routes row)
+    ∙ leads-same (λ k. followTo row routes k) (followed routes) row (rowOf routes row .target)
     (λ k l. enough row (suc k) routes k l (omega arith) ∙ sym (within routes k (omega arith)))
 
 rows-of : Followed → ℕ
@@ -67,7 +68,7 @@ leads-rows f n row (Row k) h = go (ltb k row)
 to-rows : (n : ℕ) (routes : List Route) (row : ℕ) → rows-of (followTo n routes row) ≤ n
 unfolding rows-of
 to-rows zero routes row = omega arith
-to-rows (suc n) routes row = leads-rows (λ k. followTo n routes k) n row (readRoute routes row) (λ k. to-rows n routes k)
+to-rows (suc n) routes row = leads-rows (λ k. followTo n routes k) n row (rowOf routes row .target) (λ k. to-rows n routes k)
 
 -- a row is followed in no more rows than its number and itself
 pub followed-rows : (routes : List Route) (row p n : ℕ) → followed routes row ≡ At p n → n ≤ row + 1
@@ -83,13 +84,13 @@ followed-rows routes row p n e = go (ltb row 64) refl
 
 module _ (routes : List Route) (row : ℕ) (h : row < 64) where
   -- the row leads to a participant
-  pub follows-to : (p : ℕ) → readRoute routes row ≡ To p → followed routes row ≡ At p 1
+  pub follows-to : (p : ℕ) → rowOf routes row .target ≡ To p → followed routes row ≡ At p 1
   follows-to p e = followed-on routes row h ∙ ap (leads (followed routes) row) e
 
   -- the row goes on from an earlier one
-  pub follows-row : (k : ℕ) → readRoute routes row ≡ Row k → k < row → followed routes row ≡ oneMore (followed routes k)
+  pub follows-row : (k : ℕ) → rowOf routes row .target ≡ Row k → k < row → followed routes row ≡ oneMore (followed routes k)
   follows-row k e l = followed-on routes row h ∙ ap (leads (followed routes) row) e ∙ simp (lt-ltb k row l)
 
   -- or from none
-  pub follows-none : (k : ℕ) → readRoute routes row ≡ Row k → row ≤ k → followed routes row ≡ Nowhere
+  pub follows-none : (k : ℕ) → rowOf routes row .target ≡ Row k → row ≤ k → followed routes row ≡ Nowhere
   follows-none k e l = followed-on routes row h ∙ ap (leads (followed routes) row) e ∙ simp (le-ltb k row l)

@@ -4,6 +4,7 @@
 --     bankKind                      whether a kind is that of a bank
 --     rosterOf                      participants and routes
 --     participantOf, routeOf        the rows of a roster, by number
+--     rowOf                         the same of the routes alone
 --     emptyRoster                   none of either
 -- Assumes nothing.
 use Prim.Native.Nat.{ℕ, _+_, _*_}
@@ -78,5 +79,8 @@ emptyRoster = record { participants = replicate 32 noParticipant; size = 0; rout
 abbrev pub participantOf : Roster → ℕ → Participant
 participantOf r p = getD (r .participants) p (record { bic = []; kind = Bank; opening = None })
 
+abbrev pub rowOf : List Route → ℕ → Route
+rowOf routes i = getD routes i (record { bic = []; target = To 0 })
+
 abbrev pub routeOf : Roster → ℕ → Route
-routeOf r i = getD (r .routes) i (record { bic = []; target = To 0 })
+routeOf r i = rowOf (r .routes) i

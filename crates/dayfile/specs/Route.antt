@@ -5,15 +5,14 @@
 --     followedBic   from that row on
 -- Assumes nothing.
 use Prim.Native.Nat.{ℕ, zero, suc, _+_}
-use mathlib.Core.Bool.{cond}
-use mathlib.Core.List.{List, []}
+use mathlib.Core.Bool.{Bool, cond}
+use mathlib.Core.List.{List}
 use lib.Dec.{ltb}
-use lib.ListN.{getD}
 use Rattle.fields.specs.Text.{same}
 use Rattle.fields.specs.Search.{firstTo}
 use Rattle.fields.specs.declared.search.Found.{Found}
 use Rattle.fields.specs.declared.search.Found.the-variants as found
-use Rattle.dayfile.specs.Roster.{routeOf}
+use Rattle.dayfile.specs.Roster.{rowOf}
 use Rattle.dayfile.specs.declared.roster.Target.{Target}
 use Rattle.dayfile.specs.declared.roster.Target.the-variants.{To, Row}
 use Rattle.dayfile.specs.declared.roster.Route.{Route}
@@ -25,9 +24,6 @@ abbrev pub oneMore : Followed → Followed
 oneMore (At p n) = At p (n + 1)
 oneMore Nowhere = Nowhere
 
-abbrev pub readRoute : List Route → ℕ → Target
-readRoute routes row = (getD routes row (record { bic = []; target = To 0 })) .target
-
 -- a row leads to a participant, or goes on from row k, where k is below its own number
 abbrev pub leads : (ℕ → Followed) → ℕ → Target → Followed
 leads on row (To p) = At p 1
@@ -35,15 +31,18 @@ leads on row (Row k) = cond (ltb k row) (oneMore (on k)) Nowhere
 
 abbrev pub followTo : ℕ → List Route → ℕ → Followed
 followTo zero routes row = Nowhere
-followTo (suc n) routes row = leads (λ k. followTo n routes k) row (readRoute routes row)
+followTo (suc n) routes row = leads (λ k. followTo n routes k) row (rowOf routes row .target)
 
 -- a row is followed in no more rows than its number and itself; there are 64 rows
 unfoldable pub followed : List Route → ℕ → Followed
 followed routes row = cond (ltb row 64) (followTo (suc row) routes row) Nowhere
 
+abbrev pub hasBic : List Route → List ℕ → ℕ → Bool
+hasBic routes bic row = same (rowOf routes row .bic) bic
+
 -- the first row with the BIC; in an accepted file no other has it
 abbrev pub rowWith : Roster → List ℕ → Found
-rowWith r bic = firstTo (λ i. same (routeOf r i .bic) bic) (r .rows)
+rowWith r bic = firstTo (hasBic (r .routes) bic) (r .rows)
 
 abbrev pub followedFrom : Roster → Found → Followed
 followedFrom r (found.At row) = followed (r .routes) row

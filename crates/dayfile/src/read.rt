@@ -10,7 +10,7 @@ ghost use mathlib.Core.Path.{_≡_};
 ghost use Prim.Native.Nat.{_+_, _*_, _≤_};
 ghost use lib.ListN.{length};
 ghost use Rattle.fields.specs.Number.{part};
-ghost use Rattle.dayfile.specs.Roster.{kindOf, openingOf, targetOf, participantAt, routeAt, participantsTo, routesTo, rosterOf, emptyRoster};
+ghost use Rattle.dayfile.specs.Roster.{kindOf, openingOf, targetOf, participantAt, routeAt, participantsTo, routesTo, rosterOf, emptyRoster, noParticipant, noRoute};
 
 fn bic_at(f: &[u8], at: usize) -> [u8; 11]
     requires { ⌜ at + 11 ≤ length (now f) ⌝ }
@@ -72,15 +72,31 @@ fn route_at(f: &[u8], at: usize) -> Route
     }
 }
 
+// A row that is not in use.
+fn no_participant() -> Participant
+    ensures { λ r. ⌜ r ≡ noParticipant ⌝ }
+{
+    Participant {
+        bic: [0u8; 11],
+        kind: PartyKind::Bank,
+        opening: Opening::None,
+    }
+}
+
+fn no_route() -> Route
+    ensures { λ r. ⌜ r ≡ noRoute ⌝ }
+{
+    Route {
+        bic: [0u8; 11],
+        target: Target::To(0),
+    }
+}
+
 fn read_participants(n: usize, f: &[u8]) -> [Participant; 32]
     requires { ⌜ (n ≤ 32) × (12 + 24 * n ≤ length (now f)) ⌝ }
     ensures { λ r. ⌜ r ≡ participantsTo n (now (f .entry)) ⌝ }
 {
-    let none = Participant {
-        bic: [0u8; 11],
-        kind: PartyKind::Bank,
-        opening: Opening::None,
-    };
+    let none = no_participant();
     let mut all = [none; 32];
     let mut i = 0;
     while i < n {
@@ -94,10 +110,7 @@ fn read_routes(start: usize, n: usize, f: &[u8]) -> [Route; 64]
     requires { ⌜ (n ≤ 64) × (start + 16 * n ≤ length (now f)) ⌝ }
     ensures { λ r. ⌜ r ≡ routesTo start n (now (f .entry)) ⌝ }
 {
-    let none = Route {
-        bic: [0u8; 11],
-        target: Target::To(0),
-    };
+    let none = no_route();
     let mut all = [none; 64];
     let mut i = 0;
     while i < n {
@@ -122,15 +135,8 @@ pub fn read_roster(n: Sections, start: usize, f: &[u8]) -> Roster
 pub fn empty_roster() -> Roster
     ensures { λ r. ⌜ r ≡ emptyRoster ⌝ }
 {
-    let participant = Participant {
-        bic: [0u8; 11],
-        kind: PartyKind::Bank,
-        opening: Opening::None,
-    };
-    let route = Route {
-        bic: [0u8; 11],
-        target: Target::To(0),
-    };
+    let participant = no_participant();
+    let route = no_route();
     Roster {
         participants: [participant; 32],
         size: 0,

@@ -4,7 +4,7 @@ use Prim.Native.Nat.{ℕ, _≤_, _-_}
 use native.Mathlib.Numerals.{add-one}
 use native.Mathlib.Omega.{arith}
 use denote.Ref.{now}
-use lib.ListN.{length, length-set}
+use lib.ListN.{length, replicate, length-set}
 use Rattle.dayfile.specs.Roster.{routesTo}
 use borrow.Author.Needs.{needs}
 use Rattle.dayfile.proofs.read.read_routes.Statement.{statement}
@@ -22,7 +22,8 @@ read-routes-spec =
     (tie.spec
     Inv-loop
     μ-loop
-    (λ c. search needs)
+    (λ c κs. search needs)
+    (λ c. (search needs, search needs, ap (replicate 64) (c .no-route .ensures)))
     (λ c. search needs)
     (λ c. search needs)
     (λ c κs. search needs)
@@ -35,6 +36,6 @@ read-routes-spec =
     (search needs, length-set (l .loop .all) (l .loop .i) _ ∙ l .loop .inv .1, simp (add-one, l .loop .inv .2, c .route-at .ensures)))
     (λ c.
     let l = c .before in
-    let a = l .before .before .args in
+    let a = l .before .before .before .args in
     let end : l .loop .i ≡ a .n = omega arith in
     l .loop .inv .2 ∙ ap (λ (k : ℕ). routesTo (a .start) k (now (a .f))) end))
