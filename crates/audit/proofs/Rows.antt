@@ -7,10 +7,12 @@
 -- Assumes nothing.
 use Prim.Native.Nat.{ℕ, zero, suc}
 use Prim.Native.String.{String}
-use mathlib.Core.Path.{_≡_, refl, sym}
+use mathlib.Core.Path.{_≡_, refl}
 use mathlib.Core.Bool.{Bool, true, false, _&&_, not, cond}
 use mathlib.Core.List.{List, [], _∷_, _++_, map}
+use borrow.Author.Tests.{not-true}
 use lib.ListN.{length, replicate}
+use Rattle.codes.specs.Answer.{answer}
 use Rattle.codes.specs.Text.{text}
 use Rattle.fields.specs.Text.{same}
 use Rattle.fields.proofs.Tests.{and-left, and-right}
@@ -25,7 +27,7 @@ use Rattle.rules.specs.declared.Cover.{Cover}
 use Rattle.rules.specs.declared.Book.{Book}
 use Rattle.audit.specs.History.{Seen, History, size}
 use Rattle.audit.specs.Sums.{coverIns, coverOuts, debits, credits, settledTo, settledFrom, returnsBy, returnsTo}
-use Rattle.audit.specs.Orders.{orderCount, orderAmount, orderTime, isForBank, waits, allEndings, asNumber}
+use Rattle.audit.specs.Orders.{orderCount, orderAmount, orderTime, isForBank, waits, allEndings}
 use Rattle.audit.specs.Claim.{Claim}
 use Rattle.audit.specs.Run.{Input, Run, run}
 use Rattle.audit.proofs.Testing.{clauses, allPass, claim-holds, claim-fails}
@@ -60,8 +62,8 @@ abbrev pub told : List ℕ → History → ℕ → List ℕ
 told file h i =
     orderAmount i h
     ∷ orderTime i h
-    ∷ asNumber (isForBank file i h)
-    ∷ asNumber (waits i h)
+    ∷ answer (isForBank file i h)
+    ∷ answer (waits i h)
     ∷ map (λ (r : Report). r .code) (allEndings i h)
 
 -- a row for each number below n
@@ -138,10 +140,6 @@ allWrong (w ∷ ws) = same (failsOf w) (text (w .fails)) && (not (allPass (claus
 abbrev pub allPassed : List Written → Bool
 allPassed [] = true
 allPassed (w ∷ ws) = same (failsOf w) (text (w .fails)) && (allPass (clausesOf w) && allPassed ws)
-
-not-true : (a : Bool) → not a ≡ true → a ≡ false
-not-true true e = sym e
-not-true false e = refl
 
 pub all-false : (ws : List Written) → allWrong ws ≡ true → AllFalse ws
 all-false [] e = tt

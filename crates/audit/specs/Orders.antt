@@ -1,7 +1,7 @@
 -- Orders, their waits and their endings, as seen: 01 'Demand 3, word by word'.
 --     orderCount     how many orders were accepted
 --     opens          this ticket is order i
---     ofOrder        something read off the ticket of order i, with what was before it
+--     ofOrder        something read off the ticket of order i
 --     endings        a ticket's endings of order i: its reports 2, 3 or 4 with that number, in their order
 --     waits          order i waits after the history
 --     letsExpire     the ticket lets order i expire
@@ -30,28 +30,25 @@ orderCount (s ∷ before) = orderCount before + cond (isOrder s) 1 0
 abbrev pub opens : ℕ → Seen → History → Bool
 opens i s before = isOrder s && eqb (orderCount before) i
 
-abbrev pub ofOrder : ℕ → (Seen → ℕ) → History → ℕ
-ofOrder i f [] = 0
-ofOrder i f (s ∷ before) = cond (opens i s before) (f s) (ofOrder i f before)
+-- what a function reads off its ticket; none where there is no such order
+abbrev pub ofOrder : {A : Type 0} → A → ℕ → (Seen → A) → History → A
+ofOrder none i f [] = none
+ofOrder none i f (s ∷ before) = cond (opens i s before) (f s) (ofOrder none i f before)
 
 -- its amount and time are its ticket's
 abbrev pub orderAmount : ℕ → History → ℕ
-orderAmount i h = ofOrder i (λ s. amountOf (s .ticket)) h
+orderAmount i h = ofOrder 0 i (λ s. amountOf (s .ticket)) h
 
 abbrev pub orderTime : ℕ → History → ℕ
-orderTime i h = ofOrder i (λ s. timeOf (s .ticket)) h
+orderTime i h = ofOrder 0 i (λ s. timeOf (s .ticket)) h
 
 -- it is for a bank if its report 1 goes to one
 abbrev pub toBank : List ℕ → List Report → Bool
 toBank file [] = false
 toBank file (r ∷ rs) = isBank file (r .to)
 
-abbrev pub asNumber : Bool → ℕ
-asNumber true = 1
-asNumber false = 0
-
 abbrev pub isForBank : List ℕ → ℕ → History → Bool
-isForBank file i h = eqb (ofOrder i (λ s. asNumber (toBank file (firstWith 1 (reports s)))) h) 1
+isForBank file i h = ofOrder false i (λ s. toBank file (firstWith 1 (reports s))) h
 
 abbrev pub isEnding : ℕ → Report → Bool
 isEnding i r = eqb (r .order) i && (eqb (r .code) 2 || eqb (r .code) 3 || eqb (r .code) 4)

@@ -1,4 +1,4 @@
--- What a test up to n tells of each number below it, and what a table up to n holds. Assumes nothing.
+-- What a test up to n tells of each number below it, what a table up to n holds, and sums up to n. Assumes nothing.
 use mathlib.Core.Path.{_≡_, refl, _∙_, ap, ap₂}
 use mathlib.Core.Bool.{Bool, true, false, _&&_, _||_}
 use mathlib.Core.List.{List}

@@ -34,7 +34,7 @@ module _ (size : ℕ) (due : ℕ → ℕ) (cs : List Cover) (few : size ≤ 32) 
       sym (sum-change (λ q. whole (at cs q)) (λ q. whole (at (set cs p c) q)) size p h (λ j l n. ap whole (sym (at-other c j n))))
       ∙ ap (λ (w : Cover). totalOf size cs + whole w) (at-same c)
 
-  pub covers-set : (c : Cover) (due′ : ℕ → ℕ) → c .reserved ≡ due′ p → ((q : ℕ) → q < size → (q ≡ p → ⊥) → due q ≡ due′ q)
+  pub covers-set : (c : Cover) (due′ : ℕ → ℕ) → c .reserved ≡ due′ p → Kept size due p due′
       → (c .held ≡ 0) ⊎ (c .debit ≡ 0) → c .debit ≤ mostOpening → CoversSound size due′ (set cs p c)
   covers-set c due′ r others e d =
       record {
