@@ -1,6 +1,6 @@
 -- Right days: cases D and E of 01 'At the edges' and a busy day, as the rules give them: what each sum, each order's wait and each ending
 -- comes to, and that the claim holds. Assumes nothing.
-use mathlib.Core.Path.{_≡_, refl}
+use mathlib.Core.Path.{refl}
 use mathlib.Core.List.{List, [], _∷_}
 use Prim.Native.Nat.{ℕ}
 use Rattle.codes.specs.Bic.{isBic}

@@ -1,6 +1,6 @@
 -- Histories written down by hand. The claim is false of those in `wrong`, each named by what it shows; of those in `unseen` it holds, and
 -- demand 2 shuts them out. Participants: A is 0, B and the linked system L are 1. Assumes nothing.
-use mathlib.Core.Path.{_≡_, refl}
+use mathlib.Core.Path.{refl}
 use mathlib.Core.List.{List, [], _∷_}
 use Prim.Native.Nat.{ℕ}
 use Prim.Native.String.{String}

@@ -7,13 +7,12 @@
 -- Assumes nothing.
 use Prim.Native.Nat.{ℕ, _+_, _≤_, _<_}
 use mathlib.Core.Path.{_≡_}
-use mathlib.Core.Bool.{Bool, true, false}
 use mathlib.Core.List.{List, [], _∷_}
 use Rattle.report.specs.declared.Report.{Report}
 use Rattle.rules.specs.Book.{orderOf, coverOf}
 use Rattle.rules.specs.Tick.{isWaiting}
 use Rattle.rules.specs.declared.Book.{Book}
-use Rattle.audit.specs.History.{Seen, History, Each, size}
+use Rattle.audit.specs.History.{History, Each, size}
 use Rattle.audit.specs.Sums.{coverIns, coverOuts, debits, credits, settledTo, settledFrom, returnsBy, returnsTo}
 use Rattle.audit.specs.Orders.{orderCount, orderAmount, waits, waitingSum, letsExpire, mustExpire, endingTickets, allEndings}
 

@@ -1,5 +1,5 @@
 -- Carrying a remainder over the characters from i on: one more of them, one that is wrong, and none left. Assumes nothing.
-use mathlib.Core.Path.{_≡_, refl, _∙_, ap, sym}
+use mathlib.Core.Path.{_≡_, _∙_, ap, sym}
 use mathlib.Core.Bool.{Bool, true, false, cond, _&&_}
 use mathlib.Core.List.{List, [], _∷_}
 use Prim.Native.Nat.{ℕ, _+_, _%_, _≤_, _<_}
@@ -8,7 +8,6 @@ use lib.ListN.{length, getD, drop, drop-of-length-le}
 use Rattle.codes.specs.Class.{isIn, allIn}
 use Rattle.codes.specs.Carry.{behind, carried}
 use Rattle.codes.specs.declared.classes.Class.{Class}
-use Rattle.codes.specs.declared.remainder.Carried.{Carried}
 use Rattle.codes.specs.declared.remainder.Carried.the-variants.{Left, Wrong}
 use Rattle.fields.proofs.Reading.{left-from}
 use Rattle.codes.proofs.Number.{behind-append, behind-mod}

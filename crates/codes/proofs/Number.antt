@@ -1,9 +1,9 @@
 -- The number that characters spell: written behind another, in parts, and by its remainder. Assumes nothing.
 use mathlib.Core.Path.{_≡_, refl, sym, _∙_, ap}
-use mathlib.Core.Bool.{Bool, true, false, cond}
+use mathlib.Core.Bool.{cond}
 use mathlib.Core.List.{List, [], _∷_, _++_, append-assoc, append-nil}
 use Prim.Native.Nat.{ℕ, _+_, _*_, _/_, _%_, _^_, _≤_, _<_}
-use native.Mathlib.Nat.{add-assoc, add-mul, mul-assoc, mul-right-comm, zero-mul, zero-add, add-zero, mul-one, div-add-mod', mul-add-mod-self-right}
+use native.Mathlib.Nat.{add-assoc, add-mul, mul-assoc, mul-right-comm, zero-mul, zero-add, div-add-mod', mul-add-mod-self-right}
 use native.Mathlib.Omega.{arith}
 use borrow.Author.Tests.{lt-ltb, le-ltb}
 use lib.Pow.{pow-add}

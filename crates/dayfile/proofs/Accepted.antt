@@ -1,13 +1,13 @@
 -- An accepted file has what `GuaranteedFile` says; the roster of a refused one has what `Guaranteed` says too.
 -- Assumes nothing.
-use mathlib.Core.Path.{_≡_, refl, sym, _∙_, ap, ap₂, subst}
+use mathlib.Core.Path.{_≡_}
 use mathlib.Core.Bool.{Bool, true, false, _&&_, _||_, not, cond}
-use mathlib.Core.List.{List, []}
+use mathlib.Core.List.{List}
 use mathlib.Core.Logic.{⊎-elim}
-use Prim.Native.Nat.{ℕ, zero, suc, _+_, _*_, _≤_, _<_}
+use Prim.Native.Nat.{ℕ, _+_, _*_, _≤_, _<_}
 use native.Mathlib.Nat.{not-suc-le-zero}
 use native.Mathlib.Omega.{arith}
-use borrow.Author.Tests.{leb-true, eqb-true, ltb-true, not-true}
+use borrow.Author.Tests.{leb-true, ltb-true, not-true}
 use lib.Dec.{leb, ltb, eqb}
 use lib.ListN.{length, getD, length-replicate}
 use Rattle.codes.specs.Bic.{isBic}
@@ -15,19 +15,15 @@ use Rattle.fields.specs.Number.{part, numberAt}
 use Rattle.fields.specs.Text.{blank, same}
 use Rattle.fields.proofs.Tests.{and-left, and-right}
 use Rattle.fields.proofs.UpTo.{all-at, none-at, rows-length, row-at}
-use Rattle.dayfile.specs.Header.{headed}
 use Rattle.dayfile.specs.Rows.{participantOk, limitOf, routeOk, bicAmong, mostOpening}
-use Rattle.dayfile.specs.Check.{InRange, ranged, placed, rowed, participantRight, routeRight, participantsOk, routesOk}
-use Rattle.dayfile.specs.Roster.{kindOf, openingOf, targetOf, participantAt, routeAt, participantsTo, routesTo, rosterOf, emptyRoster, noParticipant, noRoute, participantOf, routeOf}
+use Rattle.dayfile.specs.Check.{participantRight, routeRight, participantsOk, routesOk}
+use Rattle.dayfile.specs.Roster.{participantAt, routeAt, rosterOf, emptyRoster, noParticipant, noRoute, participantOf, routeOf}
 use Rattle.dayfile.specs.DayFile.{dayFile}
 use Rattle.dayfile.specs.Guarantee.{OpeningWithin, LeadsWithin, Guaranteed, GuaranteedFile}
 use Rattle.dayfile.proofs.Passing.{Accepted, Refused, outcome, accepted}
 use Rattle.dayfile.specs.declared.header.Sections.{Sections}
 use Rattle.dayfile.specs.declared.roster.Opening.the-variants.{None, Cover}
 use Rattle.dayfile.specs.declared.roster.Target.the-variants.{To, Row}
-use Rattle.dayfile.specs.declared.roster.Participant.{Participant}
-use Rattle.dayfile.specs.declared.roster.Route.{Route}
-use Rattle.dayfile.specs.declared.roster.Roster.{Roster}
 
 pub empty-guaranteed : Guaranteed emptyRoster
 empty-guaranteed =

@@ -1,6 +1,6 @@
 -- Where the rows of a section lie. Assumes nothing.
-use mathlib.Core.Path.{_≡_, subst, sym}
-use Prim.Native.Nat.{ℕ, suc, _+_, _*_, _≤_, _<_}
+use mathlib.Core.Path.{subst}
+use Prim.Native.Nat.{ℕ, _+_, _*_, _≤_, _<_}
 use native.Mathlib.Nat.{mul-le-mul-left, mul-suc}
 
 -- a row before the n-th ends where the n-th begins, or before

@@ -1,8 +1,8 @@
 -- Big-endian numbers: in two parts, and read back. Assumes nothing.
-use mathlib.Core.Path.{_≡_, refl, sym, _∙_, ap, ap₂, subst}
+use mathlib.Core.Path.{_≡_, refl, sym, _∙_, ap, ap₂}
 use mathlib.Core.List.{List, [], _∷_, _++_}
 use Prim.Native.Nat.{ℕ, zero, suc, _+_, _*_, _/_, _%_, _^_, _≤_, _<_}
-use native.Mathlib.Nat.{add-zero, zero-add, suc-add, add-mul, mul-assoc, mul-comm, add-assoc, zero-mul, mul-one, one-mul, mul-pos, pow-succ', div-div-eq-div-mul, mod-mod-of-dvd, dvd-mul-left, mod-lt, mod-one, mod-eq-of-lt}
+use native.Mathlib.Nat.{zero-add, suc-add, add-mul, mul-assoc, mul-comm, add-assoc, zero-mul, one-mul, mul-pos, pow-succ', div-div-eq-div-mul, mod-mod-of-dvd, dvd-mul-left, mod-lt, mod-one, mod-eq-of-lt}
 use native.Mathlib.Omega.{arith}
 use lib.Arith.{mod-mul, digits-div}
 use lib.Dec.{lit<}

@@ -1,14 +1,14 @@
 -- The laws of reports in a buffer: written field by field, kept before and after, laid down one more, and read back.
 -- Assumes nothing.
 use mathlib.Core.Path.{_≡_, refl, sym, _∙_, ap, ap₂}
-use mathlib.Core.List.{List, [], _∷_, _++_, append-assoc, append-nil}
-use Prim.Native.Nat.{ℕ, zero, suc, _+_, _*_, _≤_, _<_}
+use mathlib.Core.List.{List, [], _∷_, _++_, append-nil}
+use Prim.Native.Nat.{ℕ, _+_, _*_, _≤_, _<_}
 use native.Mathlib.Nat.{add-zero}
 use native.Mathlib.Numerals.{add-one, add-two, add-four}
 use native.Mathlib.Omega.{arith}
 use lib.ListN.{length, getD, set, take, drop, length-append, length-drop}
 use lib.Seq.{sets, sets-eq, take-at, drop-at, drop-drop, getD-take, getD-drop}
-use Rattle.fields.specs.Number.{part, number, numberAt, bytesOf}
+use Rattle.fields.specs.Number.{part, number, bytesOf}
 use Rattle.fields.proofs.Stores.{sets-before, sets-after, sets-part, part-part}
 use Rattle.fields.proofs.BigEndian.{reads-back}
 use Rattle.report.specs.Layout.{reportBytes, reportAt, reportsBytes, reportsOf, laid, Fitting, AllFitting}

@@ -1,12 +1,12 @@
 -- What an accepted ticket has: its sender, the order that it is about, its party, status, amount. Assumes nothing.
-use mathlib.Core.Path.{_≡_, refl, sym, _∙_, ap}
-use mathlib.Core.Bool.{Bool, true, false, _&&_, not, cond}
+use mathlib.Core.Path.{_≡_}
+use mathlib.Core.Bool.{Bool, true, false, _&&_, not}
 use mathlib.Core.List.{List}
 use Prim.Native.Nat.{ℕ, _+_, _≤_, _<_}
-use borrow.Author.Tests.{ltb-false, leb-false, eqb-true, not-false, not-true}
+use borrow.Author.Tests.{ltb-false, leb-false, eqb-true, not-false}
 use lib.Dec.{leb, ltb, eqb}
 use Rattle.fields.specs.Text.{same}
-use Rattle.fields.specs.Search.{isFound, numberOf}
+use Rattle.fields.specs.Search.{isFound}
 use Rattle.fields.proofs.Finding.{FoundAt, found-at, not-found}
 use Rattle.ticket.specs.Layout.{senderOf, payeeOf, txidField}
 use Rattle.ticket.specs.Form.{formOf}

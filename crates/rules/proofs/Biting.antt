@@ -1,9 +1,8 @@
 -- Soundness rules something out: a book whose reserved cover is a cent off is not sound. Assumes nothing.
-use mathlib.Core.Path.{_≡_, refl, sym, _∙_}
-use mathlib.Core.List.{List, [], _∷_}
+use mathlib.Core.Path.{_≡_}
+use mathlib.Core.List.{[], _∷_}
 use Prim.Native.Nat.{ℕ}
 use native.Mathlib.Omega.{arith}
-use Rattle.codes.specs.Text.{text}
 use Rattle.codes.specs.Bic.{isBic}
 use Rattle.dayfile.specs.DayFile.{dayFile}
 use Rattle.rules.specs.Book.{bookOf}

@@ -1,6 +1,6 @@
 -- The marked cases of 01 'At the edges', and more edges of the steps, as rows: a day file and what the program prints for it.
 -- Assumes nothing.
-use mathlib.Core.Path.{_≡_, refl}
+use mathlib.Core.Path.{refl}
 use mathlib.Core.List.{List, [], _∷_, _++_}
 use Prim.Native.Nat.{ℕ}
 use Prim.Native.String.{String}

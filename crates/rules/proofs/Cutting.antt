@@ -1,12 +1,10 @@
 -- A cut and a confirm keep a book sound. Assumes nothing.
-use mathlib.Core.Path.{_≡_, refl, sym, _∙_, ap}
-use mathlib.Core.Bool.{Bool, true, false, _&&_, _||_, not, cond}
-use mathlib.Core.List.{List}
+use mathlib.Core.Path.{_≡_, refl, _∙_}
+use mathlib.Core.Bool.{Bool, true, false, not, cond}
 use Prim.Native.Nat.{ℕ, zero, suc, _+_, _-_, _≤_, _<_}
 use native.Mathlib.Omega.{arith}
-use borrow.Author.Tests.{ltb-true, ltb-false, eqb-true, not-false}
+use borrow.Author.Tests.{eqb-true, not-false}
 use lib.Dec.{ltb, eqb}
-use lib.ListN.{length}
 use lib.Seq.{getD-set-other}
 use Rattle.fields.specs.UpTo.{anyTo}
 use Rattle.fields.proofs.Tests.{or-left, or-right}
@@ -17,7 +15,7 @@ use Rattle.dayfile.specs.Guarantee.{OpeningWithin}
 use Rattle.dayfile.specs.declared.roster.Opening.{Opening}
 use Rattle.dayfile.specs.declared.roster.Opening.the-variants as opening
 use Rattle.rules.specs.Book.{noCover, coverOf}
-use Rattle.rules.specs.Cover.{at, give, hold, owe, clear, total, totalOf, mostTotal}
+use Rattle.rules.specs.Cover.{at, give, clear, total, mostTotal}
 use Rattle.rules.specs.Tell.{Told}
 use Rattle.rules.specs.Refusal.{isOpen}
 use Rattle.rules.specs.Own.{withCovers, cutAbove, cutBelow, cutAt, cutOpening, cutOne, cutTo, confirmed}

@@ -1,25 +1,24 @@
 -- The fresh book is sound, and what happens to a book keeps it so: the clock, an order's status with the cover that moves with it,
 -- one order more, and each move of cover. Assumes nothing.
 use mathlib.Core.Path.{_≡_, refl, sym, _∙_, ap}
-use mathlib.Core.Bool.{Bool, true, false, _&&_, cond}
+use mathlib.Core.Bool.{true, false}
 use mathlib.Core.List.{List}
-use mathlib.Core.Logic.{_⊎_, inl, ⊎-elim}
+use mathlib.Core.Logic.{inl}
 use Prim.Native.Nat.{ℕ, _+_, _-_, _≤_, _<_}
 use native.Mathlib.Nat.{not-suc-le-zero}
 use native.Mathlib.Omega.{arith}
 use borrow.Author.Tests.{eq-eqb, ne-eqb}
-use lib.Dec.{eqb}
-use lib.ListN.{length, getD, set, replicate, length-replicate, getD-replicate}
+use lib.ListN.{set, replicate, length-replicate, getD-replicate}
 use Rattle.fields.proofs.UpTo.{sum-zero}
 use Rattle.dayfile.specs.Rows.{mostOpening}
 use Rattle.dayfile.specs.Guarantee.{Guaranteed}
 use Rattle.dayfile.specs.declared.roster.Roster.{Roster}
 use Rattle.rules.specs.Book.{noOrder, noCover, unusedOrder, orderOf, coverOf, freshBook}
-use Rattle.rules.specs.Cover.{at, give, draw, reserve, release, spend, hold, owe, clear, whole, totalOf, total, mostTotal}
+use Rattle.rules.specs.Cover.{at, give, draw, release, spend, hold, owe, clear, whole, totalOf, total, mostTotal}
 use Rattle.rules.specs.Order.{withStatus, marked, expired, refused, settled, asked, returned, declined}
 use Rattle.rules.specs.Tick.{isWaiting, atTime}
 use Rattle.rules.specs.Own.{withCovers, newOrder}
-use Rattle.rules.specs.Sound.{waitingAmount, waitingSum, OrdersSound, CoversSound, Sound}
+use Rattle.rules.specs.Sound.{waitingAmount, waitingSum, CoversSound, Sound}
 use Rattle.rules.specs.declared.Recall.the-variants.{None, Asked, Declined}
 use Rattle.rules.specs.declared.Status.{Status}
 use Rattle.rules.specs.declared.Status.the-variants.{Waiting, Refused, Expired, Returned, Settled}

@@ -1,12 +1,11 @@
 -- What a sound book hands the code: its sums fit, its differences are no numbers below zero, its indexes are within the arrays.
 -- Assumes nothing.
-use mathlib.Core.Path.{_≡_, refl, sym, _∙_, ap}
-use mathlib.Core.Bool.{Bool, true, false}
-use Prim.Native.Nat.{ℕ, _+_, _≤_, _<_}
+use mathlib.Core.Path.{_≡_}
+use mathlib.Core.Bool.{true}
+use Prim.Native.Nat.{ℕ, _≤_, _<_}
 use native.Mathlib.Omega.{arith}
 use Rattle.fields.specs.UpTo.{sumTo}
 use Rattle.fields.proofs.UpTo.{sum-part, sum-prefix}
-use Rattle.ticket.specs.Form.{mostOrder}
 use Rattle.rules.specs.Book.{orderOf, coverOf}
 use Rattle.rules.specs.Cover.{whole, totalOf, total, mostTotal}
 use Rattle.rules.specs.Tick.{isWaiting}

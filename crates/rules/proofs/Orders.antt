@@ -1,10 +1,10 @@
 -- What keeps the facts of `OrdersSound`, and what it does to the sums of waiting orders: another status, a later clock, one order
 -- more. Assumes nothing.
 use mathlib.Core.Path.{_≡_, refl, sym, _∙_, ap, ap₂}
-use mathlib.Core.Bool.{Bool, true, false, _&&_, cond, and-false}
+use mathlib.Core.Bool.{true, false, _&&_, cond, and-false}
 use mathlib.Core.List.{List}
 use mathlib.Core.Logic.{_⊎_, ⊎-elim}
-use Prim.Native.Nat.{ℕ, suc, _+_, _≤_, _<_}
+use Prim.Native.Nat.{ℕ, _+_, _≤_, _<_}
 use native.Mathlib.Numerals.{add-one}
 use native.Mathlib.Omega.{arith}
 use borrow.Author.Tests.{eq-eqb, ne-eqb}
@@ -13,15 +13,13 @@ use lib.ListN.{length, getD, set, length-set}
 use lib.Seq.{getD-set-same, getD-set-other}
 use Rattle.codes.specs.Txid.{isTxid}
 use Rattle.fields.specs.Text.{same, unpadded}
-use Rattle.fields.specs.UpTo.{sumTo}
 use Rattle.fields.proofs.UpTo.{sum-same, sum-change, sum-part}
 use Rattle.ticket.specs.Form.{mostOrder}
-use Rattle.rules.specs.Book.{noOrder, unusedOrder}
+use Rattle.rules.specs.Book.{noOrder}
 use Rattle.rules.specs.Order.{withStatus}
 use Rattle.rules.specs.Tick.{isWaiting}
 use Rattle.rules.specs.Sound.{waitingAmount, waitingSum, OrdersSound}
 use Rattle.rules.specs.declared.Status.{Status}
-use Rattle.rules.specs.declared.Status.the-variants.{Waiting}
 use Rattle.rules.specs.declared.Order.{Order}
 use Rattle.rules.proofs.Same.{same-or-not}
 

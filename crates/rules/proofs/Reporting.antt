@@ -1,14 +1,13 @@
 -- The reports of a step: each fits its 12 bytes, and there are at most 544. Assumes nothing.
-use mathlib.Core.Path.{_≡_, refl, sym, _∙_, ap}
+use mathlib.Core.Path.{_≡_, refl, _∙_}
 use mathlib.Core.Bool.{Bool, true, false, cond}
 use mathlib.Core.List.{List, [], _∷_, _++_}
-use Prim.Native.Nat.{ℕ, zero, suc, _+_, _-_, _*_, _^_, _≤_, _<_}
+use Prim.Native.Nat.{ℕ, zero, suc, _+_, _-_, _^_, _≤_, _<_}
 use native.Mathlib.Omega.{arith}
 use borrow.Author.Tests.{ltb-false, eqb-true}
 use lib.Dec.{ltb, eqb}
 use lib.ListN.{length, length-append}
 use Rattle.fields.specs.UpTo.{anyTo}
-use Rattle.ticket.specs.Form.{mostOrder}
 use Rattle.ticket.specs.Reading.{reading}
 use Rattle.ticket.specs.declared.Fields.{Fields}
 use Rattle.ticket.specs.declared.Reading.{Reading}
@@ -24,12 +23,11 @@ use Rattle.dayfile.specs.Guarantee.{OpeningWithin}
 use Rattle.dayfile.specs.declared.roster.Opening.{Opening}
 use Rattle.dayfile.specs.declared.roster.Opening.the-variants as opening
 use Rattle.rules.specs.Book.{orderOf, coverOf, isBank}
-use Rattle.rules.specs.Find.{wayIn, payeeOfWay}
 use Rattle.rules.specs.Tell.{Told, tellOrder, tellCut}
 use Rattle.rules.specs.Tick.{due, expireTold, sweepTo, atTime, tick}
-use Rattle.rules.specs.Refusal.{senderNumber, orderNumber, isOpen, firstRefusal}
+use Rattle.rules.specs.Refusal.{orderNumber, isOpen, firstRefusal}
 use Rattle.rules.specs.Own.{settledReports, markReports, inquiryReports, cutAbove, cutBelow, cutAt, cutOpening, cutOne, cutTo, ownStep}
-use Rattle.rules.specs.Step.{Step, untouched, accepted, settle, afterTick, stepRead, stepOf, ticked}
+use Rattle.rules.specs.Step.{untouched, accepted, settle, afterTick, stepRead, stepOf, ticked}
 use Rattle.rules.specs.Sound.{Sound}
 use Rattle.rules.specs.declared.Recall.{Recall}
 use Rattle.rules.specs.declared.Recall.the-variants as mark

@@ -1,8 +1,8 @@
 -- Every step keeps a book sound, whatever the ticket. Assumes nothing.
-use mathlib.Core.Path.{_≡_, refl, sym, _∙_, ap}
+use mathlib.Core.Path.{_≡_, refl, sym, _∙_}
 use mathlib.Core.Bool.{Bool, true, false, cond}
 use mathlib.Core.List.{List}
-use Prim.Native.Nat.{ℕ, _+_, _≤_, _<_}
+use Prim.Native.Nat.{ℕ}
 use native.Mathlib.Omega.{arith}
 use borrow.Author.Tests.{ltb-false, eqb-true}
 use lib.Dec.{ltb, eqb}
@@ -17,16 +17,15 @@ use Rattle.ticket.specs.declared.kinds.Kind.{Kind}
 use Rattle.ticket.specs.declared.kinds.Kind.the-variants as kind
 use Rattle.ticket.proofs.Telling.{Tells, read-tells, listed-txid}
 use Rattle.dayfile.specs.DayFile.{dayFile}
-use Rattle.dayfile.specs.declared.route.Followed.{Followed}
 use Rattle.dayfile.proofs.Accepted.{guaranteed}
-use Rattle.rules.specs.Book.{orderOf, coverOf, bookOf}
+use Rattle.rules.specs.Book.{orderOf, bookOf}
 use Rattle.rules.specs.Find.{wayIn, payeeOfWay}
 use Rattle.rules.specs.Cover.{total}
 use Rattle.rules.specs.Tell.{Told}
 use Rattle.rules.specs.Tick.{isWaiting, tick}
 use Rattle.rules.specs.Refusal.{senderNumber, orderNumber, isUnmarked, isAsked, firstRefusal}
 use Rattle.rules.specs.Own.{ownStep}
-use Rattle.rules.specs.Step.{Step, untouched, accepted, settle, afterTick, stepRead, stepOf, ticked, Outcome, leastBuffer, outcome}
+use Rattle.rules.specs.Step.{untouched, accepted, settle, afterTick, stepRead, stepOf, ticked, leastBuffer, outcome}
 use Rattle.rules.specs.Sound.{Sound}
 use Rattle.rules.specs.declared.Recall.the-variants as mark
 use Rattle.rules.specs.declared.Status.{Status}
@@ -36,7 +35,6 @@ use Rattle.rules.proofs.Keeping as keeping
 use Rattle.rules.proofs.Cutting.{cut-to, confirmed-sound}
 use Rattle.rules.proofs.Refusing.{NoRefusal, none-applies}
 use Rattle.rules.proofs.Accepting.{sender-found, txid-free, payee-known, room-left, order-found, right-party, status-ready, full-amount, cover-there, limit-kept}
-use Rattle.rules.proofs.Sweeping.{Swept}
 use Rattle.rules.proofs.Sweeping as sweeping
 
 -- an order that is ready for a recall, or for a return or a decline, does not wait

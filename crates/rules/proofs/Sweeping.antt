@@ -1,14 +1,13 @@
 -- The clock and the expiries keep a book sound; roster, count and clock are not theirs to change. Assumes nothing.
-use mathlib.Core.Path.{_≡_, refl, _∙_}
+use mathlib.Core.Path.{_≡_, refl}
 use mathlib.Core.Bool.{Bool, true, false, _&&_, cond}
-use Prim.Native.Nat.{ℕ, zero, suc, _-_, _≤_, _<_}
+use Prim.Native.Nat.{ℕ, zero, suc, _-_, _≤_}
 use native.Mathlib.Omega.{arith}
 use lib.Dec.{leb}
 use Rattle.fields.proofs.Tests.{and-left}
-use Rattle.dayfile.specs.declared.roster.Roster.{Roster}
 use Rattle.rules.specs.Book.{orderOf, isBank}
 use Rattle.rules.specs.Tell.{Told}
-use Rattle.rules.specs.Tick.{isWaiting, due, expireTold, sweepOne, sweepTo, atTime, tick}
+use Rattle.rules.specs.Tick.{isWaiting, due, expireTold, sweepTo, atTime, tick}
 use Rattle.rules.specs.Sound.{Sound}
 use Rattle.rules.specs.declared.Book.{Book}
 use Rattle.rules.proofs.Keeping.{later-sound, expired-sound}

@@ -7,7 +7,6 @@ use lib.Dec.{leb, ltb, eqb}
 use Rattle.fields.specs.UpTo.{anyTo}
 use Rattle.fields.specs.Search.{isFound, numberOf}
 use Rattle.ticket.specs.Form.{formOf}
-use Rattle.ticket.specs.declared.Fields.{Fields}
 use Rattle.ticket.specs.declared.kinds.Kind.{Kind}
 use Rattle.ticket.specs.declared.kinds.Kind.the-variants.{CoverIn, CoverOut, Order, Yes, No, Recall, Return, Decline, Inquiry, Cut, Confirm, Tick}
 use Rattle.rules.specs.Book.{orderOf, coverOf}

@@ -4,11 +4,9 @@ use mathlib.Core.Bool.{Bool, true, false, _&&_, not, cond}
 use mathlib.Core.List.{List}
 use Prim.Native.Nat.{ℕ, _≤_}
 use native.Mathlib.Omega.{arith}
-use borrow.Author.Tests.{ltb-false, eqb-true}
+use borrow.Author.Tests.{ltb-false}
 use lib.Dec.{ltb, eqb}
 use lib.ListN.{length}
-use Rattle.codes.specs.Bic.{isBic}
-use Rattle.codes.specs.Iban.{isIban}
 use Rattle.codes.specs.Txid.{isTxid}
 use Rattle.fields.proofs.Tests.{and-left, and-right}
 use Rattle.ticket.specs.Layout as layout
@@ -16,7 +14,7 @@ use Rattle.ticket.specs.Kind.{kinded}
 use Rattle.ticket.specs.Form.{formOf}
 use Rattle.ticket.specs.Shape.{bicIfListed, txidIfListed, blankUnlessListed, wellFormed, shapeAs, shapeOf, accountOf}
 use Rattle.ticket.specs.Amount.{statedIn, limitOf}
-use Rattle.ticket.specs.Reading.{reading, readShape, readAccount, readStated, readLimit}
+use Rattle.ticket.specs.Reading.{reading, readAccount, readStated, readLimit}
 use Rattle.ticket.specs.declared.Fields.{Fields}
 use Rattle.ticket.specs.declared.Reading.{Reading}
 use Rattle.ticket.specs.declared.Reading.the-variants.{Read, Refused}

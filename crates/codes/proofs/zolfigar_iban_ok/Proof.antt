@@ -7,8 +7,7 @@ use borrow.Author.Needs.{needs}
 use lib.ListN.{drop}
 use Rattle.codes.specs.Answer.{answer}
 use Rattle.codes.specs.Carry.{carried}
-use Rattle.codes.specs.declared.classes.Class.the-variants.{Capital, Digit, LetterOrDigit}
-use Rattle.codes.specs.declared.remainder.Carried.the-variants.{Left}
+use Rattle.codes.specs.declared.classes.Class.the-variants.{LetterOrDigit}
 use Rattle.fields.proofs.Reading.{to-end}
 use Rattle.codes.proofs.Iban.{too-short, too-long, wrong-rest, wrong-country, wrong-check, passed}
 use Rattle.codes.proofs.zolfigar_iban_ok.Statement.{statement}

@@ -7,9 +7,8 @@ use native.Mathlib.Omega.{arith}
 use denote.Ref.{now}
 use lib.ListN.{length}
 use Rattle.dayfile.specs.Header.{headed}
-use Rattle.dayfile.specs.Check.{InRange, ranged, placed, rowed, participantsOk, routesOk}
+use Rattle.dayfile.specs.Check.{InRange, ranged, placed}
 use Rattle.dayfile.specs.DayFile.{dayFile, fileHeaded, fileRanged, filePlaced, fileParticipants, fileRoutes}
-use Rattle.dayfile.specs.declared.DayFile.{DayFile}
 use Rattle.dayfile.specs.declared.header.Header.{Header}
 use Rattle.dayfile.specs.declared.header.Headed.the-variants.{As}
 use Rattle.dayfile.specs.declared.check.Ranged.the-variants.{Within}

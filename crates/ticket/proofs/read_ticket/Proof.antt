@@ -16,7 +16,6 @@ use Rattle.ticket.specs.declared.kinds.Kind.{Kind}
 use Rattle.ticket.specs.declared.Reading.the-variants.{Read}
 use Rattle.ticket.specs.declared.shapes.Shape.the-variants.{Formed}
 use Rattle.ticket.specs.declared.shapes.Account.the-variants.{Named}
-use Rattle.ticket.specs.declared.amounts.Stated.the-variants.{Amount}
 use Rattle.ticket.proofs.Laws.{formed-length, read-formed, read-named, read-stated}
 use Rattle.ticket.proofs.read_ticket.Statement.{statement}
 use Rattle.ticket.proofs.read_ticket.Tie as tie

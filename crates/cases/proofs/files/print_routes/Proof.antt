@@ -1,6 +1,5 @@
 -- `cases::files::print_routes` is safe and ends. Assumes nothing.
-use Prim.Native.Nat.{_+_, _≤_, _-_}
-use lib.ListN.{length}
+use Prim.Native.Nat.{_≤_, _-_}
 use borrow.Author.Needs.{needs}
 use Rattle.cases.proofs.files.print_routes.Statement.{statement}
 use Rattle.cases.proofs.files.print_routes.Tie as tie

@@ -1,5 +1,5 @@
 -- `cases::files::way_of` meets its contract: the roster of any file has at most 64 rows. Assumes nothing.
-use mathlib.Core.Path.{_≡_, _∙_, ap}
+use mathlib.Core.Path.{_∙_, ap}
 use denote.Ref.{now}
 use Rattle.dayfile.specs.Route.{followedBic}
 use Rattle.dayfile.specs.declared.DayFile.{DayFile}

@@ -1,5 +1,5 @@
 -- `cases::words::find` meets its contract. Assumes nothing.
-use Prim.Native.Nat.{_+_, _≤_, _-_}
+use Prim.Native.Nat.{_≤_, _-_}
 use lib.ListN.{length}
 use borrow.Author.Needs.{needs}
 use Rattle.cases.proofs.words.find.Statement.{statement}

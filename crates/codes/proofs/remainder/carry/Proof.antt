@@ -1,6 +1,6 @@
 -- `codes::remainder::carry` meets its contract. The loop's invariant: carrying what is left by now over the characters from i
 -- on gives what is to be given. Assumes nothing.
-use mathlib.Core.Path.{_≡_, refl, _∙_, ap, sym}
+use mathlib.Core.Path.{_≡_, _∙_, ap, sym}
 use mathlib.Core.List.{List}
 use Prim.Native.Nat.{ℕ, _+_, _≤_, _<_, _-_}
 use native.Mathlib.Nat.{mod-lt}

@@ -1,8 +1,7 @@
 -- `codes::remainder::step` meets its contract: a digit takes one place behind the number, a letter two.
 -- Assumes nothing.
-use mathlib.Core.Path.{_≡_, _∙_, sym, ap}
+use mathlib.Core.Path.{ap}
 use Prim.Native.Nat.{ℕ, _+_, _*_, _%_}
-use native.Mathlib.Omega.{arith}
 use borrow.Author.Needs.{needs}
 use Rattle.codes.proofs.Number.{behind-digit, behind-letter}
 use Rattle.codes.proofs.remainder.step.Statement.{statement}

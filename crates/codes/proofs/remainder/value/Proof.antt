@@ -1,7 +1,6 @@
 -- `codes::remainder::value` meets its contract: the class of the byte says which case of the definition holds, and that the
 -- difference is no number below zero. Assumes nothing.
-use mathlib.Core.Path.{_≡_, _∙_, sym}
-use native.Mathlib.Omega.{arith}
+use mathlib.Core.Path.{_∙_, sym}
 use borrow.Author.Needs.{needs}
 use Rattle.fields.proofs.Tests.{not-below}
 use Rattle.codes.proofs.remainder.value.Statement.{statement}

@@ -1,5 +1,4 @@
 -- `dayfile::check::check_counts` meets its contract. Assumes nothing.
-use borrow.Author.Needs.{needs}
 use Rattle.dayfile.proofs.check.check_counts.Statement.{statement}
 use Rattle.dayfile.proofs.check.check_counts.Tie as tie
 

@@ -1,6 +1,5 @@
 -- `dayfile::read::target_of` meets its contract. Assumes nothing.
 use borrow.Author.Tests.{eq-eqb, ne-eqb}
-use borrow.Author.Needs.{needs}
 use Rattle.dayfile.proofs.read.target_of.Statement.{statement}
 use Rattle.dayfile.proofs.read.target_of.Tie as tie
 

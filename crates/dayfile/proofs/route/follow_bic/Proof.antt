@@ -1,5 +1,5 @@
 -- `dayfile::route::follow_bic` meets its contract. Assumes nothing.
-use mathlib.Core.Path.{_≡_, _∙_, sym, ap}
+use mathlib.Core.Path.{_∙_, sym, ap}
 use Rattle.dayfile.specs.Route.{followedFrom}
 use borrow.Author.Needs.{needs}
 use Rattle.dayfile.proofs.route.follow_bic.Statement.{statement}

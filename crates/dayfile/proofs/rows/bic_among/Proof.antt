@@ -1,11 +1,9 @@
 -- `dayfile::rows::bic_among` meets its contract. The loop's invariant: whether one of the first j rows has the BIC. Assumes nothing.
 use mathlib.Core.Path.{_≡_, _∙_, ap}
-use mathlib.Core.Bool.{Bool, _||_}
 use Prim.Native.Nat.{ℕ, _≤_, _-_}
 use native.Mathlib.Numerals.{add-one}
 use native.Mathlib.Omega.{arith}
 use denote.Ref.{now}
-use lib.ListN.{length}
 use Rattle.fields.specs.Number.{part}
 use Rattle.dayfile.specs.Rows.{bicAmong}
 use Rattle.dayfile.proofs.Places.{row-within}

@@ -1,8 +1,8 @@
 -- `fields::text::used` meets its contract. The loop's invariant: n is the length of the value of the first i bytes, and at most i. Assumes nothing.
 use mathlib.Core.Logic.{⊎-elim}
 use denote.Ref.{now}
-use mathlib.Core.Path.{_≡_, refl, sym, _∙_, ap}
-use Prim.Native.Nat.{ℕ, _≤_, _-_}
+use mathlib.Core.Path.{_≡_, sym, _∙_, ap}
+use Prim.Native.Nat.{_≤_, _-_}
 use lib.ListN.{length, take}
 use native.Mathlib.Omega.{arith}
 use lib.Seq.{take-all}

@@ -1,6 +1,5 @@
 -- `ticket::amounts::read_limit` meets its contract. Assumes nothing.
 use borrow.Author.Tests.{lt-ltb, le-ltb}
-use borrow.Author.Needs.{needs}
 use Rattle.ticket.proofs.amounts.read_limit.Statement.{statement}
 use Rattle.ticket.proofs.amounts.read_limit.Tie as tie
 

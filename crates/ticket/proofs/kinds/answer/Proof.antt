@@ -1,6 +1,5 @@
 -- `ticket::kinds::answer` meets its contract. Assumes nothing.
 use borrow.Author.Tests.{ne-eqb}
-use borrow.Author.Needs.{needs}
 use Rattle.ticket.proofs.kinds.answer.Statement.{statement}
 use Rattle.ticket.proofs.kinds.answer.Tie as tie
 

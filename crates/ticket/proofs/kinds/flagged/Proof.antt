@@ -1,5 +1,4 @@
 -- `ticket::kinds::flagged` meets its contract. Assumes nothing.
-use borrow.Author.Needs.{needs}
 use Rattle.ticket.proofs.kinds.flagged.Statement.{statement}
 use Rattle.ticket.proofs.kinds.flagged.Tie as tie
 
