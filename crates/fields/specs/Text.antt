@@ -1,14 +1,15 @@
 -- Fields of bytes: padding with zero bytes, and the same bytes.
 --     valueLength   how many bytes stand before the trailing zeros
 --     unpadded      those bytes: the value of a field that is padded with zero bytes
+--     padded        bytes with zero bytes behind them, w in all
 --     blank         all bytes are zero
 --     same          two lists hold the same bytes
 -- Assumes nothing.
-use Prim.Native.Nat.{ℕ, suc}
+use Prim.Native.Nat.{ℕ, suc, _-_}
 use mathlib.Core.Bool.{Bool, true, false, _&&_, cond}
-use mathlib.Core.List.{List, [], _∷_}
+use mathlib.Core.List.{List, [], _∷_, _++_}
 use lib.Dec.{eqb}
-use lib.ListN.{take}
+use lib.ListN.{length, take, replicate}
 
 abbrev pub blank : List ℕ → Bool
 blank [] = true
@@ -20,6 +21,9 @@ valueLength (b ∷ s) = cond (eqb b 0 && blank s) 0 (suc (valueLength s))
 
 abbrev pub unpadded : List ℕ → List ℕ
 unpadded s = take (valueLength s) s
+
+abbrev pub padded : ℕ → List ℕ → List ℕ
+padded w s = s ++ replicate (w - length s) 0
 
 abbrev pub same : List ℕ → List ℕ → Bool
 same [] [] = true

@@ -7,6 +7,9 @@ use lib.ListN.{getD}
 use Rattle.fields.specs.Number.{part, numberAt}
 use Rattle.fields.specs.Text.{unpadded}
 
+abbrev pub ticketLength : ℕ
+ticketLength = 108
+
 abbrev pub kindByte : List ℕ → ℕ
 kindByte t = getD t 0 0
 
