@@ -51,3 +51,12 @@ followedFrom r found.Nothing = Nowhere
 -- 01: following a payee BIC starts at the row with that BIC
 abbrev pub followedBic : Roster → List ℕ → Followed
 followedBic r bic = followedFrom r (rowWith r bic)
+
+-- the participant reached, and the number of rows followed
+abbrev pub reached : Followed → ℕ
+reached (At p rows) = p
+reached Nowhere = 0
+
+abbrev pub rowsFollowed : Followed → ℕ
+rowsFollowed (At p rows) = rows
+rowsFollowed Nowhere = 0

@@ -1,4 +1,4 @@
--- What an accepted ticket has: its sender, the order that it is about, its party, status, amount. Assumes nothing.
+-- What an accepted ticket has: its sender, the order that it is about, its party, status, amount, cover. Assumes nothing.
 use mathlib.Core.Path.{_≡_}
 use mathlib.Core.Bool.{Bool, true, false, _&&_, not}
 use mathlib.Core.List.{List}
@@ -6,18 +6,21 @@ use Prim.Native.Nat.{ℕ, _+_, _≤_, _<_}
 use borrow.Author.Tests.{ltb-false, leb-false, eqb-true, not-false}
 use lib.Dec.{leb, ltb, eqb}
 use Rattle.fields.specs.Text.{same}
-use Rattle.fields.specs.Search.{isFound}
+use Rattle.fields.specs.Search.{isFound, numberOf}
 use Rattle.fields.proofs.Finding.{FoundAt, found-at, not-found}
 use Rattle.ticket.specs.Layout.{senderOf, payeeOf, txidField}
-use Rattle.ticket.specs.Form.{formOf}
-use Rattle.ticket.specs.declared.kinds.Kind.{Kind}
+use Rattle.ticket.specs.declared.Fields.{Fields}
 use Rattle.dayfile.specs.Roster.{participantOf}
+use Rattle.dayfile.specs.Route.{reached}
 use Rattle.dayfile.specs.Guarantee.{Guaranteed}
 use Rattle.dayfile.proofs.Arriving.{bic-arrives}
-use Rattle.rules.specs.Book.{orderOf, coverOf}
-use Rattle.rules.specs.Find.{senderIn, orderIn, routeIn, wayIn, payeeOfWay}
+use Rattle.rules.specs.Book.{mostOrders, orderOf, coverOf}
 use Rattle.rules.specs.Cover.{total, mostTotal}
-use Rattle.rules.specs.Refusal.{senderNumber, orderNumber, isOrder, isAbout, partyOf, isReady, isReturn, isDrawing, isAdding, refusal12, refusal13, refusal14, refusal15, refusal16, refusal17, refusal18, refusal19, refusal20, refusal22}
+use Rattle.rules.specs.Find.{senderIn, orderIn, routeIn, wayIn, finding}
+use Rattle.rules.specs.Terms.{termsOf, namesSender, opensOrder, namesOrder, partyOf, meets, draws}
+use Rattle.rules.specs.Refusal.{brings, refusal12, refusal13, refusal14, refusal15, refusal16, refusal17, refusal18, refusal19, refusal20, refusal22}
+use Rattle.rules.specs.declared.terms.Terms.{Terms}
+use Rattle.rules.specs.declared.Order.{Order}
 use Rattle.rules.specs.declared.Book.{Book}
 
 -- the second of two tests failed, the first having passed
@@ -25,55 +28,73 @@ second : (a c : Bool) → (a && c) ≡ false → a ≡ true → c ≡ false
 second true c e a = e
 second false c e a = cc
 
-module _ (b : Book) (k : Kind) (t : List ℕ) where
+module _ (b : Book) (f : Fields) (t : List ℕ) where
+  abbrev terms : Terms
+  terms = termsOf (f .kind)
+
+  -- the participant that sends it, and the order with its TxId
+  abbrev pub senderNumber : ℕ
+  senderNumber = numberOf (senderIn (b .roster) t)
+
+  abbrev pub orderNumber : ℕ
+  orderNumber = numberOf (orderIn (b .orders) (b .count) t)
+
+  abbrev pub theOrder : Order
+  theOrder = orderOf (b .orders) orderNumber
+
   -- 12 passed
-  pub sender-found : refusal12 b k t ≡ false → formOf k .sender ≡ true
-      → FoundAt (λ p. same (participantOf (b .roster) p .bic) (senderOf t)) (b .roster .size) (senderNumber b t)
+  pub sender-found : refusal12 (finding b f t) ≡ false → namesSender (terms .subject) ≡ true
+      → FoundAt (λ p. same (participantOf (b .roster) p .bic) (senderOf t)) (b .roster .size) senderNumber
   unfolding senderIn
-  sender-found e listed =
+  sender-found e named =
       found-at (λ p. same (participantOf (b .roster) p .bic) (senderOf t)) (b .roster .size)
-      (not-false _ (second (formOf k .sender) (not (isFound (senderIn b t))) e listed))
+      (not-false _ (second (namesSender (terms .subject)) (not (isFound (senderIn (b .roster) t))) e named))
 
   -- 13 passed
-  pub txid-free : refusal13 b k t ≡ false → isOrder k ≡ true → (i : ℕ) → i < b .count → same (orderOf b i .txid) (txidField t) ≡ false
+  pub txid-free : refusal13 (finding b f t) ≡ false → opensOrder (terms .subject) ≡ true
+      → (i : ℕ) → i < b .count → same (orderOf (b .orders) i .txid) (txidField t) ≡ false
   unfolding orderIn
-  txid-free e is =
-      not-found (λ i. same (orderOf b i .txid) (txidField t)) (b .count) (second (isOrder k) (isFound (orderIn b t)) e is)
+  txid-free e opens =
+      not-found (λ i. same (orderOf (b .orders) i .txid) (txidField t)) (b .count)
+      (second (opensOrder (terms .subject)) (isFound (orderIn (b .orders) (b .count) t)) e opens)
 
   -- 14 passed
-  pub payee-known : Guaranteed (b .roster) → refusal14 b k t ≡ false → isOrder k ≡ true → payeeOfWay (wayIn b t) < b .roster .size
+  pub payee-known : Guaranteed (b .roster) → refusal14 (finding b f t) ≡ false → opensOrder (terms .subject) ≡ true
+      → reached (wayIn (b .roster) t) < b .roster .size
   unfolding routeIn wayIn
-  payee-known g e is =
-      let a = bic-arrives (b .roster) g (payeeOf t) (not-false _ (second (isOrder k) (not (isFound (routeIn b t))) e is)) in
+  payee-known g e opens =
+      let a = bic-arrives (b .roster) g (payeeOf t) (not-false _ (second (opensOrder (terms .subject)) (not (isFound (routeIn (b .roster) t))) e opens)) in
       rw (a .is) (a .known)
 
   -- 15 passed
-  pub room-left : refusal15 b k ≡ false → isOrder k ≡ true → b .count < 256
-  room-left e is = leb-false 256 (b .count) (second (isOrder k) (leb 256 (b .count)) e is)
+  pub room-left : refusal15 (finding b f t) ≡ false → opensOrder (terms .subject) ≡ true → b .count < mostOrders
+  room-left e opens = leb-false mostOrders (b .count) (second (opensOrder (terms .subject)) (leb mostOrders (b .count)) e opens)
 
   -- 16 passed
-  pub order-found : refusal16 b k t ≡ false → isAbout k ≡ true → FoundAt (λ i. same (orderOf b i .txid) (txidField t)) (b .count) (orderNumber b t)
+  pub order-found : refusal16 (finding b f t) ≡ false → namesOrder (terms .subject) ≡ true
+      → FoundAt (λ i. same (orderOf (b .orders) i .txid) (txidField t)) (b .count) orderNumber
   unfolding orderIn
-  order-found e is =
-      found-at (λ i. same (orderOf b i .txid) (txidField t)) (b .count) (not-false _ (second (isAbout k) (not (isFound (orderIn b t))) e is))
+  order-found e named =
+      found-at (λ i. same (orderOf (b .orders) i .txid) (txidField t)) (b .count)
+      (not-false _ (second (namesOrder (terms .subject)) (not (isFound (orderIn (b .orders) (b .count) t))) e named))
 
   -- 17 passed
-  pub right-party : refusal17 b k t ≡ false → isAbout k ≡ true → senderNumber b t ≡ partyOf k (orderOf b (orderNumber b t))
-  right-party e is =
-      eqb-true _ _ (not-false _ (second (isAbout k) (not (eqb (senderNumber b t) (partyOf k (orderOf b (orderNumber b t))))) e is))
+  pub right-party : refusal17 (finding b f t) ≡ false → namesOrder (terms .subject) ≡ true → senderNumber ≡ partyOf (terms .party) theOrder
+  right-party e named =
+      eqb-true _ _ (not-false _ (second (namesOrder (terms .subject)) (not (eqb senderNumber (partyOf (terms .party) theOrder))) e named))
 
   -- 18 passed
-  pub status-ready : refusal18 b k t ≡ false → isReady k (orderOf b (orderNumber b t) .status) ≡ true
-  status-ready e = not-false _ e
+  pub status-meets : refusal18 (finding b f t) ≡ false → meets (terms .needs) (theOrder .status) ≡ true
+  status-meets e = not-false _ e
 
   -- 19 passed
-  pub full-amount : (n : ℕ) → refusal19 b k n t ≡ false → isReturn k ≡ true → n ≡ orderOf b (orderNumber b t) .amount
-  full-amount n e is = eqb-true _ _ (not-false _ (second (isReturn k) (not (eqb n (orderOf b (orderNumber b t) .amount))) e is))
+  pub full-amount : refusal19 (finding b f t) ≡ false → terms .whole ≡ true → f .amount ≡ theOrder .amount
+  full-amount e is = eqb-true _ _ (not-false _ (second (terms .whole) (not (eqb (f .amount) (theOrder .amount))) e is))
 
   -- 20 passed
-  pub cover-there : (n : ℕ) → refusal20 b k n t ≡ false → isDrawing k ≡ true → n ≤ coverOf b (senderNumber b t) .available
-  cover-there n e is = ltb-false _ _ (second (isDrawing k) (ltb (coverOf b (senderNumber b t) .available) n) e is)
+  pub cover-there : refusal20 (finding b f t) ≡ false → draws (terms .flow) ≡ true → f .amount ≤ coverOf (b .covers) senderNumber .available
+  cover-there e is = ltb-false _ _ (second (draws (terms .flow)) (ltb (coverOf (b .covers) senderNumber .available) (f .amount)) e is)
 
   -- 22 passed
-  pub limit-kept : (n : ℕ) → refusal22 b k n t ≡ false → isAdding b k t ≡ true → total b + n ≤ mostTotal
-  limit-kept n e is = ltb-false _ _ (second (isAdding b k t) (ltb mostTotal (total b + n)) e is)
+  pub limit-kept : refusal22 (finding b f t) ≡ false → brings (terms .flow) (coverOf (b .covers) senderNumber) ≡ true → total b + f .amount ≤ mostTotal
+  limit-kept e is = ltb-false _ _ (second (brings (terms .flow) (coverOf (b .covers) senderNumber)) (ltb mostTotal (total b + f .amount)) e is)

@@ -14,7 +14,7 @@ use Rattle.codes.proofs.Cases
 use Rattle.ticket.specs.Reading.{reading}
 use Rattle.dayfile.specs.DayFile.{dayFile}
 use Rattle.dayfile.specs.Route.{followed}
-use Rattle.rules.specs.Find.{senderIn, orderIn, routeIn, wayIn}
+use Rattle.rules.specs.Find.{senderIn, orderIn, routeIn, wayIn, anyOpen}
 use Rattle.rules.specs.Cover.{total}
 use Rattle.rules.specs.Tick.{tick}
 use Rattle.rules.specs.Step.{stepOf}
@@ -209,5 +209,5 @@ abbrev pub cases : List Row
 cases = Rattle.codes.proofs.Cases.cases ++ marked ++ edges
 
 pub cases-met : AllMet cases
-unfolding isBic isIban isTxid reading dayFile followed senderIn orderIn routeIn wayIn total tick stepOf output
+unfolding isBic isIban isTxid reading dayFile followed senderIn orderIn routeIn wayIn anyOpen total tick stepOf output
 cases-met = all-met cases refl

@@ -1,28 +1,24 @@
--- A cut and a confirm keep a book sound. Assumes nothing.
-use mathlib.Core.Path.{_≡_, refl, _∙_}
+-- A cut: what it makes of each cover, and that it keeps a book sound. Assumes nothing.
+use mathlib.Core.Path.{_≡_, refl, sym, _∙_, ap}
 use mathlib.Core.Bool.{Bool, true, false, not, cond}
+use mathlib.Core.List.{List}
+use mathlib.Core.Logic.{inl, inr}
 use Prim.Native.Nat.{ℕ, zero, suc, _+_, _-_, _≤_, _<_}
 use native.Mathlib.Omega.{arith}
-use borrow.Author.Tests.{eqb-true, not-false}
+use borrow.Author.Tests.{ltb-true, eqb-true, not-false}
 use lib.Dec.{ltb, eqb}
-use lib.Seq.{getD-set-other}
-use Rattle.fields.specs.UpTo.{anyTo}
 use Rattle.fields.proofs.Tests.{or-left, or-right}
-use Rattle.fields.proofs.UpTo.{none-at}
-use Rattle.dayfile.specs.Rows.{mostOpening}
 use Rattle.dayfile.specs.Roster.{participantOf}
-use Rattle.dayfile.specs.Guarantee.{OpeningWithin}
 use Rattle.dayfile.specs.declared.roster.Opening.{Opening}
 use Rattle.dayfile.specs.declared.roster.Opening.the-variants as opening
-use Rattle.rules.specs.Book.{noCover, coverOf}
-use Rattle.rules.specs.Cover.{at, give, clear, total, mostTotal}
-use Rattle.rules.specs.Tell.{Told}
-use Rattle.rules.specs.Refusal.{isOpen}
-use Rattle.rules.specs.Own.{withCovers, cutAbove, cutBelow, cutAt, cutOpening, cutOne, cutTo, confirmed}
-use Rattle.rules.specs.Sound.{Sound}
+use Rattle.dayfile.specs.declared.roster.Roster.{Roster}
+use Rattle.rules.specs.Book.{coverOf}
+use Rattle.rules.specs.Cover.{whole, totalOf}
+use Rattle.rules.specs.Find.{isOpen}
+use Rattle.rules.specs.Cut.{withHeld, withDebit, cutCover, cutTo}
+use Rattle.rules.specs.Sound.{CoversSound}
 use Rattle.rules.specs.declared.Cover.{Cover}
-use Rattle.rules.specs.declared.Book.{Book}
-use Rattle.rules.proofs.Keeping.{given-sound, held-sound, owed-sound, cleared-sound}
+use Rattle.rules.proofs.Moving.{Either, set-there, set-total, set-keeps}
 
 -- nothing held, no open debit
 pub record Closed (c : Cover) : Type 0 where
@@ -36,62 +32,52 @@ closed c e =
       debit = eqb-true _ _ (not-false _ (or-right (not (eqb (c .held) 0)) (not (eqb (c .debit) 0)) e));
     }
 
--- after the first p participants: the others' cover is as it was
-pub record Cut (b : Book) (p : ℕ) (w : Told) : Type 0 where
-  pub sound : Sound (w .book)
-  pub roster : w .book .roster ≡ b .roster
-  pub untouched : (q : ℕ) → p ≤ q → coverOf (w .book) q ≡ coverOf b q
+-- what a cut leaves of a cover that was closed
+pub record CutRight (c d : Cover) : Type 0 where
+  pub whole : whole d ≡ whole c
+  pub reserved : d .reserved ≡ c .reserved
+  pub either : Either d
 
-module _ (b : Book) (p : ℕ) (h : p < b .roster .size) (c : Closed (coverOf b p)) (w : Told) (r : Cut b p w) where
-  here : p < w .book .roster .size
-  here = rw (r .roster) h
-
-  is-closed : Closed (coverOf (w .book) p)
-  is-closed = rw (r .untouched p (omega arith)) c
-
-  -- the others' cover after a change at p
-  still : (d : Cover) (q : ℕ) → suc p ≤ q → at (lib.ListN.set (w .book .covers) p d) q ≡ coverOf b q
-  still d q l = getD-set-other (w .book .covers) p q d noCover (λ e. omega arith) ∙ r .untouched q (omega arith)
-
-  cut-at : (k : ℕ) → k ≤ mostOpening → Cut b (suc p) (cutAt w p (coverOf (w .book) p .available) k)
-  cut-at k most = above (ltb k (coverOf (w .book) p .available)) refl (ltb (coverOf (w .book) p .available) k) refl
-    where
-      a : ℕ
-      a = coverOf (w .book) p .available
-
-      above : (x : Bool) → ltb k a ≡ x → (y : Bool) → ltb a k ≡ y
-          → Cut b (suc p) (cond x (cutAbove w p (a - k)) (cond y (cutBelow w p (k - a)) w))
-      above true e y f =
-          record {
-            sound = held-sound (w .book) (r .sound) p here (a - k) (omega arith) (is-closed .debit);
-            roster = r .roster;
-            untouched = λ q l. still _ q l;
-          }
-      above false e true f =
-          record {
-            sound = owed-sound (w .book) (r .sound) p here (k - a) (is-closed .held) (is-closed .debit) (omega arith);
-            roster = r .roster;
-            untouched = λ q l. still _ q l;
-          }
-      above false e false f = record { sound = r .sound; roster = r .roster; untouched = λ q l. r .untouched q (omega arith) }
-
-  cut-opening : (o : Opening) → OpeningWithin o → Cut b (suc p) (cutOpening w p o)
-  cut-opening opening.None i = record { sound = r .sound; roster = r .roster; untouched = λ q l. r .untouched q (omega arith) }
-  cut-opening (opening.Cover k) i = cut-at k i
-
-  cut-one : Cut b (suc p) (cutOne w p)
-  cut-one = cut-opening (participantOf (w .book .roster) p .opening) (r .sound .roster .opening p here)
-
-pub cut-to : (b : Book) → Sound b → anyTo (λ p. isOpen (coverOf b p)) (b .roster .size) ≡ false → (p : ℕ) → p ≤ b .roster .size → Cut b p (cutTo b p)
-cut-to b s e zero h = record { sound = s; roster = refl; untouched = λ q l. refl }
-cut-to b s e (suc p) h =
-    cut-one b p h (closed (coverOf b p) (none-at (λ q. isOpen (coverOf b q)) (b .roster .size) p e h)) (cutTo b p) (cut-to b s e p (omega arith))
-
--- a confirm: of a debit within the limit, or of a credit
-pub confirmed-sound : (b : Book) → Sound b → (p : ℕ) → p < b .roster .size → (n : ℕ) → (eqb (coverOf b p .held) 0 ≡ true → total b + n ≤ mostTotal) → Sound (confirmed b p n)
-unfolding total
-confirmed-sound b s p h n limit = go (eqb (coverOf b p .held) 0) refl
+pub cut-right : (o : Opening) (c : Cover) → Closed c → CutRight c (cutCover o c)
+cut-right opening.None c z = record { whole = refl; reserved = refl; either = inl (z .held) }
+cut-right (opening.Cover k) c z = go (ltb k (c .available)) refl (ltb (c .available) k)
   where
-    go : (x : Bool) → eqb (coverOf b p .held) 0 ≡ x → Sound (withCovers b (cond x (clear p (give p n (b .covers))) (clear p (b .covers))))
-    go true e = cleared-sound (withCovers b (give p n (b .covers))) (given-sound b s p h n (limit e)) p h n
-    go false e = cleared-sound b s p h n
+    go : (x : Bool) → ltb k (c .available) ≡ x → (y : Bool)
+        → CutRight c (cond x (withHeld (c .available - k) c) (cond y (withDebit (k - c .available) c) c))
+    go true e y = record { whole = let l = ltb-true k (c .available) e in omega arith; reserved = refl; either = inr (z .debit) }
+    go false e true = record { whole = refl; reserved = refl; either = inl (z .held) }
+    go false e false = record { whole = refl; reserved = refl; either = inl (z .held) }
+
+-- when the first n participants are cut: the facts of the covers, their total, and those that are not cut yet
+pub record CutSound (size : ℕ) (due : ℕ → ℕ) (cs : List Cover) (n : ℕ) (ds : List Cover) : Type 0 where
+  pub sound : CoversSound size due ds
+  pub total : totalOf size ds ≡ totalOf size cs
+  pub later : (q : ℕ) → n ≤ q → coverOf ds q ≡ coverOf cs q
+
+module _ (r : Roster) (few : r .size ≤ 32) {due : ℕ → ℕ} {cs : List Cover} (s : CoversSound (r .size) due cs)
+    (all : (p : ℕ) → p < r .size → Closed (coverOf cs p)) where
+  pub cut-sound : (n : ℕ) → n ≤ r .size → CutSound (r .size) due cs n (cutTo r cs n)
+  cut-sound zero h = record { sound = s; total = refl; later = λ q l. refl }
+  cut-sound (suc p) h = go (cut-sound p (omega arith))
+    where
+      o : Opening
+      o = participantOf r p .opening
+
+      d : Cover
+      d = cutCover o (coverOf cs p)
+
+      right : CutRight (coverOf cs p) d
+      right = cut-right o (coverOf cs p) (all p h)
+
+      go : CutSound (r .size) due cs p (cutTo r cs p) → CutSound (r .size) due cs (suc p) (cutTo r cs (suc p))
+      go c =
+          record {
+            sound = set-keeps few (c .sound) p h d due (right .reserved ∙ s .reserved p h) (λ q n. refl) (right .either);
+            total =
+                let e = set-total few (c .sound) p h d in
+                let same = ap whole (c .later p (omega arith)) in
+                let w = right .whole in
+                let t = c .total in
+                omega arith;
+            later = λ q l. set-there few (c .sound) p h d q (λ i. omega arith) ∙ c .later q (omega arith);
+          }

@@ -1,12 +1,12 @@
 pub mod Writing
 pub mod Cases
 pub mod Same
-pub mod Moves
+pub mod Moving
 pub mod Orders
 pub mod Keeping
 pub mod Refusing
-pub mod Sweeping
 pub mod Accepting
+pub mod Sweeping
 pub mod Cutting
 pub mod Stepping
 pub mod Limits

@@ -6,9 +6,9 @@ use Prim.Native.Nat.{ℕ, _≤_, _<_}
 use native.Mathlib.Omega.{arith}
 use Rattle.fields.specs.UpTo.{sumTo}
 use Rattle.fields.proofs.UpTo.{sum-part, sum-prefix}
-use Rattle.rules.specs.Book.{orderOf, coverOf}
+use Rattle.rules.specs.Book.{mostOrders, orderOf, coverOf}
+use Rattle.rules.specs.Status.{isWaiting}
 use Rattle.rules.specs.Cover.{whole, totalOf, total, mostTotal}
-use Rattle.rules.specs.Tick.{isWaiting}
 use Rattle.rules.specs.Sound.{Sound}
 use Rattle.rules.specs.declared.Book.{Book}
 use Rattle.rules.proofs.Orders.{sum-holds}
@@ -19,13 +19,13 @@ module _ (b : Book) (s : Sound b) where
   limit = s .limited
 
   -- a participant's cover, and the sum over the first ones, is within the limit on all
-  pub whole-limited : (p : ℕ) → p < b .roster .size → whole (coverOf b p) ≤ mostTotal
-  whole-limited p h = let a = sum-part (λ q. whole (coverOf b q)) (b .roster .size) p h in let l = limit in omega arith
+  pub whole-limited : (p : ℕ) → p < b .roster .size → whole (coverOf (b .covers) p) ≤ mostTotal
+  whole-limited p h = let a = sum-part (λ q. whole (coverOf (b .covers) q)) (b .roster .size) p h in let l = limit in omega arith
 
-  pub part-limited : (n : ℕ) → n ≤ b .roster .size → sumTo (λ q. whole (coverOf b q)) n ≤ mostTotal
-  part-limited n h = let a = sum-prefix (λ q. whole (coverOf b q)) n (b .roster .size) h in let l = limit in omega arith
+  pub part-limited : (n : ℕ) → n ≤ b .roster .size → sumTo (λ q. whole (coverOf (b .covers) q)) n ≤ mostTotal
+  part-limited n h = let a = sum-prefix (λ q. whole (coverOf (b .covers) q)) n (b .roster .size) h in let l = limit in omega arith
 
-  pub available-limited : (p : ℕ) → p < b .roster .size → coverOf b p .available ≤ mostTotal
+  pub available-limited : (p : ℕ) → p < b .roster .size → coverOf (b .covers) p .available ≤ mostTotal
   available-limited p h = let a = whole-limited p h in omega arith
 
   -- a participant's number is below 32
@@ -33,9 +33,9 @@ module _ (b : Book) (s : Sound b) where
   participant-below p h = let l = s .roster .size in omega arith
 
   -- an order's number is below 256
-  pub order-below : (i : ℕ) → i < b .count → i < 256
+  pub order-below : (i : ℕ) → i < b .count → i < mostOrders
   order-below i h = let l = s .orders .count in omega arith
 
   -- a waiting order's amount is reserved
-  pub waiting-reserved : (i : ℕ) → i < b .count → isWaiting (orderOf b i .status) ≡ true → orderOf b i .amount ≤ coverOf b (orderOf b i .payer) .reserved
-  waiting-reserved i h w = rw (s .covers .reserved (orderOf b i .payer) (s .orders .payer i h)) (sum-holds (b .count) (b .orders) i h w)
+  pub waiting-reserved : (i : ℕ) → i < b .count → isWaiting (orderOf (b .orders) i .status) ≡ true → orderOf (b .orders) i .amount ≤ coverOf (b .covers) (orderOf (b .orders) i .payer) .reserved
+  waiting-reserved i h w = rw (s .covers .reserved (orderOf (b .orders) i .payer) (s .orders .payer i h)) (sum-holds (b .count) (b .orders) i h w)

@@ -1,30 +1,26 @@
 -- What keeps the facts of `OrdersSound`, and what it does to the sums of waiting orders: another status, a later clock, one order
 -- more. Assumes nothing.
 use mathlib.Core.Path.{_≡_, refl, sym, _∙_, ap, ap₂}
-use mathlib.Core.Bool.{true, false, _&&_, cond, and-false}
+use mathlib.Core.Bool.{true, false}
 use mathlib.Core.List.{List}
 use mathlib.Core.Logic.{_⊎_, ⊎-elim}
 use Prim.Native.Nat.{ℕ, _+_, _≤_, _<_}
 use native.Mathlib.Numerals.{add-one}
 use native.Mathlib.Omega.{arith}
-use borrow.Author.Tests.{eq-eqb, ne-eqb}
+use borrow.Author.Tests.{eq-eqb}
 use lib.Dec.{eqb}
-use lib.ListN.{length, getD, set, length-set}
+use lib.ListN.{length, set, length-set}
 use lib.Seq.{getD-set-same, getD-set-other}
 use Rattle.codes.specs.Txid.{isTxid}
 use Rattle.fields.specs.Text.{same, unpadded}
 use Rattle.fields.proofs.UpTo.{sum-same, sum-change, sum-part}
 use Rattle.ticket.specs.Form.{mostOrder}
-use Rattle.rules.specs.Book.{noOrder}
-use Rattle.rules.specs.Order.{withStatus}
-use Rattle.rules.specs.Tick.{isWaiting}
+use Rattle.rules.specs.Book.{mostOrders, noOrder, orderOf}
+use Rattle.rules.specs.Status.{isWaiting, withStatus}
 use Rattle.rules.specs.Sound.{waitingAmount, waitingSum, OrdersSound}
 use Rattle.rules.specs.declared.Status.{Status}
 use Rattle.rules.specs.declared.Order.{Order}
 use Rattle.rules.proofs.Same.{same-or-not}
-
-abbrev ord : List Order → ℕ → Order
-ord os i = getD os i noOrder
 
 -- the clock goes on
 pub orders-later : (size clock clock′ n : ℕ) (os : List Order) → clock ≤ clock′ → OrdersSound size clock n os → OrdersSound size clock′ n os
@@ -47,26 +43,26 @@ orders-later size clock clock′ n os l s =
 -- order i gets another status
 module _ (size clock n : ℕ) (os : List Order) (s : OrdersSound size clock n os) (i : ℕ) (h : i < n) (status : Status) where
   changed : List Order
-  changed = set os i (withStatus (ord os i) status)
+  changed = set os i (withStatus (orderOf os i) status)
 
-  here : ord changed i ≡ withStatus (ord os i) status
+  here : orderOf changed i ≡ withStatus (orderOf os i) status
   unfolding changed
-  here = getD-set-same os i (withStatus (ord os i) status) noOrder (rw (s .long) (let c = s .count in omega arith))
+  here = getD-set-same os i (withStatus (orderOf os i) status) noOrder (rw (s .long) (let c = s .count in omega arith))
 
-  there : (j : ℕ) → (j ≡ i → ⊥) → ord changed j ≡ ord os j
+  there : (j : ℕ) → (j ≡ i → ⊥) → orderOf changed j ≡ orderOf os j
   unfolding changed
-  there j k = getD-set-other os i j (withStatus (ord os i) status) noOrder k
+  there j k = getD-set-other os i j (withStatus (orderOf os i) status) noOrder k
 
   -- what a status is no part of is kept
-  kept : {A : Type 0} (f : Order → A) → f (withStatus (ord os i) status) ≡ f (ord os i) → (j : ℕ) → f (ord changed j) ≡ f (ord os j)
+  kept : {A : Type 0} (f : Order → A) → f (withStatus (orderOf os i) status) ≡ f (orderOf os i) → (j : ℕ) → f (orderOf changed j) ≡ f (orderOf os j)
   kept f e j =
       ⊎-elim (λ (q : j ≡ i). rw q (ap f here ∙ e)) (λ (k : j ≡ i → ⊥). ap f (there j k)) (same-or-not j i)
 
-  pub status-keeps : OrdersSound size clock n (set os i (withStatus (ord os i) status))
+  pub status-keeps : OrdersSound size clock n (set os i (withStatus (orderOf os i) status))
   unfolding changed
   status-keeps =
       record {
-        long = length-set os i (withStatus (ord os i) status) ∙ s .long;
+        long = length-set os i (withStatus (orderOf os i) status) ∙ s .long;
         count = s .count;
         payer = λ j l. rw (kept (λ (o : Order). o .payer) refl j) (s .payer j l);
         payee = λ j l. rw (kept (λ (o : Order). o .payee) refl j) (s .payee j l);
@@ -80,43 +76,41 @@ module _ (size clock n : ℕ) (os : List Order) (s : OrdersSound size clock n os
         unused = λ j l m. there j (λ q. omega arith) ∙ s .unused j l m;
       }
 
-  -- the sums: another participant's is kept; the payer's changes by the order's part
-  pub sum-others : (p : ℕ) → (p ≡ ord os i .payer → ⊥) → waitingSum n os p ≡ waitingSum n (set os i (withStatus (ord os i) status)) p
-  unfolding changed
-  sum-others p k =
-      sum-same (λ j. waitingAmount p (ord os j)) (λ j. waitingAmount p (ord changed j)) n
-      (λ j l. sym (⊎-elim (λ (q : j ≡ i). rw q (ap (waitingAmount p) here ∙ nothing status ∙ sym (nothing (ord os i .status)))) (λ (m : j ≡ i → ⊥). ap (waitingAmount p) (there j m)) (same-or-not j i)))
-    where
-      nothing : (t : Status) → cond (isWaiting t && eqb (ord os i .payer) p) (ord os i .amount) 0 ≡ 0
-      nothing t = simp (ne-eqb (ord os i .payer) p (λ e. k (sym e)), and-false)
-
-  pub sum-changed : (p : ℕ) → waitingSum n os p + waitingAmount p (withStatus (ord os i) status) ≡ waitingSum n (set os i (withStatus (ord os i) status)) p + waitingAmount p (ord os i)
+  -- the sums change by the order's part
+  sum-changed : (p : ℕ) → waitingSum n os p + waitingAmount p (withStatus (orderOf os i) status) ≡ waitingSum n (set os i (withStatus (orderOf os i) status)) p + waitingAmount p (orderOf os i)
   unfolding changed
   sum-changed p =
       ap (λ (o : Order). waitingSum n os p + waitingAmount p o) (sym here)
-      ∙ sum-change (λ j. waitingAmount p (ord os j)) (λ j. waitingAmount p (ord changed j)) n i h (λ j l m. ap (waitingAmount p) (sym (there j m)))
+      ∙ sum-change (λ j. waitingAmount p (orderOf os j)) (λ j. waitingAmount p (orderOf changed j)) n i h (λ j l m. ap (waitingAmount p) (sym (there j m)))
+
+  -- the order waits no longer
+  pub sum-ended : isWaiting status ≡ false → (p : ℕ) → waitingSum n (set os i (withStatus (orderOf os i) status)) p + waitingAmount p (orderOf os i) ≡ waitingSum n os p
+  sum-ended ended p =
+      let e = sum-changed p in
+      let z : waitingAmount p (withStatus (orderOf os i) status) ≡ 0 = simp ended in
+      omega arith
 
 -- one order more
 pub record NewOrder (size clock n : ℕ) (os : List Order) (o : Order) : Type 0 where
-  pub room : n < 256
+  pub room : n < mostOrders
   pub payer : o .payer < size
   pub payee : o .payee < size
   pub least : 1 ≤ o .amount
   pub most : o .amount ≤ mostOrder
   pub padded : length (o .txid) ≡ 35
   pub txid : isTxid (unpadded (o .txid)) ≡ true
-  pub fresh : (i : ℕ) → i < n → same (ord os i .txid) (o .txid) ≡ false
+  pub fresh : (i : ℕ) → i < n → same (orderOf os i .txid) (o .txid) ≡ false
   pub time : o .time ≡ clock
 
 module _ (size clock n : ℕ) (os : List Order) (s : OrdersSound size clock n os) (o : Order) (new : NewOrder size clock n os o) where
-  last : ord (set os n o) n ≡ o
+  last : orderOf (set os n o) n ≡ o
   last = getD-set-same os n o noOrder (rw (s .long) (new .room))
 
-  earlier : (j : ℕ) → (j ≡ n → ⊥) → ord (set os n o) j ≡ ord os j
+  earlier : (j : ℕ) → (j ≡ n → ⊥) → orderOf (set os n o) j ≡ orderOf os j
   earlier j k = getD-set-other os n j o noOrder k
 
   -- what holds of each order and of the new one
-  each : (P : Order → Type 0) → ((j : ℕ) → j < n → P (ord os j)) → P o → (j : ℕ) → j < n + 1 → P (ord (set os n o) j)
+  each : (P : Order → Type 0) → ((j : ℕ) → j < n → P (orderOf os j)) → P o → (j : ℕ) → j < n + 1 → P (orderOf (set os n o) j)
   each P all this j l =
       ⊎-elim
       (λ (q : j ≡ n). rw (q, last) this)
@@ -124,8 +118,8 @@ module _ (size clock n : ℕ) (os : List Order) (s : OrdersSound size clock n os
       (same-or-not j n)
 
   -- what holds between each two, and between each and the new one
-  pairs : (P : Order → Order → Type 0) → ((j k : ℕ) → j < k → k < n → P (ord os j) (ord os k)) → ((j : ℕ) → j < n → P (ord os j) o)
-      → (j k : ℕ) → j < k → k < n + 1 → P (ord (set os n o) j) (ord (set os n o) k)
+  pairs : (P : Order → Order → Type 0) → ((j k : ℕ) → j < k → k < n → P (orderOf os j) (orderOf os k)) → ((j : ℕ) → j < n → P (orderOf os j) o)
+      → (j k : ℕ) → j < k → k < n + 1 → P (orderOf (set os n o) j) (orderOf (set os n o) k)
   pairs P all this j k l m =
       ⊎-elim
       (λ (q : k ≡ n). rw (q, last, earlier j (λ e. omega arith)) (this j (omega arith)))
@@ -153,11 +147,11 @@ module _ (size clock n : ℕ) (os : List Order) (s : OrdersSound size clock n os
   sum-new p =
       ap (λ (m : ℕ). waitingSum m (set os n o) p) (add-one n)
       ∙ ap₂ _+_
-      (sum-same (λ j. waitingAmount p (ord (set os n o) j)) (λ j. waitingAmount p (ord os j)) n (λ j l. ap (waitingAmount p) (earlier j (λ q. omega arith))))
+      (sum-same (λ j. waitingAmount p (orderOf (set os n o) j)) (λ j. waitingAmount p (orderOf os j)) n (λ j l. ap (waitingAmount p) (earlier j (λ q. omega arith))))
       (ap (waitingAmount p) last)
 
 -- a waiting order is part of its payer's sum
-pub sum-holds : (n : ℕ) (os : List Order) (i : ℕ) → i < n → isWaiting (ord os i .status) ≡ true → ord os i .amount ≤ waitingSum n os (ord os i .payer)
+pub sum-holds : (n : ℕ) (os : List Order) (i : ℕ) → i < n → isWaiting (orderOf os i .status) ≡ true → orderOf os i .amount ≤ waitingSum n os (orderOf os i .payer)
 sum-holds n os i h w =
-    let e : waitingAmount (ord os i .payer) (ord os i) ≡ ord os i .amount = simp (w, eq-eqb (ord os i .payer) (ord os i .payer) refl) in
-    rw e at (sum-part (λ j. waitingAmount (ord os i .payer) (ord os j)) n i h)
+    let e : waitingAmount (orderOf os i .payer) (orderOf os i) ≡ orderOf os i .amount = simp (w, eq-eqb (orderOf os i .payer) (orderOf os i .payer) refl) in
+    rw e at (sum-part (λ j. waitingAmount (orderOf os i .payer) (orderOf os j)) n i h)

@@ -1,44 +1,61 @@
--- Where no refusal from 12 to 22 applies, each of their conditions fails. Assumes nothing.
+-- Where no refusal from 12 to 22 applies, each of their conditions fails; and which numbers there are. Assumes nothing.
 use mathlib.Core.Path.{_≡_, refl}
 use mathlib.Core.Bool.{Bool, true, false, cond}
-use mathlib.Core.List.{List}
-use Prim.Native.Nat.{ℕ, _≤_}
+use mathlib.Core.Logic.{_⊎_, inl, inr}
+use Prim.Native.Nat.{ℕ, zero, suc, _≤_}
 use native.Mathlib.Omega.{arith}
-use Rattle.ticket.specs.declared.kinds.Kind.{Kind}
-use Rattle.rules.specs.Refusal.{refusal12, refusal13, refusal14, refusal15, refusal16, refusal17, refusal18, refusal19, refusal20, refusal21, refusal22, firstRefusal}
-use Rattle.rules.specs.declared.Book.{Book}
+use borrow.Author.Tests.{eqb-true}
+use lib.Dec.{eqb}
+use Rattle.rules.specs.Refusal.{refusal12, refusal13, refusal14, refusal15, refusal16, refusal17, refusal18, refusal19, refusal20, refusal21, refusal22, namingOf, namingRefusal, permissionOf, permissionRefusal, backingOf, backingRefusal, firstOf, firstRefusal}
+use Rattle.rules.specs.declared.finding.Finding.{Finding}
+use Rattle.rules.specs.declared.refusal.Naming.{Naming}
+use Rattle.rules.specs.declared.refusal.Naming.the-variants.{Known, NoParticipant, TxidHeld, NoRoute, Full, TxidNotHeld}
+use Rattle.rules.specs.declared.refusal.Permission.{Permission}
+use Rattle.rules.specs.declared.refusal.Permission.the-variants.{Granted, WrongParty, WrongStatus, WrongAmount}
+use Rattle.rules.specs.declared.refusal.Backing.{Backing}
+use Rattle.rules.specs.declared.refusal.Backing.the-variants.{Backed, TooLittle, NotAsCut, AboveLimit}
 
-pub record NoRefusal (b : Book) (k : Kind) (n : ℕ) (t : List ℕ) : Type 0 where
-  pub r12 : refusal12 b k t ≡ false
-  pub r13 : refusal13 b k t ≡ false
-  pub r14 : refusal14 b k t ≡ false
-  pub r15 : refusal15 b k ≡ false
-  pub r16 : refusal16 b k t ≡ false
-  pub r17 : refusal17 b k t ≡ false
-  pub r18 : refusal18 b k t ≡ false
-  pub r19 : refusal19 b k n t ≡ false
-  pub r20 : refusal20 b k n t ≡ false
-  pub r21 : refusal21 b k n t ≡ false
-  pub r22 : refusal22 b k n t ≡ false
+pub record NoRefusal (x : Finding) : Type 0 where
+  pub r12 : refusal12 x ≡ false
+  pub r13 : refusal13 x ≡ false
+  pub r14 : refusal14 x ≡ false
+  pub r15 : refusal15 x ≡ false
+  pub r16 : refusal16 x ≡ false
+  pub r17 : refusal17 x ≡ false
+  pub r18 : refusal18 x ≡ false
+  pub r19 : refusal19 x ≡ false
+  pub r20 : refusal20 x ≡ false
+  pub r21 : refusal21 x ≡ false
+  pub r22 : refusal22 x ≡ false
 
--- the answer is 0: this number was not given, and the rest is 0
-on : (c : Bool) (m rest : ℕ) → 1 ≤ m → cond c m rest ≡ 0 → (c ≡ false) × (rest ≡ 0)
-on true m rest h e = absurd (omega arith)
-on false m rest h e = (refl, e)
+-- the number is 0: this answer was not given, and the number of the rest is 0
+on : {A : Type 0} (number : A → ℕ) (c : Bool) (a rest : A) → 1 ≤ number a → number (cond c a rest) ≡ 0 → (c ≡ false) × (number rest ≡ 0)
+on number true a rest h e = absurd (omega arith)
+on number false a rest h e = (refl, e)
 
-pub none-applies : (b : Book) (k : Kind) (n : ℕ) (t : List ℕ) → firstRefusal b k n t ≡ 0 → NoRefusal b k n t
-none-applies b k n t e =
-    let s12 = on (refusal12 b k t) 12 _ (omega arith) e in
-    let s13 = on (refusal13 b k t) 13 _ (omega arith) (s12 .1) in
-    let s14 = on (refusal14 b k t) 14 _ (omega arith) (s13 .1) in
-    let s15 = on (refusal15 b k) 15 _ (omega arith) (s14 .1) in
-    let s16 = on (refusal16 b k t) 16 _ (omega arith) (s15 .1) in
-    let s17 = on (refusal17 b k t) 17 _ (omega arith) (s16 .1) in
-    let s18 = on (refusal18 b k t) 18 _ (omega arith) (s17 .1) in
-    let s19 = on (refusal19 b k n t) 19 _ (omega arith) (s18 .1) in
-    let s20 = on (refusal20 b k n t) 20 _ (omega arith) (s19 .1) in
-    let s21 = on (refusal21 b k n t) 21 _ (omega arith) (s20 .1) in
-    let s22 = on (refusal22 b k n t) 22 _ (omega arith) (s21 .1) in
+-- of two numbers the first that is not 0 is 0: both are
+both : (m n : ℕ) → firstOf m n ≡ 0 → (m ≡ 0) × (n ≡ 0)
+both m n e = go (eqb m 0) refl e
+  where
+    go : (z : Bool) → eqb m 0 ≡ z → cond z n m ≡ 0 → (m ≡ 0) × (n ≡ 0)
+    go true q e′ = (eqb-true m 0 q, e′)
+    go false q e′ = absurd (let z : _≡_ {A = Bool} true false = rw e′ at q in let n : _≡_ {A = ℕ} 0 1 = cc in omega arith)
+
+pub none-applies : (x : Finding) → firstRefusal x ≡ 0 → NoRefusal x
+none-applies x e =
+    let a = both (namingRefusal (namingOf x)) (firstOf (permissionRefusal (permissionOf x)) (backingRefusal (backingOf x))) e in
+    let c = both (permissionRefusal (permissionOf x)) (backingRefusal (backingOf x)) (a .1) in
+    let s12 = on namingRefusal (refusal12 x) NoParticipant _ (omega arith) (a .0) in
+    let s13 = on namingRefusal (refusal13 x) TxidHeld _ (omega arith) (s12 .1) in
+    let s14 = on namingRefusal (refusal14 x) NoRoute _ (omega arith) (s13 .1) in
+    let s15 = on namingRefusal (refusal15 x) Full _ (omega arith) (s14 .1) in
+    let s16 = on namingRefusal (refusal16 x) TxidNotHeld _ (omega arith) (s15 .1) in
+    let s17 = on permissionRefusal (refusal17 x) WrongParty _ (omega arith) (c .0) in
+    let s18 = on permissionRefusal (refusal18 x) WrongStatus _ (omega arith) (s17 .1) in
+    let s19 = on permissionRefusal (refusal19 x) WrongAmount _ (omega arith) (s18 .1) in
+    let s20 = on backingRefusal (refusal20 x) TooLittle _ (omega arith) (c .1) in
+    let s21 = on backingRefusal (refusal21 x) NotAsCut _ (omega arith) (s20 .1) in
+    let s22 = on backingRefusal (refusal22 x) AboveLimit _ (omega arith) (s21 .1) in
     record {
       r12 = s12 .0;
       r13 = s13 .0;
@@ -52,3 +69,39 @@ none-applies b k n t e =
       r21 = s21 .0;
       r22 = s22 .0;
     }
+
+-- no refusal, or one from 12 to 22
+abbrev pub Late : ℕ → Type 0
+Late n = (n ≡ 0) ⊎ ((12 ≤ n) × (n ≤ 22))
+
+late-naming : (a : Naming) → Late (namingRefusal a)
+late-naming Known = inl refl
+late-naming NoParticipant = inr (omega arith, omega arith)
+late-naming TxidHeld = inr (omega arith, omega arith)
+late-naming NoRoute = inr (omega arith, omega arith)
+late-naming Full = inr (omega arith, omega arith)
+late-naming TxidNotHeld = inr (omega arith, omega arith)
+
+late-permission : (a : Permission) → Late (permissionRefusal a)
+late-permission Granted = inl refl
+late-permission WrongParty = inr (omega arith, omega arith)
+late-permission WrongStatus = inr (omega arith, omega arith)
+late-permission WrongAmount = inr (omega arith, omega arith)
+
+late-backing : (a : Backing) → Late (backingRefusal a)
+late-backing Backed = inl refl
+late-backing TooLittle = inr (omega arith, omega arith)
+late-backing NotAsCut = inr (omega arith, omega arith)
+late-backing AboveLimit = inr (omega arith, omega arith)
+
+late-first : (m n : ℕ) → Late m → Late n → Late (firstOf m n)
+late-first m n a b = go (eqb m 0)
+  where
+    go : (z : Bool) → Late (cond z n m)
+    go true = b
+    go false = a
+
+pub refusal-late : (x : Finding) → Late (firstRefusal x)
+refusal-late x =
+    late-first (namingRefusal (namingOf x)) (firstOf (permissionRefusal (permissionOf x)) (backingRefusal (backingOf x))) (late-naming (namingOf x))
+    (late-first (permissionRefusal (permissionOf x)) (backingRefusal (backingOf x)) (late-permission (permissionOf x)) (late-backing (backingOf x)))

@@ -1,4 +1,4 @@
--- The reports of a step: each fits its 12 bytes, and there are at most 544. Assumes nothing.
+-- The reports of a step: each fits its 12 bytes, there are at most 544, and they read back from the buffer. Assumes nothing.
 use mathlib.Core.Path.{_≡_, refl, _∙_}
 use mathlib.Core.Bool.{Bool, true, false, cond}
 use mathlib.Core.List.{List, [], _∷_, _++_}
@@ -7,7 +7,8 @@ use native.Mathlib.Omega.{arith}
 use borrow.Author.Tests.{ltb-false, eqb-true}
 use lib.Dec.{ltb, eqb}
 use lib.ListN.{length, length-append}
-use Rattle.fields.specs.UpTo.{anyTo}
+use Rattle.fields.specs.Search.{numberOf}
+use Rattle.ticket.specs.Form.{mostOrder}
 use Rattle.ticket.specs.Reading.{reading}
 use Rattle.ticket.specs.declared.Fields.{Fields}
 use Rattle.ticket.specs.declared.Reading.{Reading}
@@ -15,32 +16,41 @@ use Rattle.ticket.specs.declared.Reading.the-variants.{Read, Refused}
 use Rattle.ticket.specs.declared.kinds.Kind.{Kind}
 use Rattle.ticket.specs.declared.kinds.Kind.the-variants as kind
 use Rattle.ticket.proofs.Telling.{Tells, read-tells}
-use Rattle.report.specs.Layout.{Fitting, AllFitting}
+use Rattle.report.specs.Layout.{reportsOf, Fitting, AllFitting}
 use Rattle.report.specs.declared.Report.{Report}
-use Rattle.dayfile.specs.Rows.{mostOpening}
+use Rattle.report.proofs.Laws.{laid-reads-back}
 use Rattle.dayfile.specs.Roster.{participantOf}
 use Rattle.dayfile.specs.Guarantee.{OpeningWithin}
 use Rattle.dayfile.specs.declared.roster.Opening.{Opening}
 use Rattle.dayfile.specs.declared.roster.Opening.the-variants as opening
-use Rattle.rules.specs.Book.{orderOf, coverOf, isBank}
-use Rattle.rules.specs.Tell.{Told, tellOrder, tellCut}
-use Rattle.rules.specs.Tick.{due, expireTold, sweepTo, atTime, tick}
-use Rattle.rules.specs.Refusal.{orderNumber, isOpen, firstRefusal}
-use Rattle.rules.specs.Own.{settledReports, markReports, inquiryReports, cutAbove, cutBelow, cutAt, cutOpening, cutOne, cutTo, ownStep}
-use Rattle.rules.specs.Step.{untouched, accepted, settle, afterTick, stepRead, stepOf, ticked}
+use Rattle.rules.specs.Book.{mostOrders, orderOf, coverOf, isBank}
+use Rattle.rules.specs.Tell.{tellOrder, tellCut, listed}
+use Rattle.rules.specs.Tick.{Step, due, expireTold, sweepTo, atTime, tick}
+use Rattle.rules.specs.Find.{finding}
+use Rattle.rules.specs.Refusal.{bufferOf, timingOf, firstRefusal}
+use Rattle.rules.specs.Cut.{cutReport, cutReportsTo}
+use Rattle.rules.specs.Decision.{toPayer, toPayee, settledTold, settledAnswer, answerOf, decisionOf, toldBy}
+use Rattle.rules.specs.Step.{untouched, ticked, accepted, refusedOr, afterTick, stepTimed, stepRead, stepOf, stepLent, handed, outcome}
 use Rattle.rules.specs.Sound.{Sound}
+use Rattle.rules.specs.declared.finding.Finding.{Finding}
+use Rattle.rules.specs.declared.decision.Told.{Told}
+use Rattle.rules.specs.declared.decision.Told.the-variants.{Nobody, One, Two}
+use Rattle.rules.specs.declared.refusal.Buffer.{Buffer}
+use Rattle.rules.specs.declared.refusal.Buffer.the-variants.{Enough, Short}
+use Rattle.rules.specs.declared.refusal.Timing.{Timing}
+use Rattle.rules.specs.declared.refusal.Timing.the-variants.{InTime, Early}
 use Rattle.rules.specs.declared.Recall.{Recall}
 use Rattle.rules.specs.declared.Recall.the-variants as mark
 use Rattle.rules.specs.declared.Status.{Status}
 use Rattle.rules.specs.declared.Status.the-variants as status
+use Rattle.rules.specs.declared.Order.{Order}
 use Rattle.rules.specs.declared.Book.{Book}
 use Rattle.rules.proofs.Limits.{available-limited, participant-below, order-below}
 use Rattle.rules.proofs.Refusing.{NoRefusal, none-applies}
-use Rattle.rules.proofs.Accepting.{payee-known, room-left, order-found}
+use Rattle.rules.proofs.Accepting as accepting
 use Rattle.rules.proofs.Keeping.{later-sound}
 use Rattle.rules.proofs.Sweeping.{Swept, swept}
 use Rattle.rules.proofs.Sweeping as sweeping
-use Rattle.rules.proofs.Cutting.{Cut, cut-to}
 
 -- reports that fit, and at most so many of them
 pub record Few (n : ℕ) (rs : List Report) : Type 0 where
@@ -55,170 +65,179 @@ pub few-append : (m n : ℕ) (rs ts : List Report) → Few m rs → Few n ts →
 few-append m n rs ts a b =
     record { fit = fitting-append rs ts (a .fit) (b .fit); few = rw (length-append rs ts) (let x = a .few in let y = b .few in omega arith) }
 
-few-one : (r : Report) → Fitting r → Few 1 (r ∷ [])
-few-one r f = record { fit = (f, tt); few = omega arith }
+few-none : (n : ℕ) → Few n []
+few-none n = record { fit = tt; few = omega arith }
 
-few-none : Few 0 []
-few-none = record { fit = tt; few = omega arith }
+few-one : (n : ℕ) (r : Report) → Fitting r → Few (1 + n) (r ∷ [])
+few-one n r f = record { fit = (f, tt); few = omega arith }
+
+few-two : (n : ℕ) (r q : Report) → Fitting r → Fitting q → Few (2 + n) (r ∷ q ∷ [])
+few-two n r q f g = record { fit = (f, (g, tt)); few = omega arith }
 
 few-more : (m n : ℕ) (rs : List Report) → m ≤ n → Few m rs → Few n rs
 few-more m n rs l a = record { fit = a .fit; few = let x = a .few in omega arith }
 
 module _ (b : Book) (s : Sound b) where
-  fit-order : (to code i : ℕ) → to < b .roster .size → code < 12 → i < b .count → Fitting (tellOrder b to code i)
-  fit-order to code i h c l =
-      record {
-        to = let x = participant-below b s to h in omega arith;
-        code = omega arith;
-        order = let x = order-below b s i l in omega arith;
-        amount = let x = s .orders .most i l in omega arith;
-      }
+  fit-order : (to code i n : ℕ) → to < b .roster .size → code < 12 → i < mostOrders → n ≤ mostOrder
+      → Fitting (record { to = to; code = code; order = i; amount = n })
+  fit-order to code i n h c l m =
+      record { to = let x = participant-below b s to h in omega arith; code = omega arith; order = omega arith; amount = omega arith }
 
   fit-cut : (p code n : ℕ) → p < b .roster .size → code < 12 → n < 256 ^ 8 → Fitting (tellCut p code n)
   fit-cut p code n h c l = record { to = let x = participant-below b s p h in omega arith; code = omega arith; order = omega arith; amount = l }
 
 -- the expiries: two for each order
 swept-few : (b : Book) → Sound b → (i : ℕ) → i ≤ b .count → Few (i + i) (sweepTo b i .reports)
-swept-few b s zero h = few-none
-swept-few b s (suc i) h = go (swept b s i (omega arith)) (swept-few b s i (omega arith)) (due (sweepTo b i .book) i)
+swept-few b s zero h = few-none 0
+swept-few b s (suc i) h = go (swept b s i (omega arith)) (swept-few b s i (omega arith)) (due (w .book .clock) o (isBank (w .book .roster) (o .payee)))
   where
-    go : Swept b (sweepTo b i) → Few (i + i) (sweepTo b i .reports) → (d : Bool) → Few (suc i + suc i) ((cond d (expireTold (sweepTo b i) i) (sweepTo b i)) .reports)
+    w : Step
+    w = sweepTo b i
+
+    o : Order
+    o = orderOf (w .book .orders) i
+
+    go : Swept b w → Few (i + i) (w .reports) → (d : Bool) → Few (suc i + suc i) ((cond d (expireTold w i o) w) .reports)
     go r f true =
-        let w = sweepTo b i .book in
-        let l : i < w .count = let c = r .count in omega arith in
-        few-more (i + i + (1 + 1)) (suc i + suc i) _ (omega arith)
-        (few-append (i + i) (1 + 1) (sweepTo b i .reports) _ f
-        (few-append 1 1 (tellOrder w (orderOf w i .payer) 4 i ∷ []) (tellOrder w (orderOf w i .payee) 4 i ∷ [])
-        (few-one _ (fit-order w (r .sound) (orderOf w i .payer) 4 i (r .sound .orders .payer i l) (omega arith) l))
-        (few-one _ (fit-order w (r .sound) (orderOf w i .payee) 4 i (r .sound .orders .payee i l) (omega arith) l))))
+        let v = w .book in
+        let l : i < v .count = let c = r .count in omega arith in
+        let n = order-below v (r .sound) i l in
+        let m = r .sound .orders .most i l in
+        few-more (i + i + (2 + 0)) (suc i + suc i) _ (omega arith)
+        (few-append (i + i) (2 + 0) (w .reports) _ f
+        (few-two 0 (tellOrder (o .payer) 4 i o) (tellOrder (o .payee) 4 i o)
+        (fit-order v (r .sound) (o .payer) 4 i (o .amount) (r .sound .orders .payer i l) (omega arith) n m)
+        (fit-order v (r .sound) (o .payee) 4 i (o .amount) (r .sound .orders .payee i l) (omega arith) n m)))
     go r f false = few-more (i + i) (suc i + suc i) _ (omega arith) f
-
--- the cut: at most one for each participant
-cut-few : (b : Book) → Sound b → anyTo (λ q. isOpen (coverOf b q)) (b .roster .size) ≡ false → (p : ℕ) → p ≤ b .roster .size → Few p (cutTo b p .reports)
-cut-few b s e zero h = few-none
-cut-few b s e (suc p) h = go (cut-to b s e p (omega arith)) (cut-few b s e p (omega arith))
-  where
-    w : Told
-    w = cutTo b p
-
-    one : Few p (w .reports) → (r : Report) → Fitting r → Few (suc p) (w .reports ++ (r ∷ []))
-    one f r fit = few-more (p + 1) (suc p) _ (omega arith) (few-append p 1 (w .reports) (r ∷ []) f (few-one r fit))
-
-    at : Cut b p w → Few p (w .reports) → (k : ℕ) → k ≤ mostOpening → Few (suc p) (cutAt w p (coverOf (w .book) p .available) k .reports)
-    at c f k l = which (ltb k a) (ltb a k)
-      where
-        a : ℕ
-        a = coverOf (w .book) p .available
-
-        here : p < w .book .roster .size
-        here = rw (c .roster) h
-
-        which : (x y : Bool) → Few (suc p) ((cond x (cutAbove w p (a - k)) (cond y (cutBelow w p (k - a)) w)) .reports)
-        which true y = one f _ (fit-cut (w .book) (c .sound) p 11 (a - k) here (omega arith) (let m = available-limited (w .book) (c .sound) p here in omega arith))
-        which false true = one f _ (fit-cut (w .book) (c .sound) p 10 (k - a) here (omega arith) (omega arith))
-        which false false = few-more p (suc p) _ (omega arith) f
-
-    opened : Cut b p w → Few p (w .reports) → (o : Opening) → OpeningWithin o → Few (suc p) (cutOpening w p o .reports)
-    opened c f opening.None i = few-more p (suc p) _ (omega arith) f
-    opened c f (opening.Cover k) i = at c f k i
-
-    go : Cut b p w → Few p (w .reports) → Few (suc p) (cutOne w p .reports)
-    go c f = opened c f (participantOf (w .book .roster) p .opening) (c .sound .roster .opening p (rw (c .roster) h))
-
--- an inquiry: at most two
-inquiry-few : (b : Book) → Sound b → (i : ℕ) → i < b .count → (t : Status) → Few 32 (inquiryReports b i t)
-inquiry-few b s i l status.Waiting = go (isBank b (orderOf b i .payee))
-  where
-    go : (x : Bool) → Few 32 (cond x (tellOrder b (orderOf b i .payer) 9 i) (tellOrder b (orderOf b i .payee) 8 i) ∷ [])
-    go true = few-more 1 32 _ (omega arith) (few-one _ (fit-order b s (orderOf b i .payer) 9 i (s .orders .payer i l) (omega arith) l))
-    go false = few-more 1 32 _ (omega arith) (few-one _ (fit-order b s (orderOf b i .payee) 8 i (s .orders .payee i l) (omega arith) l))
-inquiry-few b s i l status.Refused = few-more 1 32 _ (omega arith) (few-one _ (fit-order b s (orderOf b i .payer) 3 i (s .orders .payer i l) (omega arith) l))
-inquiry-few b s i l status.Expired = few-more 1 32 _ (omega arith) (few-one _ (fit-order b s (orderOf b i .payer) 4 i (s .orders .payer i l) (omega arith) l))
-inquiry-few b s i l status.Returned = few-more 1 32 _ (omega arith) (few-one _ (fit-order b s (orderOf b i .payer) 6 i (s .orders .payer i l) (omega arith) l))
-inquiry-few b s i l (status.Settled m) =
-    few-more (1 + 1) 32 _ (omega arith)
-    (few-append 1 1 (tellOrder b (orderOf b i .payer) 2 i ∷ []) (markReports b i m)
-    (few-one _ (fit-order b s (orderOf b i .payer) 2 i (s .orders .payer i l) (omega arith) l))
-    (go m))
-  where
-    go : (x : Recall) → Few 1 (markReports b i x)
-    go mark.None = few-more 0 1 [] (omega arith) few-none
-    go mark.Asked = few-one _ (fit-order b s (orderOf b i .payee) 8 i (s .orders .payee i l) (omega arith) l)
-    go mark.Declined = few-one _ (fit-order b s (orderOf b i .payer) 7 i (s .orders .payer i l) (omega arith) l)
-
-settled-few : (b : Book) → Sound b → (i : ℕ) → i < b .count → Few 32 (settledReports b i)
-settled-few b s i l =
-    few-more (1 + 1) 32 _ (omega arith)
-    (few-append 1 1 (tellOrder b (orderOf b i .payer) 2 i ∷ []) _
-    (few-one _ (fit-order b s (orderOf b i .payer) 2 i (s .orders .payer i l) (omega arith) l))
-    (go (isBank b (orderOf b i .payee))))
-  where
-    go : (x : Bool) → Few 1 (cond x (tellOrder b (orderOf b i .payee) 2 i ∷ []) [])
-    go true = few-one _ (fit-order b s (orderOf b i .payee) 2 i (s .orders .payee i l) (omega arith) l)
-    go false = few-more 0 1 [] (omega arith) few-none
-
--- the ticket's own reports: at most 32
-own-few : (b : Book) → Sound b → (n time : ℕ) (t : List ℕ) (k : Kind) → Tells t (record { kind = k; time = time; amount = n }) → NoRefusal b k n t
-    → Few 32 (ownStep b k n time t .reports)
-own-few b s n time t kind.CoverIn tells r = few-more 0 32 [] (omega arith) few-none
-own-few b s n time t kind.CoverOut tells r = few-more 0 32 [] (omega arith) few-none
-own-few b s n time t kind.Order tells r =
-    let known = payee-known b kind.Order t (s .roster) (r .r14) refl in
-    few-more 1 32 _ (omega arith)
-    (few-one _
-    (record {
-      to = let x = participant-below b s _ known in omega arith;
-      code = omega arith;
-      order = let x = room-left b kind.Order t (r .r15) refl in omega arith;
-      amount = let x = tells .most in omega arith;
-    }))
-own-few b s n time t kind.Yes tells r = settled-few b s (orderNumber b t) (order-found b kind.Yes t (r .r16) refl .below)
-own-few b s n time t kind.No tells r =
-    let l = order-found b kind.No t (r .r16) refl .below in
-    few-more 1 32 _ (omega arith) (few-one _ (fit-order b s _ 3 (orderNumber b t) (s .orders .payer (orderNumber b t) l) (omega arith) l))
-own-few b s n time t kind.Recall tells r =
-    let l = order-found b kind.Recall t (r .r16) refl .below in
-    few-more 1 32 _ (omega arith) (few-one _ (fit-order b s _ 5 (orderNumber b t) (s .orders .payee (orderNumber b t) l) (omega arith) l))
-own-few b s n time t kind.Return tells r =
-    let l = order-found b kind.Return t (r .r16) refl .below in
-    few-more 1 32 _ (omega arith) (few-one _ (fit-order b s _ 6 (orderNumber b t) (s .orders .payer (orderNumber b t) l) (omega arith) l))
-own-few b s n time t kind.Decline tells r =
-    let l = order-found b kind.Decline t (r .r16) refl .below in
-    few-more 1 32 _ (omega arith) (few-one _ (fit-order b s _ 7 (orderNumber b t) (s .orders .payer (orderNumber b t) l) (omega arith) l))
-own-few b s n time t kind.Inquiry tells r =
-    inquiry-few b s (orderNumber b t) (order-found b kind.Inquiry t (r .r16) refl .below) (orderOf b (orderNumber b t) .status)
-own-few b s n time t kind.Cut tells r = few-more (b .roster .size) 32 _ (s .roster .size) (cut-few b s (r .r21) (b .roster .size) (omega arith))
-own-few b s n time t kind.Confirm tells r = few-more 0 32 [] (omega arith) few-none
-own-few b s n time t kind.Tick tells r = few-more 0 32 [] (omega arith) few-none
 
 ticked-few : (b : Book) → Sound b → (time : ℕ) → b .clock ≤ time → Few 512 (tick b time .reports)
 unfolding tick
 ticked-few b s time l =
     few-more (b .count + b .count) 512 _ (let c = s .orders .count in omega arith) (swept-few (atTime b time) (later-sound b s time l) (b .count) (omega arith))
 
-after-few : (w : Told) → Sound (w .book) → Few 512 (w .reports) → (f : Fields) (t : List ℕ) → Tells t f → Few 544 (afterTick w f t .reports)
-after-few w s fw f t tells = go (firstRefusal (w .book) (f .kind) (f .amount) t) refl
+module _ (b : Book) (s : Sound b) where
+  -- the cut: at most one for each participant
+  cut-one-few : (p : ℕ) → p < b .roster .size → (o : Opening) → OpeningWithin o → Few 1 (cutReport p o (coverOf (b .covers) p))
+  cut-one-few p h opening.None i = few-none 1
+  cut-one-few p h (opening.Cover k) i = go (ltb k a) (ltb a k)
+    where
+      a : ℕ
+      a = coverOf (b .covers) p .available
+
+      go : (x y : Bool) → Few 1 (cond x (tellCut p 11 (a - k) ∷ []) (cond y (tellCut p 10 (k - a) ∷ []) []))
+      go true y = few-one 0 _ (fit-cut b s p 11 (a - k) h (omega arith) (let m = available-limited b s p h in omega arith))
+      go false true = few-one 0 _ (fit-cut b s p 10 (k - a) h (omega arith) (omega arith))
+      go false false = few-none 1
+
+  cut-few : (p : ℕ) → p ≤ b .roster .size → Few p (cutReportsTo (b .roster) (b .covers) p)
+  cut-few zero h = few-none 0
+  cut-few (suc p) h =
+      few-more (p + 1) (suc p) _ (omega arith)
+      (few-append p 1 (cutReportsTo (b .roster) (b .covers) p) _ (cut-few p (omega arith))
+      (cut-one-few p h (participantOf (b .roster) p .opening) (s .roster .opening p h)))
+
+  -- reports about an order that is held
+  module _ (n time : ℕ) (t : List ℕ) (k : Kind) (h : accepting.orderNumber b (record { kind = k; time = time; amount = n }) t < b .count) where
+    abbrev x : Finding
+    x = finding b (record { kind = k; time = time; amount = n }) t
+
+    fit-payer : (code : ℕ) → code < 12 → Fitting (toPayer x code)
+    fit-payer code c = fit-order b s _ code (numberOf (x .order)) (x .about .amount) (s .orders .payer _ h) c (order-below b s _ h) (s .orders .most _ h)
+
+    fit-payee : (code : ℕ) → code < 12 → Fitting (toPayee x code)
+    fit-payee code c = fit-order b s _ code (numberOf (x .order)) (x .about .amount) (s .orders .payee _ h) c (order-below b s _ h) (s .orders .most _ h)
+
+    pub settled-few : Few 32 (listed (settledTold x))
+    settled-few = go (x .bank)
+      where
+        go : (z : Bool) → Few 32 (listed (cond z (Two (toPayer x 2) (toPayee x 2)) (One (toPayer x 2))))
+        go true = few-two 30 _ _ (fit-payer 2 (omega arith)) (fit-payee 2 (omega arith))
+        go false = few-one 31 _ (fit-payer 2 (omega arith))
+
+    settled-answer-few : (m : Recall) → Few 32 (listed (settledAnswer x m))
+    settled-answer-few mark.None = few-one 31 _ (fit-payer 2 (omega arith))
+    settled-answer-few mark.Asked = few-two 30 _ _ (fit-payer 2 (omega arith)) (fit-payee 8 (omega arith))
+    settled-answer-few mark.Declined = few-two 30 _ _ (fit-payer 2 (omega arith)) (fit-payer 7 (omega arith))
+
+    pub answer-few : (u : Status) → Few 32 (listed (answerOf x u))
+    answer-few status.Waiting = go (x .bank)
+      where
+        go : (z : Bool) → Few 32 (cond z (toPayer x 9) (toPayee x 8) ∷ [])
+        go true = few-one 31 _ (fit-payer 9 (omega arith))
+        go false = few-one 31 _ (fit-payee 8 (omega arith))
+    answer-few status.Refused = few-one 31 _ (fit-payer 3 (omega arith))
+    answer-few status.Expired = few-one 31 _ (fit-payer 4 (omega arith))
+    answer-few status.Returned = few-one 31 _ (fit-payer 6 (omega arith))
+    answer-few (status.Settled m) = settled-answer-few m
+
+    pub payer-few : (code : ℕ) → code < 12 → Few 32 (toPayer x code ∷ [])
+    payer-few code c = few-one 31 _ (fit-payer code c)
+
+    pub payee-few : (code : ℕ) → code < 12 → Few 32 (toPayee x code ∷ [])
+    payee-few code c = few-one 31 _ (fit-payee code c)
+
+    pub return-few : n ≤ mostOrder → Few 32 (listed (One (record { to = x .about .payer; code = 6; order = numberOf (x .order); amount = n })))
+    return-few m = few-one 31 _ (fit-order b s _ 6 (numberOf (x .order)) n (s .orders .payer _ h) (omega arith) (order-below b s _ h) m)
+
+  module _ (n time : ℕ) (t : List ℕ) where
+    abbrev field : Kind → Fields
+    field k = record { kind = k; time = time; amount = n }
+
+    -- the ticket's own reports: at most 32
+    own-few : (k : Kind) → Tells t (field k) → NoRefusal (finding b (field k) t) → Few 32 (toldBy b (decisionOf (finding b (field k) t)))
+    own-few kind.CoverIn tells r = few-none 32
+    own-few kind.CoverOut tells r = few-none 32
+    own-few kind.Order tells r =
+        few-one 31 _
+        (fit-order b s _ 1 (b .count) n (accepting.payee-known b (field kind.Order) t (s .roster) (r .r14) refl) (omega arith)
+        (accepting.room-left b (field kind.Order) t (r .r15) refl) (tells .most))
+    own-few kind.Yes tells r = settled-few n time t kind.Yes (accepting.order-found b (field kind.Yes) t (r .r16) refl .below)
+    own-few kind.No tells r = payer-few n time t kind.No (accepting.order-found b (field kind.No) t (r .r16) refl .below) 3 (omega arith)
+    own-few kind.Recall tells r = payee-few n time t kind.Recall (accepting.order-found b (field kind.Recall) t (r .r16) refl .below) 5 (omega arith)
+    own-few kind.Return tells r = return-few n time t kind.Return (accepting.order-found b (field kind.Return) t (r .r16) refl .below) (tells .most)
+    own-few kind.Decline tells r = payer-few n time t kind.Decline (accepting.order-found b (field kind.Decline) t (r .r16) refl .below) 7 (omega arith)
+    own-few kind.Inquiry tells r =
+        answer-few n time t kind.Inquiry (accepting.order-found b (field kind.Inquiry) t (r .r16) refl .below) (accepting.theOrder b (field kind.Inquiry) t .status)
+    own-few kind.Cut tells r = few-more (b .roster .size) 32 _ (s .roster .size) (cut-few (b .roster .size) (omega arith))
+    own-few kind.Confirm tells r = few-none 32
+    own-few kind.Tick tells r = few-none 32
+
+after-few : (w : Step) → Sound (w .book) → Few 512 (w .reports) → (f : Fields) (t : List ℕ) → Tells t f → Few 544 (afterTick w f t .reports)
+after-few w s fw f t tells = go (firstRefusal (finding (w .book) f t)) refl
   where
-    go : (n : ℕ) → firstRefusal (w .book) (f .kind) (f .amount) t ≡ n → Few 544 (settle w f t n .reports)
+    go : (n : ℕ) → firstRefusal (finding (w .book) f t) ≡ n → Few 544 (refusedOr n w (finding (w .book) f t) .reports)
     go n e = done (eqb n 0) refl
       where
-        done : (z : Bool) → eqb n 0 ≡ z → Few 544 ((cond z (accepted w (ownStep (w .book) (f .kind) (f .amount) (f .time) t)) (ticked w n)) .reports)
+        done : (z : Bool) → eqb n 0 ≡ z → Few 544 ((cond z (accepted w (decisionOf (finding (w .book) f t))) (ticked w n)) .reports)
         done true q =
             few-append 512 32 (w .reports) _ fw
-            (own-few (w .book) s (f .amount) (f .time) t (f .kind) tells (none-applies (w .book) (f .kind) (f .amount) t (e ∙ eqb-true n 0 q)))
+            (own-few (w .book) s (f .amount) (f .time) t (f .kind) tells (none-applies (finding (w .book) f t) (e ∙ eqb-true n 0 q)))
         done false q = few-more 512 544 _ (omega arith) fw
 
-read-few : (b : Book) → Sound b → (t : List ℕ) (r : Reading) → reading t ≡ r → Few 544 (stepRead b t r .reports)
-read-few b s t (Refused n) e = few-more 0 544 [] (omega arith) few-none
-read-few b s t (Read f) e = go (ltb (f .time) (b .clock)) refl
+timed-few : (b : Book) → Sound b → (t : List ℕ) (f : Fields) → Tells t f → Few 544 (stepTimed b t f (timingOf (b .clock) (f .time)) .reports)
+timed-few b s t f tells = go (ltb (f .time) (b .clock)) refl
   where
-    go : (x : Bool) → ltb (f .time) (b .clock) ≡ x → Few 544 ((cond x (untouched b 11) (afterTick (tick b (f .time)) f t)) .reports)
-    go true q = few-more 0 544 [] (omega arith) few-none
+    go : (x : Bool) → ltb (f .time) (b .clock) ≡ x → Few 544 (stepTimed b t f (cond x Early InTime) .reports)
+    go true q = few-none 544
     go false q =
         let l = ltb-false (f .time) (b .clock) q in
-        after-few (tick b (f .time)) (sweeping.ticked b s (f .time) l .sound) (ticked-few b s (f .time) l) f t (read-tells t f e)
+        after-few (tick b (f .time)) (sweeping.ticked b s (f .time) l .sound) (ticked-few b s (f .time) l) f t tells
+
+read-few : (b : Book) → Sound b → (t : List ℕ) (r : Reading) → reading t ≡ r → Few 544 (stepRead b t r .reports)
+read-few b s t (Refused n) e = few-none 544
+read-few b s t (Read f) e = timed-few b s t f (read-tells t f e)
 
 -- a step's reports fit, and are at most as many as the buffer of refusal 6 holds
 pub step-few : (b : Book) → Sound b → (t : List ℕ) → Few 544 (stepOf b t .reports)
 unfolding stepOf
 step-few b s t = read-few b s t (reading t) refl
+
+lent-few : (b : Book) → Sound b → (t : List ℕ) (x : Buffer) → Few 544 (stepLent b t x .reports)
+lent-few b s t Enough = step-few b s t
+lent-few b s t Short = few-none 544
+
+-- the buffer reads back: the reports read from it are the step's
+pub buffer-reads-back : (b : Book) → Sound b → (t buffer : List ℕ)
+    → reportsOf (outcome b t buffer .reports) (outcome b t buffer .buffer) ≡ handed b t buffer .reports
+unfolding handed
+buffer-reads-back b s t buffer = laid-reads-back (stepLent b t (bufferOf buffer) .reports) buffer (lent-few b s t (bufferOf buffer) .fit)

@@ -1,14 +1,15 @@
 -- Every step keeps a book sound, whatever the ticket. Assumes nothing.
-use mathlib.Core.Path.{_≡_, refl, sym, _∙_}
+use mathlib.Core.Path.{_≡_, refl, sym, _∙_, ap, ap₂}
 use mathlib.Core.Bool.{Bool, true, false, cond}
 use mathlib.Core.List.{List}
-use Prim.Native.Nat.{ℕ}
+use Prim.Native.Nat.{ℕ, _+_, _≤_, _<_}
 use native.Mathlib.Omega.{arith}
 use borrow.Author.Tests.{ltb-false, eqb-true}
 use lib.Dec.{ltb, eqb}
 use lib.ListN.{length}
+use lib.Seq.{set-getD}
+use Rattle.fields.proofs.UpTo.{none-at}
 use Rattle.fields.proofs.Stores.{length-part}
-use Rattle.ticket.specs.Layout.{txidField}
 use Rattle.ticket.specs.Reading.{reading}
 use Rattle.ticket.specs.declared.Fields.{Fields}
 use Rattle.ticket.specs.declared.Reading.{Reading}
@@ -18,116 +19,190 @@ use Rattle.ticket.specs.declared.kinds.Kind.the-variants as kind
 use Rattle.ticket.proofs.Telling.{Tells, read-tells, listed-txid}
 use Rattle.dayfile.specs.DayFile.{dayFile}
 use Rattle.dayfile.proofs.Accepted.{guaranteed}
-use Rattle.rules.specs.Book.{orderOf, bookOf}
-use Rattle.rules.specs.Find.{wayIn, payeeOfWay}
-use Rattle.rules.specs.Cover.{total}
-use Rattle.rules.specs.Tell.{Told}
-use Rattle.rules.specs.Tick.{isWaiting, tick}
-use Rattle.rules.specs.Refusal.{senderNumber, orderNumber, isUnmarked, isAsked, firstRefusal}
-use Rattle.rules.specs.Own.{ownStep}
-use Rattle.rules.specs.Step.{untouched, accepted, settle, afterTick, stepRead, stepOf, ticked, leastBuffer, outcome}
+use Rattle.rules.specs.Book.{noOrder, orderOf, coverOf, withCovers, bookOf}
+use Rattle.rules.specs.Status.{isWaiting, isUnmarked, isAsked}
+use Rattle.rules.specs.Cover.{transferred, total, mostTotal}
+use Rattle.rules.specs.Tick.{Step, tick}
+use Rattle.rules.specs.Find.{orderIn, isOpen, anyOpen, finding}
+use Rattle.rules.specs.Refusal.{timingOf, bufferOf, firstRefusal}
+use Rattle.rules.specs.Cut.{cutTo}
+use Rattle.rules.specs.Decision.{by, nobody, orderKept, newOrder, confirmMove, decisionOf, applied}
+use Rattle.rules.specs.Step.{untouched, ticked, accepted, refusedOr, afterTick, stepTimed, stepRead, stepOf, stepLent, handed, outcome}
 use Rattle.rules.specs.Sound.{Sound}
+use Rattle.rules.specs.declared.refusal.Buffer.{Buffer}
+use Rattle.rules.specs.declared.refusal.Buffer.the-variants.{Enough, Short}
+use Rattle.rules.specs.declared.refusal.Timing.{Timing}
+use Rattle.rules.specs.declared.refusal.Timing.the-variants.{InTime, Early}
+use Rattle.rules.specs.declared.decision.Move.{Move}
+use Rattle.rules.specs.declared.decision.Move.the-variants.{Give, Draw, Credit, Debit}
+use Rattle.rules.specs.declared.decision.Transfer.{Transfer}
+use Rattle.rules.specs.declared.decision.Told.{Told}
 use Rattle.rules.specs.declared.Recall.the-variants as mark
 use Rattle.rules.specs.declared.Status.{Status}
 use Rattle.rules.specs.declared.Status.the-variants as status
+use Rattle.rules.specs.declared.Order.{Order}
+use Rattle.rules.specs.declared.Cover.{Cover}
 use Rattle.rules.specs.declared.Book.{Book}
+use Rattle.rules.proofs.Moving.{nobody-moves}
 use Rattle.rules.proofs.Keeping as keeping
-use Rattle.rules.proofs.Cutting.{cut-to, confirmed-sound}
+use Rattle.rules.proofs.Cutting.{Closed, closed, cut-sound}
 use Rattle.rules.proofs.Refusing.{NoRefusal, none-applies}
-use Rattle.rules.proofs.Accepting.{sender-found, txid-free, payee-known, room-left, order-found, right-party, status-ready, full-amount, cover-there, limit-kept}
+use Rattle.rules.proofs.Accepting as accepting
 use Rattle.rules.proofs.Sweeping as sweeping
 
 -- an order that is ready for a recall, or for a return or a decline, does not wait
-unmarked-not-waiting : (s : Status) → isUnmarked s ≡ true → isWaiting s ≡ false
+pub unmarked-not-waiting : (s : Status) → isUnmarked s ≡ true → isWaiting s ≡ false
 unmarked-not-waiting status.Waiting e = sym e
 unmarked-not-waiting status.Refused e = refl
 unmarked-not-waiting status.Expired e = refl
 unmarked-not-waiting status.Returned e = refl
 unmarked-not-waiting (status.Settled m) e = refl
 
-asked-not-waiting : (s : Status) → isAsked s ≡ true → isWaiting s ≡ false
+pub asked-not-waiting : (s : Status) → isAsked s ≡ true → isWaiting s ≡ false
 asked-not-waiting status.Waiting e = sym e
 asked-not-waiting status.Refused e = refl
 asked-not-waiting status.Expired e = refl
 asked-not-waiting status.Returned e = refl
 asked-not-waiting (status.Settled m) e = refl
 
+-- a decision that keeps the order: one cover moves
+pub kept-applied : (b : Book) (f : Fields) (t : List ℕ) (m : Transfer) (told : Told)
+    → applied b (orderKept (finding b f t) m false told) ≡ withCovers b (transferred m (b .covers))
+kept-applied b f t m told =
+    ap₂ (λ (cs : List Cover) (os : List Order). record { clock = b .clock; covers = cs; orders = os; count = b .count; roster = b .roster })
+    (nobody-moves (transferred m (b .covers)))
+    (set-getD (b .orders) (accepting.orderNumber b f t) noOrder)
+
+-- and where none moves, the book is as it was
+pub same-applied : (b : Book) (f : Fields) (t : List ℕ) (told : Told) → applied b (orderKept (finding b f t) nobody false told) ≡ b
+same-applied b f t told = kept-applied b f t nobody told ∙ ap (withCovers b) (nobody-moves (b .covers))
+
+pub cut-applied : (b : Book) (f : Fields) (t : List ℕ) (told : Told)
+    → applied b (orderKept (finding b f t) nobody true told) ≡ withCovers b (cutTo (b .roster) (b .covers) (b .roster .size))
+cut-applied b f t told =
+    ap₂
+    (λ (cs : List Cover) (os : List Order).
+    record { clock = b .clock; covers = cutTo (b .roster) cs (b .roster .size); orders = os; count = b .count; roster = b .roster })
+    (nobody-moves (transferred nobody (b .covers)) ∙ nobody-moves (b .covers))
+    (set-getD (b .orders) (accepting.orderNumber b f t) noOrder)
+
+-- where nothing is open anywhere, each is closed
+pub all-closed : (b : Book) → anyOpen b ≡ false → (p : ℕ) → p < b .roster .size → Closed (coverOf (b .covers) p)
+unfolding anyOpen
+all-closed b e p h = closed (coverOf (b .covers) p) (none-at (λ q. isOpen (coverOf (b .covers) q)) (b .roster .size) p e h)
+
 module _ (b : Book) (s : Sound b) (n time : ℕ) (t : List ℕ) where
-  -- the ticket's own step
-  pub own-sound : (k : Kind) → Tells t (record { kind = k; time = time; amount = n }) → time ≡ b .clock → NoRefusal b k n t → Sound (ownStep b k n time t .book)
+  abbrev field : Kind → Fields
+  field k = record { kind = k; time = time; amount = n }
+
+  -- a cover moves, and nothing is reserved or freed
+  confirm-sound : (p : ℕ) → p < b .roster .size → (eqb (coverOf (b .covers) p .held) 0 ≡ true → total b + n ≤ mostTotal)
+      → Sound (withCovers b (transferred (by p (cond (eqb (coverOf (b .covers) p .held) 0) Debit Credit) n) (b .covers)))
   unfolding total
-  own-sound kind.CoverIn tells now r =
-      keeping.given-sound b s (senderNumber b t) (sender-found b kind.CoverIn t (r .r12) refl .below) n (limit-kept b kind.CoverIn t n (r .r22) refl)
-  own-sound kind.CoverOut tells now r =
-      keeping.drawn-sound b s (senderNumber b t) (sender-found b kind.CoverOut t (r .r12) refl .below) n (cover-there b kind.CoverOut t n (r .r20) refl)
-  own-sound kind.Order tells now r =
-      keeping.new-sound b s (senderNumber b t) (payeeOfWay (wayIn b t)) n time (txidField t)
+  confirm-sound p h limit = go (eqb (coverOf (b .covers) p .held) 0) refl
+    where
+      go : (x : Bool) → eqb (coverOf (b .covers) p .held) 0 ≡ x → Sound (withCovers b (transferred (by p (cond x Debit Credit) n) (b .covers)))
+      go true e = keeping.moved-sound b s (by p Debit n) h tt (λ q. refl) (limit e)
+      go false e = keeping.moved-sound b s (by p Credit n) h tt (λ q. refl) (let l = s .limited in omega arith)
+
+  -- the ticket's own step
+  pub own-sound : (k : Kind) → Tells t (field k) → NoRefusal (finding b (field k) t) → Sound (applied b (decisionOf (finding b (field k) t)))
+  unfolding total
+  own-sound kind.CoverIn tells r =
+      let f = field kind.CoverIn in
+      rw (kept-applied b f t (by (accepting.senderNumber b f t) Give n) Told.Nobody)
+      (keeping.moved-sound b s (by (accepting.senderNumber b f t) Give n) (accepting.sender-found b f t (r .r12) refl .below) tt (λ p. refl)
+      (accepting.limit-kept b f t (r .r22) refl))
+  own-sound kind.CoverOut tells r =
+      let f = field kind.CoverOut in
+      rw (kept-applied b f t (by (accepting.senderNumber b f t) Draw n) Told.Nobody)
+      (keeping.moved-sound b s (by (accepting.senderNumber b f t) Draw n) (accepting.sender-found b f t (r .r12) refl .below)
+      (accepting.cover-there b f t (r .r20) refl) (λ p. refl) (let l = s .limited in omega arith))
+  own-sound kind.Order tells r =
+      let f = field kind.Order in
+      rw (nobody-moves (transferred (by (accepting.senderNumber b f t) _ n) (b .covers)))
+      (keeping.opened-sound b s (newOrder (finding b f t))
       (record {
-        room = room-left b kind.Order t (r .r15) refl;
-        payer = sender-found b kind.Order t (r .r12) refl .below;
-        payee = payee-known b kind.Order t (s .roster) (r .r14) refl;
+        room = accepting.room-left b f t (r .r15) refl;
+        payer = accepting.sender-found b f t (r .r12) refl .below;
+        payee = accepting.payee-known b f t (s .roster) (r .r14) refl;
         least = tells .least;
         most = tells .most;
         padded = length-part 35 38 t (rw (tells .whole) (omega arith));
-        txid = listed-txid t (record { kind = kind.Order; time = time; amount = n }) tells refl;
-        fresh = txid-free b kind.Order t (r .r13) refl;
-        time = now;
+        txid = listed-txid t f tells refl;
+        fresh = accepting.txid-free b f t (r .r13) refl;
+        time = refl;
       })
-      (cover-there b kind.Order t n (r .r20) refl)
-  own-sound kind.Yes tells now r =
-      keeping.settled-sound b s (orderNumber b t) (order-found b kind.Yes t (r .r16) refl .below) (status-ready b kind.Yes t (r .r18))
-  own-sound kind.No tells now r =
-      keeping.refused-sound b s (orderNumber b t) (order-found b kind.No t (r .r16) refl .below) (status-ready b kind.No t (r .r18))
-  own-sound kind.Recall tells now r =
-      keeping.asked-sound b s (orderNumber b t) (order-found b kind.Recall t (r .r16) refl .below)
-      (unmarked-not-waiting (orderOf b (orderNumber b t) .status) (status-ready b kind.Recall t (r .r18)))
-  own-sound kind.Return tells now r =
-      let full = full-amount b kind.Return t n (r .r19) refl in
-      let party = right-party b kind.Return t (r .r17) refl in
-      keeping.returned-sound b s (orderNumber b t) (order-found b kind.Return t (r .r16) refl .below)
-      (asked-not-waiting (orderOf b (orderNumber b t) .status) (status-ready b kind.Return t (r .r18)))
-      (rw (← full, ← party) (cover-there b kind.Return t n (r .r20) refl))
-  own-sound kind.Decline tells now r =
-      keeping.declined-sound b s (orderNumber b t) (order-found b kind.Decline t (r .r16) refl .below)
-      (asked-not-waiting (orderOf b (orderNumber b t) .status) (status-ready b kind.Decline t (r .r18)))
-  own-sound kind.Inquiry tells now r = s
-  own-sound kind.Cut tells now r = cut-to b s (r .r21) (b .roster .size) (omega arith) .sound
-  own-sound kind.Confirm tells now r =
-      confirmed-sound b s (senderNumber b t) (sender-found b kind.Confirm t (r .r12) refl .below) n (λ z. limit-kept b kind.Confirm t n (r .r22) z)
-  own-sound kind.Tick tells now r = s
+      (accepting.cover-there b f t (r .r20) refl) refl)
+  own-sound kind.Yes tells r =
+      let f = field kind.Yes in
+      keeping.settled-sound b s (accepting.orderNumber b f t) (accepting.order-found b f t (r .r16) refl .below) (status.Settled mark.None) refl
+      (accepting.status-meets b f t (r .r18))
+  own-sound kind.No tells r =
+      let f = field kind.No in
+      rw (nobody-moves _)
+      (keeping.freed-sound b s (accepting.orderNumber b f t) (accepting.order-found b f t (r .r16) refl .below) status.Refused refl
+      (accepting.status-meets b f t (r .r18)))
+  own-sound kind.Recall tells r =
+      let f = field kind.Recall in
+      rw (nobody-moves (transferred nobody (b .covers)), nobody-moves (b .covers))
+      (keeping.remarked-sound b s (accepting.orderNumber b f t) (accepting.order-found b f t (r .r16) refl .below) (status.Settled mark.Asked) refl
+      (unmarked-not-waiting (accepting.theOrder b f t .status) (accepting.status-meets b f t (r .r18))))
+  own-sound kind.Return tells r =
+      let f = field kind.Return in
+      keeping.returned-sound b s (accepting.orderNumber b f t) (accepting.order-found b f t (r .r16) refl .below) status.Returned refl
+      (asked-not-waiting (accepting.theOrder b f t .status) (accepting.status-meets b f t (r .r18))) n
+      (rw (← accepting.right-party b f t (r .r17) refl) (accepting.cover-there b f t (r .r20) refl))
+  own-sound kind.Decline tells r =
+      let f = field kind.Decline in
+      rw (nobody-moves (transferred nobody (b .covers)), nobody-moves (b .covers))
+      (keeping.remarked-sound b s (accepting.orderNumber b f t) (accepting.order-found b f t (r .r16) refl .below) (status.Settled mark.Declined) refl
+      (asked-not-waiting (accepting.theOrder b f t .status) (accepting.status-meets b f t (r .r18))))
+  own-sound kind.Inquiry tells r = rw (same-applied b (field kind.Inquiry) t _) s
+  own-sound kind.Cut tells r =
+      let c = cut-sound (b .roster) (s .roster .size) (s .covers) (all-closed b (r .r21)) (b .roster .size) (omega arith) in
+      rw (cut-applied b (field kind.Cut) t Told.Nobody) (keeping.covers-sound b s _ (c .sound) (let e = c .total in let l = s .limited in omega arith))
+  own-sound kind.Confirm tells r =
+      let f = field kind.Confirm in
+      rw (kept-applied b f t (by (accepting.senderNumber b f t) (confirmMove (finding b f t)) n) Told.Nobody)
+      (confirm-sound (accepting.senderNumber b f t) (accepting.sender-found b f t (r .r12) refl .below) (λ z. accepting.limit-kept b f t (r .r22) z))
+  own-sound kind.Tick tells r = rw (same-applied b (field kind.Tick) t Told.Nobody) s
 
 -- after the expiries
-after-sound : (w : Told) → Sound (w .book) → (f : Fields) (t : List ℕ) → Tells t f → f .time ≡ w .book .clock → Sound (afterTick w f t .book)
-after-sound w s f t tells now = go (firstRefusal (w .book) (f .kind) (f .amount) t) refl
+after-sound : (w : Step) → Sound (w .book) → (f : Fields) (t : List ℕ) → Tells t f → Sound (afterTick w f t .book)
+after-sound w s f t tells = go (firstRefusal (finding (w .book) f t)) refl
   where
-    go : (n : ℕ) → firstRefusal (w .book) (f .kind) (f .amount) t ≡ n → Sound (settle w f t n .book)
+    go : (n : ℕ) → firstRefusal (finding (w .book) f t) ≡ n → Sound (refusedOr n w (finding (w .book) f t) .book)
     go n e = done (eqb n 0) refl
       where
-        done : (z : Bool) → eqb n 0 ≡ z → Sound ((cond z (accepted w (ownStep (w .book) (f .kind) (f .amount) (f .time) t)) (ticked w n)) .book)
-        done true q = own-sound (w .book) s (f .amount) (f .time) t (f .kind) tells now (none-applies (w .book) (f .kind) (f .amount) t (e ∙ eqb-true n 0 q))
+        done : (z : Bool) → eqb n 0 ≡ z → Sound ((cond z (accepted w (decisionOf (finding (w .book) f t))) (ticked w n)) .book)
+        done true q = own-sound (w .book) s (f .amount) (f .time) t (f .kind) tells (none-applies (finding (w .book) f t) (e ∙ eqb-true n 0 q))
         done false q = s
 
-read-sound : (b : Book) → Sound b → (t : List ℕ) (r : Reading) → reading t ≡ r → Sound (stepRead b t r .book)
-read-sound b s t (Refused n) e = s
-read-sound b s t (Read f) e = go (ltb (f .time) (b .clock)) refl
+timed-sound : (b : Book) → Sound b → (t : List ℕ) (f : Fields) → Tells t f → Sound (stepTimed b t f (timingOf (b .clock) (f .time)) .book)
+timed-sound b s t f tells = go (ltb (f .time) (b .clock)) refl
   where
-    go : (x : Bool) → ltb (f .time) (b .clock) ≡ x → Sound ((cond x (untouched b 11) (afterTick (tick b (f .time)) f t)) .book)
+    go : (x : Bool) → ltb (f .time) (b .clock) ≡ x → Sound (stepTimed b t f (cond x Early InTime) .book)
     go true q = s
     go false q =
         let w = sweeping.ticked b s (f .time) (ltb-false (f .time) (b .clock) q) in
-        after-sound (tick b (f .time)) (w .sound) f t (read-tells t f e) (sym (w .clock))
+        after-sound (tick b (f .time)) (w .sound) f t tells
+
+read-sound : (b : Book) → Sound b → (t : List ℕ) (r : Reading) → reading t ≡ r → Sound (stepRead b t r .book)
+read-sound b s t (Refused n) e = s
+read-sound b s t (Read f) e = timed-sound b s t f (read-tells t f e)
 
 pub step-sound : (b : Book) → Sound b → (t : List ℕ) → Sound (stepOf b t .book)
 unfolding stepOf
 step-sound b s t = read-sound b s t (reading t) refl
 
+lent-sound : (b : Book) → Sound b → (t : List ℕ) (x : Buffer) → Sound (stepLent b t x .book)
+lent-sound b s t Enough = step-sound b s t
+lent-sound b s t Short = s
+
 pub outcome-sound : (b : Book) → Sound b → (t buffer : List ℕ) → Sound (outcome b t buffer .book)
-unfolding outcome
-outcome-sound b s t buffer = go (ltb (length buffer) leastBuffer)
-  where
-    go : (x : Bool) → Sound ((cond x (untouched b 6) (stepOf b t)) .book)
-    go true = s
-    go false = step-sound b s t
+unfolding handed
+outcome-sound b s t buffer = lent-sound b s t (bufferOf buffer)
 
 -- the fresh book of any day file, refused ones included
 pub file-sound : (file : List ℕ) → Sound (bookOf file)

@@ -6,32 +6,40 @@ use native.Mathlib.Omega.{arith}
 use lib.Dec.{leb}
 use Rattle.fields.proofs.Tests.{and-left}
 use Rattle.rules.specs.Book.{orderOf, isBank}
-use Rattle.rules.specs.Tell.{Told}
-use Rattle.rules.specs.Tick.{isWaiting, due, expireTold, sweepTo, atTime, tick}
+use Rattle.rules.specs.Status.{isWaiting}
+use Rattle.rules.specs.Tick.{Step, due, expireTold, sweepTo, atTime, tick}
 use Rattle.rules.specs.Sound.{Sound}
+use Rattle.rules.specs.declared.Status.the-variants.{Expired}
+use Rattle.rules.specs.declared.Order.{Order}
 use Rattle.rules.specs.declared.Book.{Book}
-use Rattle.rules.proofs.Keeping.{later-sound, expired-sound}
+use Rattle.rules.proofs.Keeping.{later-sound, freed-sound}
 
-pub record Swept (b : Book) (w : Told) : Type 0 where
+pub record Swept (b : Book) (w : Step) : Type 0 where
   pub sound : Sound (w .book)
   pub count : w .book .count ≡ b .count
   pub clock : w .book .clock ≡ b .clock
   pub roster : w .book .roster ≡ b .roster
 
 -- a due order waits
-pub due-waits : (b : Book) (i : ℕ) → due b i ≡ true → isWaiting (orderOf b i .status) ≡ true
-due-waits b i e =
-    and-left (isWaiting (orderOf b i .status)) (isBank b (orderOf b i .payee))
-    (and-left (isWaiting (orderOf b i .status) && isBank b (orderOf b i .payee)) (leb 20 (b .clock - orderOf b i .time)) e)
+pub due-waits : (clock : ℕ) (o : Order) (bank : Bool) → due clock o bank ≡ true → isWaiting (o .status) ≡ true
+due-waits clock o bank e = and-left (isWaiting (o .status)) bank (and-left (isWaiting (o .status) && bank) (leb 20 (clock - o .time)) e)
 
 pub swept : (b : Book) → Sound b → (i : ℕ) → i ≤ b .count → Swept b (sweepTo b i)
 swept b s zero h = record { sound = s; count = refl; clock = refl; roster = refl }
-swept b s (suc i) h = go (swept b s i (omega arith)) (due (sweepTo b i .book) i) refl
+swept b s (suc i) h = go (swept b s i (omega arith)) (due (w .book .clock) o (isBank (w .book .roster) (o .payee))) refl
   where
-    go : Swept b (sweepTo b i) → (d : Bool) → due (sweepTo b i .book) i ≡ d → Swept b (cond d (expireTold (sweepTo b i) i) (sweepTo b i))
+    w : Step
+    w = sweepTo b i
+
+    o : Order
+    o = orderOf (w .book .orders) i
+
+    go : Swept b w → (d : Bool) → due (w .book .clock) o (isBank (w .book .roster) (o .payee)) ≡ d → Swept b (cond d (expireTold w i o) w)
     go r true e =
         record {
-          sound = expired-sound (sweepTo b i .book) (r .sound) i (let c = r .count in omega arith) (due-waits (sweepTo b i .book) i e);
+          sound =
+              freed-sound (w .book) (r .sound) i (let c = r .count in omega arith) Expired refl
+              (due-waits (w .book .clock) o (isBank (w .book .roster) (o .payee)) e);
           count = r .count;
           clock = r .clock;
           roster = r .roster;

@@ -1,61 +1,43 @@
--- Moves of cover: what a participant's four amounts become. Each changes one participant of the list.
---     give      available rises
---     draw      available falls
---     reserve   from available to reserved
---     release   from reserved to available
---     spend     reserved falls
---     hold      from available to held
---     owe       an open debit
---     clear     held and open debit become 0
---     total     available, reserved and held of all participants
+-- How a participant's cover moves, and all cover together.
+--     moved         what each move makes of a cover
+--     transferred   one participant's cover moves
+--     whole         available, reserved and held
+--     total         those of all participants
 -- Assumes nothing.
 use Prim.Native.Nat.{ℕ, _+_, _-_}
 use mathlib.Core.List.{List}
-use lib.ListN.{getD, set}
+use lib.ListN.{set}
 use Rattle.fields.specs.UpTo.{sumTo}
-use Rattle.rules.specs.Book.{noCover}
+use Rattle.rules.specs.Book.{coverOf}
+use Rattle.rules.specs.declared.decision.Move.{Move}
+use Rattle.rules.specs.declared.decision.Move.the-variants.{Stay, Give, Draw, Reserve, Release, Spend, Credit, Debit}
+use Rattle.rules.specs.declared.decision.Transfer.{Transfer}
 use Rattle.rules.specs.declared.Cover.{Cover}
 use Rattle.rules.specs.declared.Book.{Book}
 
-abbrev pub at : List Cover → ℕ → Cover
-at cs p = getD cs p noCover
+abbrev pub moved : Move → ℕ → Cover → Cover
+moved Stay n c = c
+-- available rises, or falls
+moved Give n c = record { available = c .available + n; reserved = c .reserved; held = c .held; debit = c .debit }
+moved Draw n c = record { available = c .available - n; reserved = c .reserved; held = c .held; debit = c .debit }
+-- available to reserved, and back
+moved Reserve n c = record { available = c .available - n; reserved = c .reserved + n; held = c .held; debit = c .debit }
+moved Release n c = record { available = c .available + n; reserved = c .reserved - n; held = c .held; debit = c .debit }
+-- reserved falls
+moved Spend n c = record { available = c .available; reserved = c .reserved - n; held = c .held; debit = c .debit }
+-- a confirmed credit: held becomes 0
+moved Credit n c = record { available = c .available; reserved = c .reserved; held = 0; debit = c .debit }
+-- a confirmed debit: the amount joins available and the open debit becomes 0
+moved Debit n c = record { available = c .available + n; reserved = c .reserved; held = c .held; debit = 0 }
 
-abbrev pub give : ℕ → ℕ → List Cover → List Cover
-give p n cs =
-    set cs p (record { available = at cs p .available + n; reserved = at cs p .reserved; held = at cs p .held; debit = at cs p .debit })
-
-abbrev pub draw : ℕ → ℕ → List Cover → List Cover
-draw p n cs =
-    set cs p (record { available = at cs p .available - n; reserved = at cs p .reserved; held = at cs p .held; debit = at cs p .debit })
-
-abbrev pub reserve : ℕ → ℕ → List Cover → List Cover
-reserve p n cs =
-    set cs p (record { available = at cs p .available - n; reserved = at cs p .reserved + n; held = at cs p .held; debit = at cs p .debit })
-
-abbrev pub release : ℕ → ℕ → List Cover → List Cover
-release p n cs =
-    set cs p (record { available = at cs p .available + n; reserved = at cs p .reserved - n; held = at cs p .held; debit = at cs p .debit })
-
-abbrev pub spend : ℕ → ℕ → List Cover → List Cover
-spend p n cs =
-    set cs p (record { available = at cs p .available; reserved = at cs p .reserved - n; held = at cs p .held; debit = at cs p .debit })
-
-abbrev pub hold : ℕ → ℕ → List Cover → List Cover
-hold p n cs =
-    set cs p (record { available = at cs p .available - n; reserved = at cs p .reserved; held = at cs p .held + n; debit = at cs p .debit })
-
-abbrev pub owe : ℕ → ℕ → List Cover → List Cover
-owe p n cs =
-    set cs p (record { available = at cs p .available; reserved = at cs p .reserved; held = at cs p .held; debit = at cs p .debit + n })
-
-abbrev pub clear : ℕ → List Cover → List Cover
-clear p cs = set cs p (record { available = at cs p .available; reserved = at cs p .reserved; held = 0; debit = 0 })
+abbrev pub transferred : Transfer → List Cover → List Cover
+transferred m cs = set cs (m .who) (moved (m .how) (m .amount) (coverOf cs (m .who)))
 
 abbrev pub whole : Cover → ℕ
 whole c = c .available + c .reserved + c .held
 
 abbrev pub totalOf : ℕ → List Cover → ℕ
-totalOf size cs = sumTo (λ p. whole (at cs p)) size
+totalOf size cs = sumTo (λ p. whole (coverOf cs p)) size
 
 unfoldable pub total : Book → ℕ
 total b = totalOf (b .roster .size) (b .covers)

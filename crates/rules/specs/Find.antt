@@ -1,38 +1,69 @@
--- Finding a participant, an order and a route row by what the ticket names. Assumes nothing.
+-- What a book finds in a ticket. This is the one file of the rules that looks at a ticket's bytes.
+--     senderIn    the participant whose BIC the ticket's sender is
+--     orderIn     the order with the ticket's TxId
+--     isOpen      a cover has held or open debit
+--     finding     all that refusals 12 to 22 and the ticket's own step look at
+-- Assumes nothing.
 use Prim.Native.Nat.{ℕ}
+use mathlib.Core.Bool.{Bool, _||_, not}
 use mathlib.Core.List.{List}
+use lib.Dec.{eqb}
 use Rattle.fields.specs.Text.{same}
-use Rattle.fields.specs.Search.{firstTo}
+use Rattle.fields.specs.UpTo.{anyTo}
+use Rattle.fields.specs.Search.{firstTo, numberOf}
 use Rattle.fields.specs.declared.search.Found.{Found}
 use Rattle.ticket.specs.Layout.{senderOf, payeeOf, txidField}
+use Rattle.ticket.specs.declared.Fields.{Fields}
 use Rattle.dayfile.specs.Roster.{participantOf}
 use Rattle.dayfile.specs.Route.{rowWith, followedBic}
+use Rattle.dayfile.specs.declared.roster.Roster.{Roster}
 use Rattle.dayfile.specs.declared.route.Followed.{Followed}
-use Rattle.dayfile.specs.declared.route.Followed.the-variants as followed-is
-use Rattle.rules.specs.Book.{orderOf}
+use Rattle.rules.specs.Book.{orderOf, coverOf, isBank}
+use Rattle.rules.specs.Cover.{total}
+use Rattle.rules.specs.declared.finding.Finding.{Finding}
+use Rattle.rules.specs.declared.Order.{Order}
+use Rattle.rules.specs.declared.Cover.{Cover}
 use Rattle.rules.specs.declared.Book.{Book}
 
--- the participant whose BIC the ticket's sender is
-unfoldable pub senderIn : Book → List ℕ → Found
-senderIn b t = firstTo (λ p. same (participantOf (b .roster) p .bic) (senderOf t)) (b .roster .size)
+unfoldable pub senderIn : Roster → List ℕ → Found
+senderIn r t = firstTo (λ p. same (participantOf r p .bic) (senderOf t)) (r .size)
 
--- the order with the ticket's TxId: two well-formed ones are the same exactly where their padded bytes are
-unfoldable pub orderIn : Book → List ℕ → Found
-orderIn b t = firstTo (λ i. same (orderOf b i .txid) (txidField t)) (b .count)
+-- two well-formed TxIds are the same exactly where their padded bytes are
+unfoldable pub orderIn : List Order → ℕ → List ℕ → Found
+orderIn os count t = firstTo (λ i. same (orderOf os i .txid) (txidField t)) count
 
--- the route row with the ticket's payee BIC
-unfoldable pub routeIn : Book → List ℕ → Found
-routeIn b t = rowWith (b .roster) (payeeOf t)
+-- the route row with the ticket's payee BIC, and where it leads
+unfoldable pub routeIn : Roster → List ℕ → Found
+routeIn r t = rowWith r (payeeOf t)
 
--- where the ticket's payee BIC leads
-unfoldable pub wayIn : Book → List ℕ → Followed
-wayIn b t = followedBic (b .roster) (payeeOf t)
+unfoldable pub wayIn : Roster → List ℕ → Followed
+wayIn r t = followedBic r (payeeOf t)
 
--- the payee's bank and the number of rows followed
-abbrev pub payeeOfWay : Followed → ℕ
-payeeOfWay (followed-is.At p rows) = p
-payeeOfWay followed-is.Nowhere = 0
+abbrev pub isOpen : Cover → Bool
+isOpen c = not (eqb (c .held) 0) || not (eqb (c .debit) 0)
 
-abbrev pub rowsOfWay : Followed → ℕ
-rowsOfWay (followed-is.At p rows) = rows
-rowsOfWay followed-is.Nowhere = 0
+unfoldable pub anyOpen : Book → Bool
+anyOpen b = anyTo (λ p. isOpen (coverOf (b .covers) p)) (b .roster .size)
+
+-- where no participant or order is found, its cover or order is that of number 0, which nothing looks at then
+abbrev pub finding : Book → Fields → List ℕ → Finding
+finding b f t =
+    let sender = senderIn (b .roster) t in
+    let order = orderIn (b .orders) (b .count) t in
+    let about = orderOf (b .orders) (numberOf order) in
+    record {
+      kind = f .kind;
+      amount = f .amount;
+      clock = b .clock;
+      txid = txidField t;
+      sender = sender;
+      cover = coverOf (b .covers) (numberOf sender);
+      order = order;
+      about = about;
+      bank = isBank (b .roster) (about .payee);
+      route = routeIn (b .roster) t;
+      way = wayIn (b .roster) t;
+      count = b .count;
+      unconfirmed = anyOpen b;
+      total = total b;
+    }

@@ -1,11 +1,13 @@
 pub mod Book
-pub mod Find
+pub mod Status
 pub mod Cover
 pub mod Tell
-pub mod Order
 pub mod Tick
+pub mod Find
+pub mod Terms
 pub mod Refusal
-pub mod Own
+pub mod Cut
+pub mod Decision
 pub mod Step
 pub mod Program
 pub mod Sound

@@ -12,7 +12,8 @@ use Rattle.report.specs.declared.Report.{Report}
 use Rattle.dayfile.specs.DayFile.{dayFile, ticketAt}
 use Rattle.dayfile.specs.declared.DayFile.{DayFile}
 use Rattle.rules.specs.Book.{coverOf, bookOf}
-use Rattle.rules.specs.Step.{Step, stepOf}
+use Rattle.rules.specs.Tick.{Step}
+use Rattle.rules.specs.Step.{stepsOf, bookAfter}
 use Rattle.rules.specs.declared.Book.{Book}
 
 -- the last digits of n, at most as many as given, as long as there are any but leading zeros
@@ -37,30 +38,32 @@ reportLines (r ∷ rs) = text "R" ++ numbers (r .to ∷ r .code ∷ r .order ∷
 abbrev pub ticketLines : ℕ → Step → List ℕ
 ticketLines k s = text "T" ++ numbers (k ∷ s .refusal ∷ length (s .reports) ∷ s .rows ∷ []) ++ reportLines (s .reports)
 
-pub record Printed : Type 0 where
-  pub book : Book
-  pub text : List ℕ
-
-abbrev pub printStep : Printed → ℕ → Step → Printed
-printStep w k s = record { book = s .book; text = w .text ++ ticketLines k s }
-
--- the first n tickets
-abbrev pub printTo : List ℕ → ℕ → Printed
-printTo file zero = record { book = bookOf file; text = [] }
-printTo file (suc k) = let w = printTo file k in printStep w k (stepOf (w .book) (ticketAt file k))
+-- of tickets from number k on
+abbrev pub linesFrom : ℕ → List Step → List ℕ
+linesFrom k [] = []
+linesFrom k (s ∷ ss) = ticketLines k s ++ linesFrom (suc k) ss
 
 -- "C number available reserved held", per participant
 abbrev pub coverLines : Book → ℕ → List ℕ
 coverLines b zero = []
 coverLines b (suc p) =
-    coverLines b p ++ (text "C" ++ numbers (p ∷ coverOf b p .available ∷ coverOf b p .reserved ∷ coverOf b p .held ∷ []))
+    let c = coverOf (b .covers) p in
+    coverLines b p ++ (text "C" ++ numbers (p ∷ c .available ∷ c .reserved ∷ c .held ∷ []))
 
-abbrev pub printed : Printed → List ℕ
-printed w = w .text ++ coverLines (w .book) (w .book .roster .size)
+-- the file's tickets from number k on, n of them
+abbrev pub ticketsFrom : List ℕ → ℕ → ℕ → List (List ℕ)
+ticketsFrom file k zero = []
+ticketsFrom file k (suc n) = ticketAt file k ∷ ticketsFrom file (suc k) n
+
+abbrev pub dayLines : Book → List Step → List ℕ
+dayLines b ss = let c = bookAfter b ss in linesFrom 0 ss ++ coverLines c (c .roster .size)
 
 -- a refused file prints "F refusal" alone
 abbrev pub outputOf : List ℕ → DayFile → List ℕ
-outputOf file d = cond (eqb (d .refusal) 0) (printed (printTo file (d .tickets))) (text "F" ++ numbers (d .refusal ∷ []))
+outputOf file d =
+    cond (eqb (d .refusal) 0)
+    (dayLines (bookOf file) (stepsOf (bookOf file) (ticketsFrom file 0 (d .tickets))))
+    (text "F" ++ numbers (d .refusal ∷ []))
 
 unfoldable pub output : List ℕ → List ℕ
 output file = outputOf file (dayFile file)

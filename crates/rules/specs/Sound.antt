@@ -11,16 +11,15 @@ use mathlib.Core.Bool.{true, false, _&&_, cond}
 use mathlib.Core.List.{List}
 use mathlib.Core.Logic.{_⊎_}
 use lib.Dec.{eqb}
-use lib.ListN.{length, getD}
+use lib.ListN.{length}
 use Rattle.codes.specs.Txid.{isTxid}
 use Rattle.fields.specs.Text.{same, unpadded}
 use Rattle.fields.specs.UpTo.{sumTo}
 use Rattle.ticket.specs.Form.{mostOrder}
-use Rattle.dayfile.specs.Rows.{mostOpening}
 use Rattle.dayfile.specs.Guarantee.{Guaranteed}
-use Rattle.rules.specs.Book.{noOrder, noCover, unusedOrder}
-use Rattle.rules.specs.Cover.{at, total, mostTotal}
-use Rattle.rules.specs.Tick.{isWaiting}
+use Rattle.rules.specs.Book.{mostOrders, noCover, unusedOrder, orderOf, coverOf}
+use Rattle.rules.specs.Status.{isWaiting}
+use Rattle.rules.specs.Cover.{total, mostTotal}
 use Rattle.rules.specs.declared.Order.{Order}
 use Rattle.rules.specs.declared.Cover.{Cover}
 use Rattle.rules.specs.declared.Book.{Book}
@@ -29,33 +28,32 @@ abbrev pub waitingAmount : ℕ → Order → ℕ
 waitingAmount p o = cond (isWaiting (o .status) && eqb (o .payer) p) (o .amount) 0
 
 abbrev pub waitingSum : ℕ → List Order → ℕ → ℕ
-waitingSum count os p = sumTo (λ i. waitingAmount p (getD os i noOrder)) count
+waitingSum count os p = sumTo (λ i. waitingAmount p (orderOf os i)) count
 
 pub record OrdersSound (size clock n : ℕ) (os : List Order) : Type 0 where
-  pub long : length os ≡ 256
-  pub count : n ≤ 256
+  pub long : length os ≡ mostOrders
+  pub count : n ≤ mostOrders
   -- each order in use: its parties are participants, its amount and TxId are such as tickets may have
-  pub payer : (i : ℕ) → i < n → getD os i noOrder .payer < size
-  pub payee : (i : ℕ) → i < n → getD os i noOrder .payee < size
-  pub least : (i : ℕ) → i < n → 1 ≤ getD os i noOrder .amount
-  pub most : (i : ℕ) → i < n → getD os i noOrder .amount ≤ mostOrder
-  pub padded : (i : ℕ) → i < n → length (getD os i noOrder .txid) ≡ 35
-  pub txid : (i : ℕ) → i < n → isTxid (unpadded (getD os i noOrder .txid)) ≡ true
+  pub payer : (i : ℕ) → i < n → orderOf os i .payer < size
+  pub payee : (i : ℕ) → i < n → orderOf os i .payee < size
+  pub least : (i : ℕ) → i < n → 1 ≤ orderOf os i .amount
+  pub most : (i : ℕ) → i < n → orderOf os i .amount ≤ mostOrder
+  pub padded : (i : ℕ) → i < n → length (orderOf os i .txid) ≡ 35
+  pub txid : (i : ℕ) → i < n → isTxid (unpadded (orderOf os i .txid)) ≡ true
   -- no two share a TxId; their times never fall in arrival order, and none is after the clock
-  pub distinct : (i j : ℕ) → i < j → j < n → same (getD os i noOrder .txid) (getD os j noOrder .txid) ≡ false
-  pub ordered : (i j : ℕ) → i < j → j < n → getD os i noOrder .time ≤ getD os j noOrder .time
-  pub early : (i : ℕ) → i < n → getD os i noOrder .time ≤ clock
+  pub distinct : (i j : ℕ) → i < j → j < n → same (orderOf os i .txid) (orderOf os j .txid) ≡ false
+  pub ordered : (i j : ℕ) → i < j → j < n → orderOf os i .time ≤ orderOf os j .time
+  pub early : (i : ℕ) → i < n → orderOf os i .time ≤ clock
   -- a slot that is not in use is as the fresh book made it
-  pub unused : (i : ℕ) → n ≤ i → i < 256 → getD os i noOrder ≡ unusedOrder
+  pub unused : (i : ℕ) → n ≤ i → i < mostOrders → orderOf os i ≡ unusedOrder
 
 pub record CoversSound (size : ℕ) (due : ℕ → ℕ) (cs : List Cover) : Type 0 where
   pub long : length cs ≡ 32
-  pub reserved : (p : ℕ) → p < size → at cs p .reserved ≡ due p
+  pub reserved : (p : ℕ) → p < size → coverOf cs p .reserved ≡ due p
   -- nobody has both held and open debit
-  pub either : (p : ℕ) → p < size → (at cs p .held ≡ 0) ⊎ (at cs p .debit ≡ 0)
-  pub debit : (p : ℕ) → p < size → at cs p .debit ≤ mostOpening
+  pub either : (p : ℕ) → p < size → (coverOf cs p .held ≡ 0) ⊎ (coverOf cs p .debit ≡ 0)
   -- who is no participant has no cover
-  pub outside : (p : ℕ) → size ≤ p → p < 32 → at cs p ≡ noCover
+  pub outside : (p : ℕ) → size ≤ p → p < 32 → coverOf cs p ≡ noCover
 
 pub record Sound (b : Book) : Type 0 where
   pub roster : Guaranteed (b .roster)

@@ -1,21 +1,24 @@
--- Reports, and a book with what was told on the way to it.
---     tellOrder     a report of codes 1 to 9, about an order: its number and its amount
+-- Reports.
+--     tellOrder     a report of codes 1 to 9: the order's number and its amount
 --     tellCut       a report 10 or 11: no order, and an amount of its own
---     Told          a book and the reports so far
+--     listed        the reports of a decision, in their order
 -- Assumes nothing.
 use Prim.Native.Nat.{ℕ}
-use mathlib.Core.List.{List}
+use mathlib.Core.List.{List, [], _∷_}
 use Rattle.report.specs.declared.Report.{Report}
-use Rattle.rules.specs.Book.{orderOf}
-use Rattle.rules.specs.declared.Book.{Book}
+use Rattle.rules.specs.declared.decision.Told.{Told}
+use Rattle.rules.specs.declared.decision.Told.the-variants.{Nobody, One, Two}
+use Rattle.rules.specs.declared.Order.{Order}
 
-abbrev pub tellOrder : Book → ℕ → ℕ → ℕ → Report
-tellOrder b to code i = record { to = to; code = code; order = i; amount = orderOf b i .amount }
+-- to whom, code, about order number i
+abbrev pub tellOrder : ℕ → ℕ → ℕ → Order → Report
+tellOrder to code i o = record { to = to; code = code; order = i; amount = o .amount }
 
 -- 01: 65,535 for codes 10 and 11
 abbrev pub tellCut : ℕ → ℕ → ℕ → Report
 tellCut to code amount = record { to = to; code = code; order = 65_535; amount = amount }
 
-pub record Told : Type 0 where
-  pub book : Book
-  pub reports : List Report
+abbrev pub listed : Told → List Report
+listed Nobody = []
+listed (One r) = r ∷ []
+listed (Two r s) = r ∷ s ∷ []

@@ -1,4 +1,10 @@
-// The types of the book. There is no code here: specs/ says what every ticket does to a book.
+// The types of the book, and of what is found, asked and decided when a ticket is handed in. There is no code here: specs/ says what
+// every ticket does to a book.
+pub mod decision;
+pub mod finding;
+pub mod refusal;
+pub mod terms;
+
 use dayfile::roster::Roster;
 
 // 01: with its recall mark none, asked or declined

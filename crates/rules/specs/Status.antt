@@ -1,0 +1,46 @@
+-- An order's status and recall mark.
+--     isWaiting      Waiting
+--     isUnmarked     Settled with mark none
+--     isAsked        Settled, asked
+--     withStatus     the order with another status
+-- Assumes nothing.
+use mathlib.Core.Bool.{Bool, true, false}
+use Rattle.rules.specs.declared.Recall.{Recall}
+use Rattle.rules.specs.declared.Recall.the-variants.{None, Asked, Declined}
+use Rattle.rules.specs.declared.Status.{Status}
+use Rattle.rules.specs.declared.Status.the-variants.{Waiting, Refused, Expired, Returned, Settled}
+use Rattle.rules.specs.declared.Order.{Order}
+
+abbrev pub isWaiting : Status → Bool
+isWaiting Waiting = true
+isWaiting Refused = false
+isWaiting Expired = false
+isWaiting Returned = false
+isWaiting (Settled mark) = false
+
+abbrev pub isNone : Recall → Bool
+isNone None = true
+isNone Asked = false
+isNone Declined = false
+
+abbrev pub isUnmarked : Status → Bool
+isUnmarked Waiting = false
+isUnmarked Refused = false
+isUnmarked Expired = false
+isUnmarked Returned = false
+isUnmarked (Settled mark) = isNone mark
+
+abbrev pub wasAsked : Recall → Bool
+wasAsked None = false
+wasAsked Asked = true
+wasAsked Declined = false
+
+abbrev pub isAsked : Status → Bool
+isAsked Waiting = false
+isAsked Refused = false
+isAsked Expired = false
+isAsked Returned = false
+isAsked (Settled mark) = wasAsked mark
+
+abbrev pub withStatus : Order → Status → Order
+withStatus o s = record { txid = o .txid; payer = o .payer; payee = o .payee; amount = o .amount; time = o .time; status = s }
