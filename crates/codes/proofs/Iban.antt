@@ -8,7 +8,7 @@ use lib.Dec.{eqb}
 use lib.ListN.{length, take, drop}
 use lib.Seq.{take-add}
 use Rattle.codes.specs.Class.{allIn}
-use Rattle.codes.specs.Iban.{isIban, decimal, digits, moved}
+use Rattle.codes.specs.Iban.{isIban, readDecimal, digits, moved}
 use Rattle.codes.specs.Carry.{behind, carried}
 use Rattle.codes.specs.declared.classes.Class.{Class}
 use Rattle.codes.specs.declared.classes.Class.the-variants.{Capital, Digit, LetterOrDigit}
@@ -58,7 +58,7 @@ module _ (s : List ℕ) where
 
   -- the remainders of the three parts, one carried to the next, are that of the number
   number : (rest country check : ℕ) → behind 0 (drop 4 s) % 97 ≡ rest → behind rest (take 2 s) % 97 ≡ country
-      → behind country (take 2 (drop 2 s)) % 97 ≡ check → decimal (digits (moved s)) % 97 ≡ check
+      → behind country (take 2 (drop 2 s)) % 97 ≡ check → readDecimal (digits (moved s)) % 97 ≡ check
   number rest country check e₁ e₂ e₃ =
       ap (λ (n : ℕ). n % 97)
       (sym (behind-none (moved s)) ∙ ap (λ (t : List ℕ). behind 0 (drop 4 s ++ t)) (take-add 2 2 s) ∙ behind-append 0 (drop 4 s) (take 2 s ++ check-digits)

@@ -2,5 +2,4 @@ pub mod Answer
 pub mod Number
 pub mod Carry
 pub mod Iban
-pub mod Rows
 pub mod Cases

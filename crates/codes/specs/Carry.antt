@@ -7,13 +7,13 @@ use mathlib.Core.Bool.{cond}
 use mathlib.Core.List.{List}
 use lib.ListN.{length}
 use Rattle.codes.specs.Class.{allIn}
-use Rattle.codes.specs.Iban.{digits, decimal}
+use Rattle.codes.specs.Iban.{digits, readDecimal}
 use Rattle.codes.specs.declared.classes.Class.{Class}
 use Rattle.codes.specs.declared.remainder.Carried.{Carried}
 use Rattle.codes.specs.declared.remainder.Carried.the-variants.{Left, Wrong}
 
 abbrev pub behind : ℕ → List ℕ → ℕ
-behind n s = n * 10 ^ length (digits s) + decimal (digits s)
+behind n s = n * 10 ^ length (digits s) + readDecimal (digits s)
 
 abbrev pub carried : Class → List ℕ → ℕ → Carried
 carried class s n = cond (allIn class s) (Left (behind n s % 97)) Wrong
