@@ -1,5 +1,5 @@
 pub mod Answer
 pub mod Number
 pub mod Carry
-pub mod Iban
+pub mod Moved
 pub mod Cases

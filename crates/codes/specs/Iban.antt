@@ -3,6 +3,7 @@
 --     digitsOf     that number written in decimal, one digit or two
 --     digits       the digits of all characters, one after the other
 --     readDecimal  digits read as one number, the last counting ones
+--     remainder    what the number that characters spell leaves on division by 97
 --     moved        the first four characters put at the end
 -- Assumes nothing.
 use Prim.Native.Nat.{ℕ, _+_, _-_, _*_, _/_, _%_, _^_}
@@ -29,6 +30,9 @@ abbrev pub readDecimal : List ℕ → ℕ
 readDecimal [] = 0
 readDecimal (d ∷ ds) = d * 10 ^ length ds + readDecimal ds
 
+abbrev pub remainder : List ℕ → ℕ
+remainder s = readDecimal (digits s) % 97
+
 abbrev pub moved : List ℕ → List ℕ
 moved s = drop 4 s ++ take 4 s
 
@@ -41,4 +45,4 @@ isIban s =
     && allIn Capital (take 2 s)
     && allIn Digit (take 2 (drop 2 s))
     && allIn LetterOrDigit (drop 4 s)
-    && eqb (readDecimal (digits (moved s)) % 97) 1
+    && eqb (remainder (moved s)) 1
