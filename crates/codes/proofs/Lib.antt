@@ -2,4 +2,5 @@ pub mod Answer
 pub mod Number
 pub mod Carry
 pub mod Moved
+pub mod Whole
 pub mod Cases
