@@ -1,4 +1,6 @@
-/* An example of an IBAN for each country of the IBAN registry that is written down here, in the order of their codes. */
+/* An example of an IBAN for each of 89 countries, in the order of their codes. They were written down from memory, after
+ * the IBAN registry's one example for each country; no registry was at hand to compare. Each passes the check by three
+ * implementations and fails it with a changed check digit. */
 static const char *const registry[] = {
     "AD1200012030200359100100",
     "AE070331234567890123456",

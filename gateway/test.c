@@ -1,10 +1,15 @@
-/* Holds the three checks of zolfigar.h to an implementation of their rules that shares nothing with them, on a million
- * random inputs, and to the examples of the IBAN registry. Prints the counts, and exits with 1 at the first difference. */
+/* Holds the three checks of zolfigar.h to an implementation of their rules that shares nothing with them: on a million
+ * random inputs, and on codes and examples of the IBAN registry with every byte at every place. Each input lies up
+ * against a page that can't be read. Prints the counts, and exits with 1 at the first difference. */
+#define _DEFAULT_SOURCE
+
 #include "zolfigar.h"
 
 #include <stdio.h>
 #include <stdlib.h>
 #include <string.h>
+#include <sys/mman.h>
+#include <unistd.h>
 
 #include "registry.h"
 
@@ -161,6 +166,32 @@ struct check {
     long taken;
 };
 
+static struct check checks[3] = {
+    { "zolfigar_bic_ok", zolfigar_bic_ok, expected_bic, 0 },
+    { "zolfigar_iban_ok", zolfigar_iban_ok, expected_iban, 0 },
+    { "zolfigar_txid_ok", zolfigar_txid_ok, expected_txid, 0 },
+};
+
+static long comparisons;
+
+/* A page that can be read, between two that can't: a read outside of an input that lies at its edge ends the test. */
+static uint8_t *page;
+static size_t page_size;
+
+static int make_page(void)
+{
+    uint8_t *pages;
+
+    page_size = (size_t)sysconf(_SC_PAGESIZE);
+    if (page_size < LONGEST)
+        return 0;
+    pages = mmap(NULL, 3 * page_size, PROT_NONE, MAP_PRIVATE | MAP_ANONYMOUS, -1, 0);
+    if (pages == MAP_FAILED)
+        return 0;
+    page = pages + page_size;
+    return mprotect(page, page_size, PROT_READ | PROT_WRITE) == 0;
+}
+
 static void differ(const char *name, const uint8_t *s, size_t n, int found)
 {
     fprintf(stderr, "%s answered %d to %zu bytes:", name, found, n);
@@ -170,47 +201,92 @@ static void differ(const char *name, const uint8_t *s, size_t n, int found)
     exit(1);
 }
 
-int main(void)
+/* Asks all three checks about the n bytes at s: once where they end at the page's end, and once where they begin at its
+ * start; of no bytes the second is null. */
+static void compare(const uint8_t *s, size_t n)
 {
-    struct check checks[3] = {
-        { "zolfigar_bic_ok", zolfigar_bic_ok, expected_bic, 0 },
-        { "zolfigar_iban_ok", zolfigar_iban_ok, expected_iban, 0 },
-        { "zolfigar_txid_ok", zolfigar_txid_ok, expected_txid, 0 },
-    };
-    size_t examples = sizeof registry / sizeof registry[0];
+    uint8_t *places[2] = { page + page_size - n, n == 0 ? NULL : page };
 
-    for (long i = 0; i < INPUTS; i++) {
-        uint8_t room[LONGEST];
-        size_t n = next_input(room);
-        /* A block of exactly n bytes, so that a tool that watches memory sees a read past its end; of none, null. */
-        uint8_t *s = n == 0 ? NULL : malloc(n);
-        if (n != 0 && s == NULL)
-            return 2;
+    for (int p = 0; p < 2; p++) {
         if (n != 0)
-            memcpy(s, room, n);
+            memcpy(places[p], s, n);
         for (int k = 0; k < 3; k++) {
-            int found = checks[k].found(s, n);
+            int found = checks[k].found(places[p], n);
             if (found != checks[k].expected(s, n))
                 differ(checks[k].name, s, n, found);
-            checks[k].taken += found;
+            checks[k].taken += p == 0 ? found : 0;
+            comparisons++;
         }
-        free(s);
     }
+}
 
+/* Every byte value at every place of a code. */
+static void compare_changed(const char *code)
+{
+    uint8_t s[LONGEST];
+    size_t n = strlen(code);
+
+    memcpy(s, code, n);
+    for (size_t i = 0; i < n; i++) {
+        uint8_t kept = s[i];
+        for (int c = 0; c < 256; c++) {
+            s[i] = (uint8_t)c;
+            compare(s, n);
+        }
+        s[i] = kept;
+    }
+}
+
+/* The example is an IBAN; with one check digit changed it is none. */
+static void compare_example(const char *example)
+{
+    uint8_t s[LONGEST];
+    size_t n = strlen(example);
+
+    memcpy(s, example, n);
+    compare(s, n);
+    if (zolfigar_iban_ok(s, n) != 1)
+        differ("zolfigar_iban_ok", s, n, 0);
+    s[3] = s[3] == '9' ? '0' : (uint8_t)(s[3] + 1);
+    compare(s, n);
+    if (zolfigar_iban_ok(s, n) != 0)
+        differ("zolfigar_iban_ok", s, n, 1);
+}
+
+/* Codes of each kind; the shortest and the longest among them. */
+static const char *const codes[] = {
+    "AAAALV22XXX",
+    "LV31A",
+    "LV80BANK0000435195001",
+    "LV80bank0000435195001",
+    "LV70BANK01234567890123456789ABCDEF",
+    "x",
+    "AZaz09/-?:().,'+ABCDEFGHIJKLMNOPQRS",
+};
+
+int main(void)
+{
+    size_t changed = sizeof codes / sizeof codes[0];
+    size_t examples = sizeof registry / sizeof registry[0];
+
+    if (!make_page()) {
+        fprintf(stderr, "gateway: no page to put the inputs on\n");
+        return 2;
+    }
+    compare(NULL, 0);
+    for (long i = 0; i < INPUTS; i++) {
+        uint8_t s[LONGEST];
+        compare(s, next_input(s));
+    }
+    printf("gateway: %d random inputs, %ld BICs, %ld IBANs, %ld TxIds among them\n", INPUTS, checks[0].taken,
+           checks[1].taken, checks[2].taken);
+    for (size_t i = 0; i < changed; i++)
+        compare_changed(codes[i]);
     for (size_t i = 0; i < examples; i++) {
-        const uint8_t *s = (const uint8_t *)registry[i];
-        size_t n = strlen(registry[i]);
-        uint8_t damaged[LONGEST];
-        if (zolfigar_iban_ok(s, n) != 1)
-            differ("zolfigar_iban_ok", s, n, 0);
-        /* One check digit changed: no IBAN any more. */
-        memcpy(damaged, s, n);
-        damaged[3] = damaged[3] == '9' ? '0' : (uint8_t)(damaged[3] + 1);
-        if (zolfigar_iban_ok(damaged, n) != 0)
-            differ("zolfigar_iban_ok", damaged, n, 1);
+        compare_example(registry[i]);
+        compare_changed(registry[i]);
     }
-
-    printf("gateway: %d inputs alike (%ld BICs, %ld IBANs, %ld TxIds among them), %zu registry examples taken\n", INPUTS,
-           checks[0].taken, checks[1].taken, checks[2].taken, examples);
+    printf("gateway: every byte at every place of %zu codes and of %zu registry examples\n", changed, examples);
+    printf("gateway: %ld comparisons, all alike\n", comparisons);
     return 0;
 }

@@ -13,8 +13,7 @@ use mathlib.Core.List.{List, [], _∷_, _++_, map}
 use borrow.Author.Tests.{not-true}
 use lib.ListN.{length, replicate}
 use Rattle.codes.specs.Answer.{answer}
-use Rattle.codes.specs.Text.{text}
-use Rattle.fields.specs.Text.{same}
+use Rattle.fields.specs.Text.{text, same}
 use Rattle.fields.proofs.Tests.{and-left, and-right}
 use Rattle.fields.proofs.Same.{same-true}
 use Rattle.report.specs.Layout.{reportsBytes}

@@ -1,12 +1,23 @@
 -- Worked cases of BIC, IBAN and TxId, as rows: the two that 01 marks, and the edges of each definition. Assumes nothing.
 use mathlib.Core.Path.{refl}
+use mathlib.Core.Bool.{Bool}
 use mathlib.Core.List.{List, [], _∷_, _++_}
-use Rattle.codes.specs.Text.{text}
+use Prim.Native.Nat.{ℕ}
+use Prim.Native.String.{String}
+use Rattle.fields.specs.Text.{text}
+use Rattle.codes.specs.Answer.{answer}
 use Rattle.codes.specs.Bic.{isBic}
 use Rattle.codes.specs.Iban.{isIban}
 use Rattle.codes.specs.Txid.{isTxid}
-use Rattle.codes.specs.Rows.{Row, AllMet, taken, turned}
-use Rattle.codes.proofs.Rows.{all-met}
+use Rattle.fields.proofs.Rows.{Row, AllMet, all-met}
+
+-- a row of a check that answers the one byte 1
+abbrev pub taken : String → (List ℕ → Bool) → List ℕ → Row
+taken name check s = record { shows = name; rule = λ t. answer (check t) ∷ []; given = s; due = 1 ∷ [] }
+
+-- a row of a check that answers the one byte 0
+abbrev pub turned : String → (List ℕ → Bool) → List ℕ → Row
+turned name check s = record { shows = name; rule = λ t. answer (check t) ∷ []; given = s; due = 0 ∷ [] }
 
 -- 01 'At the edges': IBAN above valid*, with LV81 no IBAN*
 abbrev pub marked : List Row

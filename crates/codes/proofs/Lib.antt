@@ -1,6 +1,6 @@
 pub mod Answer
 pub mod Number
 pub mod Carry
-pub mod Iban
-pub mod Rows
+pub mod Moved
+pub mod Whole
 pub mod Cases

@@ -8,29 +8,29 @@ use native.Mathlib.Omega.{arith}
 use borrow.Author.Tests.{lt-ltb, le-ltb}
 use lib.Pow.{pow-add}
 use lib.ListN.{length, length-append}
-use Rattle.codes.specs.Iban.{value, digitsOf, digits, decimal}
+use Rattle.codes.specs.Iban.{value, digitsOf, digits, readDecimal}
 use Rattle.codes.specs.Carry.{behind}
 
 digits-append : (s t : List ℕ) → digits (s ++ t) ≡ digits s ++ digits t
 digits-append [] t = refl
 digits-append (c ∷ s) t = ap (λ (ds : List ℕ). digitsOf c ++ ds) (digits-append s t) ∙ sym (append-assoc (digitsOf c) (digits s) (digits t))
 
-decimal-append : (a b : List ℕ) → decimal (a ++ b) ≡ decimal a * 10 ^ length b + decimal b
-decimal-append [] b = sym (ap (λ (n : ℕ). n + decimal b) (zero-mul (10 ^ length b)) ∙ zero-add (decimal b))
-decimal-append (d ∷ a) b = simp (decimal-append a b, length-append a b, pow-add, add-mul, mul-assoc, add-assoc)
+readDecimal-append : (a b : List ℕ) → readDecimal (a ++ b) ≡ readDecimal a * 10 ^ length b + readDecimal b
+readDecimal-append [] b = sym (ap (λ (n : ℕ). n + readDecimal b) (zero-mul (10 ^ length b)) ∙ zero-add (readDecimal b))
+readDecimal-append (d ∷ a) b = simp (readDecimal-append a b, length-append a b, pow-add, add-mul, mul-assoc, add-assoc)
 
 -- the number n with the digits ds written behind it
 abbrev then : ℕ → List ℕ → ℕ
-then n ds = n * 10 ^ length ds + decimal ds
+then n ds = n * 10 ^ length ds + readDecimal ds
 
 then-append : (n : ℕ) (a b : List ℕ) → then n (a ++ b) ≡ then (then n a) b
-then-append n a b = simp (decimal-append, length-append, pow-add, add-mul, mul-assoc, add-assoc)
+then-append n a b = simp (readDecimal-append, length-append, pow-add, add-mul, mul-assoc, add-assoc)
 
 -- behind n, first s and then t
 pub behind-append : (n : ℕ) (s t : List ℕ) → behind n (s ++ t) ≡ behind (behind n s) t
 behind-append n s t = ap (then n) (digits-append s t) ∙ then-append n (digits s) (digits t)
 
-pub behind-none : (s : List ℕ) → behind 0 s ≡ decimal (digits s)
+pub behind-none : (s : List ℕ) → behind 0 s ≡ readDecimal (digits s)
 behind-none s = simp (zero-mul, zero-add)
 
 mod-scaled : (n m p d : ℕ) → (n % m * p + d) % m ≡ (n * p + d) % m
@@ -44,7 +44,7 @@ mod-scaled n m p d = sym (ap (λ (x : ℕ). x % m) split ∙ mul-add-mod-self-ri
 
 -- a remainder serves for the number
 pub behind-mod : (n : ℕ) (s : List ℕ) → behind (n % 97) s % 97 ≡ behind n s % 97
-behind-mod n s = mod-scaled n 97 (10 ^ length (digits s)) (decimal (digits s))
+behind-mod n s = mod-scaled n 97 (10 ^ length (digits s)) (readDecimal (digits s))
 
 one-digit : (v : ℕ) → v < 10 → cond (lib.Dec.ltb v 10) (v ∷ []) (v / 10 ∷ v % 10 ∷ []) ≡ v ∷ []
 one-digit v h = rw (lt-ltb v 10 h)

@@ -1,19 +1,10 @@
--- What the IBAN check carries from one part of the characters to the next: the remainder by 97.
+-- How the remainder of an IBAN's number is taken: character by character, each written behind what is left so far.
 --     behind     the number n with the characters of s written behind it
---     carried    its remainder, or that a character of s is not of the class
 -- Assumes nothing.
-use Prim.Native.Nat.{ℕ, _+_, _*_, _%_, _^_}
-use mathlib.Core.Bool.{cond}
+use Prim.Native.Nat.{ℕ, _+_, _*_, _^_}
 use mathlib.Core.List.{List}
 use lib.ListN.{length}
-use Rattle.codes.specs.Class.{allIn}
-use Rattle.codes.specs.Iban.{digits, decimal}
-use Rattle.codes.specs.declared.classes.Class.{Class}
-use Rattle.codes.specs.declared.remainder.Carried.{Carried}
-use Rattle.codes.specs.declared.remainder.Carried.the-variants.{Left, Wrong}
+use Rattle.codes.specs.Iban.{digits, readDecimal}
 
 abbrev pub behind : ℕ → List ℕ → ℕ
-behind n s = n * 10 ^ length (digits s) + decimal (digits s)
-
-abbrev pub carried : Class → List ℕ → ℕ → Carried
-carried class s n = cond (allIn class s) (Left (behind n s % 97)) Wrong
+behind n s = n * 10 ^ length (digits s) + readDecimal (digits s)

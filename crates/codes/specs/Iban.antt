@@ -1,9 +1,10 @@
 -- What an IBAN is.
---     value      what a character counts for: 0 to 9, and 10 to 35 for a letter of either case; 0 for any other byte
---     digitsOf   that number written in decimal, one digit or two
---     digits     the digits of all characters, one after the other
---     decimal    digits read as one number, the last counting ones
---     moved      the first four characters put at the end
+--     value        what a character counts for: 0 to 9, and 10 to 35 for a letter of either case; 0 for any other byte
+--     digitsOf     that number written in decimal, one digit or two
+--     digits       the digits of all characters, one after the other
+--     readDecimal  digits read as one number, the last counting ones
+--     remainder    what the number that characters spell leaves on division by 97
+--     moved        the first four characters put at the end
 -- Assumes nothing.
 use Prim.Native.Nat.{ℕ, _+_, _-_, _*_, _/_, _%_, _^_}
 use Prim.Native.Char.{code}
@@ -25,9 +26,12 @@ abbrev pub digits : List ℕ → List ℕ
 digits [] = []
 digits (c ∷ s) = digitsOf c ++ digits s
 
-abbrev pub decimal : List ℕ → ℕ
-decimal [] = 0
-decimal (d ∷ ds) = d * 10 ^ length ds + decimal ds
+abbrev pub readDecimal : List ℕ → ℕ
+readDecimal [] = 0
+readDecimal (d ∷ ds) = d * 10 ^ length ds + readDecimal ds
+
+abbrev pub remainder : List ℕ → ℕ
+remainder s = readDecimal (digits s) % 97
 
 abbrev pub moved : List ℕ → List ℕ
 moved s = drop 4 s ++ take 4 s
@@ -41,4 +45,4 @@ isIban s =
     && allIn Capital (take 2 s)
     && allIn Digit (take 2 (drop 2 s))
     && allIn LetterOrDigit (drop 4 s)
-    && eqb (decimal (digits (moved s)) % 97) 1
+    && eqb (remainder (moved s)) 1

@@ -1,8 +1,6 @@
-pub mod Text
 pub mod Answer
 pub mod Class
 pub mod Bic
 pub mod Iban
 pub mod Txid
 pub mod Carry
-pub mod Rows

@@ -4,7 +4,6 @@ mod classes;
 mod remainder;
 
 use classes::Class;
-use remainder::Carried;
 ghost use mathlib.Core.Path.{_≡_};
 ghost use Rattle.codes.specs.Answer.{answer};
 ghost use Rattle.codes.specs.Bic.{isBic};
@@ -35,16 +34,11 @@ pub extern "C" fn zolfigar_iban_ok(s: &[u8]) -> u8
     if 34 < s.len() {
         return 0;
     }
-    let Carried::Left(rest) = remainder::carry(Class::LetterOrDigit, &s[4..], 0) else {
-        return 0;
-    };
-    let Carried::Left(country) = remainder::carry(Class::Capital, &s[0..2], rest) else {
-        return 0;
-    };
-    let Carried::Left(check) = remainder::carry(Class::Digit, &s[2..4], country) else {
-        return 0;
-    };
-    (check == 1) as u8
+    let country = classes::all_in(Class::Capital, &s[0..2]);
+    let check = classes::all_in(Class::Digit, &s[2..4]);
+    let rest = classes::all_in(Class::LetterOrDigit, &s[4..]);
+    let left = remainder::of_moved(s);
+    (country & check & rest & (left == 1)) as u8
 }
 
 #[no_mangle]

@@ -1,17 +1,12 @@
-// The remainder by 97 of the number that characters spell, carried from one character to the next.
+// The remainder by 97 of the number that an IBAN's moved characters spell, carried from one character to the next.
 use super::classes;
 use super::classes::Class;
 ghost use mathlib.Core.Path.{_≡_};
 ghost use mathlib.Core.List.{_∷_, []};
-ghost use Prim.Native.Nat.{_%_};
-ghost use Rattle.codes.specs.Iban.{value};
-ghost use Rattle.codes.specs.Carry.{behind, carried};
-
-// What is left by 97, or that a character is not of the class asked.
-pub enum Carried {
-    Left(u8),
-    Wrong,
-}
+ghost use Prim.Native.Nat.{_%_, _<_};
+ghost use lib.ListN.{length, getD};
+ghost use Rattle.codes.specs.Iban.{value, moved, remainder};
+ghost use Rattle.codes.specs.Carry.{behind};
 
 fn value(c: u8) -> u8
     ensures { λ r. ⌜ r ≡ value c ⌝ }
@@ -40,18 +35,27 @@ fn step(left: u8, c: u8) -> u8
     }
 }
 
-pub fn carry(class: Class, s: &[u8], from: u8) -> Carried
-    ensures { λ r. ⌜ r ≡ carried class (now (s .entry)) from ⌝ }
+// The character at place i of the moved ones. Of fewer than four, none is moved.
+fn moved_at(s: &[u8], i: usize) -> u8
+    requires { ⌜ i < length (now s) ⌝ }
+    ensures { λ r. ⌜ r ≡ getD (moved (now (s .entry))) i 0 ⌝ }
 {
-    let mut left = from % 97;
+    if s.len() < 4 {
+        return s[i];
+    }
+    let others = s.len() - 4;
+    if i < others { s[i + 4] } else { s[i - others] }
+}
+
+// One pass over the moved characters of s. Any bytes and any length are taken.
+pub fn of_moved(s: &[u8]) -> u8
+    ensures { λ r. ⌜ r ≡ remainder (moved (now (s .entry))) ⌝ }
+{
+    let mut left = 0;
     let mut i = 0;
     while i < s.len() {
-        let c = s[i];
-        if !classes::is_in(class, c) {
-            return Carried::Wrong;
-        }
-        left = step(left, c);
+        left = step(left, moved_at(s, i));
         i += 1;
     }
-    Carried::Left(left)
+    left
 }

@@ -1,14 +1,15 @@
--- The length of a padded field's value, by its bytes from the front. Assumes nothing.
-use mathlib.Core.Path.{_≡_, refl, sym, _∙_, ap}
+-- The length of a padded field's value, by its bytes from the front; and that padding changes no value. Assumes nothing.
+use mathlib.Core.Path.{_≡_, refl, sym, _∙_, ap, ap₂}
 use mathlib.Core.Bool.{Bool, true, false, _&&_, cond, and-true, and-false, and-assoc}
 use mathlib.Core.List.{List, [], _∷_, _++_}
-use Prim.Native.Nat.{ℕ, suc, _+_, _<_}
+use Prim.Native.Nat.{ℕ, zero, suc, _+_, _-_, _≤_, _<_}
+use native.Mathlib.Nat.{le-of-eq}
 use native.Mathlib.Numerals.{add-one}
 use native.Mathlib.Omega.{arith}
 use lib.Dec.{eqb, eqb·suc-zero}
-use lib.ListN.{length, getD, take}
-use lib.Seq.{take-suc, length-take-le}
-use Rattle.fields.specs.Text.{blank, valueLength}
+use lib.ListN.{length, getD, take, replicate, length-append, length-replicate}
+use lib.Seq.{take-suc, take-all, take-length, take-append-le, length-take-le}
+use Rattle.fields.specs.Text.{blank, valueLength, unpadded, padded}
 
 blank-snoc : (s : List ℕ) (c : ℕ) → blank (s ++ (c ∷ [])) ≡ (blank s && eqb c 0)
 blank-snoc [] c = and-true (eqb c 0)
@@ -40,3 +41,45 @@ blank-length (x ∷ s) = go (eqb x 0 && blank s)
     go : (b : Bool) → eqb (cond b 0 (suc (valueLength s))) 0 ≡ b
     go true = refl
     go false = eqb·suc-zero (valueLength s)
+
+-- a field whose last byte is not zero is its value
+pub whole : (s : List ℕ) (i : ℕ) → i + 1 ≡ length s → eqb (getD s i 0) 0 ≡ false → unpadded s ≡ s
+whole s i e h = take-all (valueLength s) s (le-of-eq (sym long))
+  where
+    long : valueLength s ≡ length s
+    long =
+        ap valueLength (sym (ap (λ (k : ℕ). take k s) e ∙ take-length s))
+        ∙ length-more s i (omega arith)
+        ∙ ap (λ (b : Bool). cond b (valueLength (take i s)) (i + 1)) h
+        ∙ e
+
+pub length-value : (s : List ℕ) → valueLength s ≤ length s
+length-value [] = omega arith
+length-value (x ∷ s) = go (eqb x 0 && blank s) (length-value s)
+  where
+    go : (b : Bool) → valueLength s ≤ length s → cond b 0 (suc (valueLength s)) ≤ suc (length s)
+    go true h = omega arith
+    go false h = omega arith
+
+-- zero bytes behind a field
+blank-zeros : (n : ℕ) → blank (replicate n 0) ≡ true
+blank-zeros zero = refl
+blank-zeros (suc n) = blank-zeros n
+
+blank-behind : (s : List ℕ) (n : ℕ) → blank (s ++ replicate n 0) ≡ blank s
+blank-behind [] n = blank-zeros n
+blank-behind (x ∷ s) n = ap (λ (b : Bool). eqb x 0 && b) (blank-behind s n)
+
+length-behind : (s : List ℕ) (n : ℕ) → valueLength (s ++ replicate n 0) ≡ valueLength s
+length-behind [] zero = refl
+length-behind [] (suc n) = rw (blank-zeros n)
+length-behind (x ∷ s) n = ap₂ (λ (b : Bool) (k : ℕ). cond (eqb x 0 && b) 0 (suc k)) (blank-behind s n) (length-behind s n)
+
+-- what is padded has the value that it had
+pub unpadded-padded : (w : ℕ) (s : List ℕ) → unpadded (padded w s) ≡ unpadded s
+unpadded-padded w s =
+    let zeros : List ℕ = replicate (w - length s) 0 in
+    ap (λ (k : ℕ). take k (s ++ zeros)) (length-behind s (w - length s)) ∙ take-append-le (valueLength s) s zeros (length-value s)
+
+pub length-padded : (w : ℕ) (s : List ℕ) → length s ≤ w → length (padded w s) ≡ w
+length-padded w s h = omega (arith, length-append s (replicate (w - length s) 0), length-replicate {A = ℕ} (w - length s) 0)

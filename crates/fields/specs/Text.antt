@@ -1,4 +1,5 @@
--- Fields of bytes: padding with zero bytes, and the same bytes.
+-- Fields of bytes: quoted text as bytes, padding with zero bytes, and the same bytes.
+--     text          a quoted text as bytes, so that what stands in the paper can be written as it stands there
 --     valueLength   how many bytes stand before the trailing zeros
 --     unpadded      those bytes: the value of a field that is padded with zero bytes
 --     padded        bytes with zero bytes behind them, w in all
@@ -6,10 +7,16 @@
 --     same          two lists hold the same bytes
 -- Assumes nothing.
 use Prim.Native.Nat.{ℕ, suc, _-_}
+use Prim.Native.Char.{code}
+use Prim.Native.String.{String, [] as end, _∷_ as then}
 use mathlib.Core.Bool.{Bool, true, false, _&&_, cond}
 use mathlib.Core.List.{List, [], _∷_, _++_}
 use lib.Dec.{eqb}
 use lib.ListN.{length, take, replicate}
+
+abbrev pub text : String → List ℕ
+text end = []
+text (then c s) = code c ∷ text s
 
 abbrev pub blank : List ℕ → Bool
 blank [] = true

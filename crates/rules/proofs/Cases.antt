@@ -4,12 +4,11 @@ use mathlib.Core.Path.{refl}
 use mathlib.Core.List.{List, [], _∷_, _++_}
 use Prim.Native.Nat.{ℕ}
 use Prim.Native.String.{String}
-use Rattle.codes.specs.Text.{text}
-use Rattle.codes.specs.Rows.{Row, AllMet}
+use Rattle.fields.specs.Text.{text}
+use Rattle.fields.proofs.Rows.{Row, AllMet, all-met}
 use Rattle.codes.specs.Bic.{isBic}
 use Rattle.codes.specs.Iban.{isIban}
 use Rattle.codes.specs.Txid.{isTxid}
-use Rattle.codes.proofs.Rows.{all-met}
 use Rattle.codes.proofs.Cases
 use Rattle.ticket.specs.Reading.{reading}
 use Rattle.dayfile.specs.DayFile.{dayFile}

@@ -1,14 +1,10 @@
 -- Day files written down: participants, routes and tickets as bytes, so that cases read as on paper. Assumes nothing.
-use Prim.Native.Nat.{ℕ, _+_, _-_, _*_}
+use Prim.Native.Nat.{ℕ, _+_, _*_}
 use Prim.Native.String.{String}
 use mathlib.Core.List.{List, [], _∷_, _++_}
-use lib.ListN.{length, replicate}
-use Rattle.codes.specs.Text.{text}
+use lib.ListN.{length}
+use Rattle.fields.specs.Text.{text, padded}
 use Rattle.fields.specs.Number.{bytesOf}
-
--- bytes with zeros behind them, w in all
-abbrev pub padded : ℕ → List ℕ → List ℕ
-padded w s = s ++ replicate (w - length s) 0
 
 abbrev pub joined : List (List ℕ) → List ℕ
 joined [] = []

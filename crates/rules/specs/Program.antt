@@ -7,7 +7,7 @@ use mathlib.Core.Bool.{cond}
 use mathlib.Core.List.{List, [], _∷_, _++_}
 use lib.Dec.{ltb, eqb}
 use lib.ListN.{length}
-use Rattle.codes.specs.Text.{text}
+use Rattle.fields.specs.Text.{text}
 use Rattle.report.specs.declared.Report.{Report}
 use Rattle.dayfile.specs.DayFile.{dayFile, ticketAt}
 use Rattle.dayfile.specs.declared.DayFile.{DayFile}

@@ -13,9 +13,6 @@ use Rattle.codes.specs.declared.classes.Class.{Class}
 use Rattle.fields.proofs.Reading.{left-from}
 use Rattle.codes.proofs.classes.all_in.Statement.{statement}
 use Rattle.codes.proofs.classes.all_in.Tie as tie
-use Rattle.codes.proofs.classes.all_in.Reads as reads
-use Rattle.codes.proofs.classes.all_in.Lts as lts
-use Rattle.codes.proofs.classes.is_in.Reads as is-in-reads
 
 abbrev Inv-loop : tie.InvT-loop
 Inv-loop class s i₀ i = (i ≤ length s) × (allIn class s ≡ allIn class (drop i s))

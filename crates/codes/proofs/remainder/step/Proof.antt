@@ -6,9 +6,6 @@ use borrow.Author.Needs.{needs}
 use Rattle.codes.proofs.Number.{behind-digit, behind-letter}
 use Rattle.codes.proofs.remainder.step.Statement.{statement}
 use Rattle.codes.proofs.remainder.step.Tie as tie
-use Rattle.codes.proofs.remainder.step.Reads as reads
-use Rattle.codes.proofs.remainder.step.Lts as lts
-use Rattle.codes.proofs.remainder.value.Reads as value-reads
 
 pub step-spec : {M : Type 1} → statement M
 step-spec =
