@@ -3,3 +3,4 @@ pub mod Sums
 pub mod Orders
 pub mod Claim
 pub mod Run
+pub mod Demand3

@@ -1,8 +1,10 @@
--- The eight sums of the cover equation, for participant p: 01 'Demand 3, word by word'.
---     coverIns, coverOuts              the amounts of the accepted tickets of kinds 1 and 2 that the participant sends
---     debits, credits                  the amounts of the accepted confirms that it sends
---     settledTo, settledFrom           each accepted yes, with the amount of its first report 2
---     returnsBy, returnsTo             each accepted return, with its own amount
+-- The cover equation: what each event takes out of a participant's cover and brings in, four terms each, and their sums: 01 'Demand 3,
+-- word by word'.
+--     coverIn, coverOut          the amount of an accepted ticket of kind 1 or 2 that the participant sends
+--     debit, credit              the amount of an accepted confirm that it sends
+--     settledTo, settledFrom     an accepted yes, with the amount of its first report 2
+--     returnBy, returnTo         an accepted return, with its own amount
+--     outgoing, incoming         what has gone out, and what has come in
 -- Assumes nothing.
 use Prim.Native.Nat.{ℕ, _+_}
 use mathlib.Core.Bool.{Bool, true, false, _&&_, _||_, cond}
@@ -10,21 +12,16 @@ use mathlib.Core.List.{List, [], _∷_}
 use lib.Dec.{eqb}
 use Rattle.ticket.specs.Layout.{amountOf}
 use Rattle.report.specs.declared.Report.{Report}
-use Rattle.audit.specs.History.{Seen, History, reports, isKind, isYes, isSentBy}
+use Rattle.audit.specs.History.{Event, History, sumOver, isKind, isYes, isSentBy}
 
--- a sum over the entries, each with what was before it
-abbrev pub sumOver : (Seen → History → ℕ) → History → ℕ
-sumOver f [] = 0
-sumOver f (s ∷ before) = f s before + sumOver f before
+abbrev pub amountIf : Bool → Event → ℕ
+amountIf counts e = cond counts (amountOf (e .ticket)) 0
 
-abbrev pub amountIf : Bool → Seen → ℕ
-amountIf counts s = cond counts (amountOf (s .ticket)) 0
+abbrev pub coverIn : List ℕ → ℕ → Event → ℕ
+coverIn file p e = amountIf (isKind 1 e && isSentBy file p e) e
 
-abbrev pub coverIns : List ℕ → ℕ → History → ℕ
-coverIns file p h = sumOver (λ s before. amountIf (isKind 1 s && isSentBy file p s) s) h
-
-abbrev pub coverOuts : List ℕ → ℕ → History → ℕ
-coverOuts file p h = sumOver (λ s before. amountIf (isKind 2 s && isSentBy file p s) s) h
+abbrev pub coverOut : List ℕ → ℕ → Event → ℕ
+coverOut file p e = amountIf (isKind 2 e && isSentBy file p e) e
 
 -- the code of the last of these reports that is a 10 or 11 to p; else what was told before
 abbrev pub lastCutIn : ℕ → ℕ → List Report → ℕ
@@ -34,43 +31,55 @@ lastCutIn p told (r ∷ rs) = lastCutIn p (cond (eqb (r .to) p && (eqb (r .code)
 -- the last report 10 or 11 to p, 0 if there was none
 abbrev pub lastCut : ℕ → History → ℕ
 lastCut p [] = 0
-lastCut p (s ∷ before) = lastCutIn p (lastCut p before) (reports s)
+lastCut p (e ∷ before) = lastCutIn p (lastCut p before) (e .reports)
 
 -- a debit if the last report 10 or 11 to it before was 10
-abbrev pub debits : List ℕ → ℕ → History → ℕ
-debits file p h = sumOver (λ s before. amountIf (isKind 10 s && isSentBy file p s && eqb (lastCut p before) 10) s) h
+abbrev pub debit : List ℕ → ℕ → Event → History → ℕ
+debit file p e before = amountIf (isKind 10 e && isSentBy file p e && eqb (lastCut p before) 10) e
 
 -- a credit if 11
-abbrev pub credits : List ℕ → ℕ → History → ℕ
-credits file p h = sumOver (λ s before. amountIf (isKind 10 s && isSentBy file p s && eqb (lastCut p before) 11) s) h
+abbrev pub credit : List ℕ → ℕ → Event → History → ℕ
+credit file p e before = amountIf (isKind 10 e && isSentBy file p e && eqb (lastCut p before) 11) e
 
 -- the first report with a code, if there is one
 abbrev pub firstWith : ℕ → List Report → List Report
 firstWith code [] = []
 firstWith code (r ∷ rs) = cond (eqb (r .code) code) (r ∷ []) (firstWith code rs)
 
--- its amount, if it counts
-abbrev pub reportAmount : (Report → Bool) → List Report → ℕ
-reportAmount counts [] = 0
-reportAmount counts (r ∷ rs) = cond (counts r) (r .amount) 0
+-- its amount
+abbrev pub amountIn : List Report → ℕ
+amountIn [] = 0
+amountIn (r ∷ rs) = r .amount
 
--- to the ticket's sender
-abbrev pub settledTo : List ℕ → ℕ → History → ℕ
-settledTo file p h = sumOver (λ s before. cond (isYes s && isSentBy file p s) (reportAmount (λ r. true) (firstWith 2 (reports s))) 0) h
-
--- from the one to whom that report goes
-abbrev pub settledFrom : ℕ → History → ℕ
-settledFrom p h = sumOver (λ s before. cond (isYes s) (reportAmount (λ r. eqb (r .to) p) (firstWith 2 (reports s))) 0) h
-
--- by its sender
-abbrev pub returnsBy : List ℕ → ℕ → History → ℕ
-returnsBy file p h = sumOver (λ s before. amountIf (isKind 6 s && isSentBy file p s) s) h
-
--- whether a first report goes to p
+-- whether it goes to p
 abbrev pub goesTo : ℕ → List Report → Bool
 goesTo p [] = false
 goesTo p (r ∷ rs) = eqb (r .to) p
 
+-- to the ticket's sender
+abbrev pub settledTo : List ℕ → ℕ → Event → ℕ
+settledTo file p e = cond (isYes e && isSentBy file p e) (amountIn (firstWith 2 (e .reports))) 0
+
+-- from the one to whom that report goes
+abbrev pub settledFrom : ℕ → Event → ℕ
+settledFrom p e = cond (isYes e && goesTo p (firstWith 2 (e .reports))) (amountIn (firstWith 2 (e .reports))) 0
+
+-- by its sender
+abbrev pub returnBy : List ℕ → ℕ → Event → ℕ
+returnBy file p e = amountIf (isKind 6 e && isSentBy file p e) e
+
 -- to the one to whom its report 6 goes
-abbrev pub returnsTo : ℕ → History → ℕ
-returnsTo p h = sumOver (λ s before. amountIf (isKind 6 s && goesTo p (firstWith 6 (reports s))) s) h
+abbrev pub returnTo : ℕ → Event → ℕ
+returnTo p e = amountIf (isKind 6 e && goesTo p (firstWith 6 (e .reports))) e
+
+abbrev pub goesOut : List ℕ → ℕ → Event → History → ℕ
+goesOut file p e before = coverOut file p e + credit file p e before + settledFrom p e + returnBy file p e
+
+abbrev pub comesIn : List ℕ → ℕ → Event → History → ℕ
+comesIn file p e before = coverIn file p e + debit file p e before + settledTo file p e + returnTo p e
+
+abbrev pub outgoing : List ℕ → ℕ → History → ℕ
+outgoing file p h = sumOver (goesOut file p) h
+
+abbrev pub incoming : List ℕ → ℕ → History → ℕ
+incoming file p h = sumOver (comesIn file p) h
