@@ -14,6 +14,7 @@ use mathlib.Core.List.{List, [], _∷_, _++_}
 use lib.Dec.{leb, ltb, eqb}
 use Rattle.fields.specs.Text.{same}
 use Rattle.ticket.specs.Layout.{timeOf, amountOf, txidOf}
+use Rattle.report.specs.Ending.{endingsIn}
 use Rattle.report.specs.declared.Report.{Report}
 use Rattle.audit.specs.History.{Seen, History, reports, isKind, isSentBy, isBank}
 use Rattle.audit.specs.Sums.{sumOver, firstWith, amountIf}
@@ -49,13 +50,6 @@ toBank file (r ∷ rs) = isBank file (r .to)
 
 abbrev pub isForBank : List ℕ → ℕ → History → Bool
 isForBank file i h = ofOrder false i (λ s. toBank file (firstWith 1 (reports s))) h
-
-abbrev pub isEnding : ℕ → Report → Bool
-isEnding i r = eqb (r .order) i && (eqb (r .code) 2 || eqb (r .code) 3 || eqb (r .code) 4)
-
-abbrev pub endingsIn : ℕ → List Report → List Report
-endingsIn i [] = []
-endingsIn i (r ∷ rs) = cond (isEnding i r) (r ∷ []) [] ++ endingsIn i rs
 
 abbrev pub endings : ℕ → Seen → List Report
 endings i s = endingsIn i (reports s)
