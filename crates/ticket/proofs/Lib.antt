@@ -1,2 +1,4 @@
 pub mod Laws
+pub mod KindBytes
 pub mod Telling
+pub mod Refusals

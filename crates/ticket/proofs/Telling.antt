@@ -10,7 +10,7 @@ use lib.ListN.{length}
 use Rattle.codes.specs.Txid.{isTxid}
 use Rattle.fields.proofs.Tests.{and-left, and-right}
 use Rattle.ticket.specs.Layout as layout
-use Rattle.ticket.specs.Kind.{kinded}
+use Rattle.ticket.specs.Kind.{kindNumber, flagLow, flagHigh, kinded}
 use Rattle.ticket.specs.Form.{formOf}
 use Rattle.ticket.specs.Shape.{bicIfListed, txidIfListed, blankUnlessListed, wellFormed, shapeAs, shapeOf, accountOf}
 use Rattle.ticket.specs.Amount.{statedIn, limitOf}
@@ -29,6 +29,7 @@ use Rattle.ticket.specs.declared.amounts.Stated.{Stated}
 use Rattle.ticket.specs.declared.amounts.Stated.the-variants.{Amount, Zero}
 use Rattle.ticket.specs.declared.amounts.Limit.{Limit}
 use Rattle.ticket.specs.declared.amounts.Limit.the-variants.{Within, Above}
+use Rattle.ticket.proofs.KindBytes.{KindBytes, kinded-tells}
 use Rattle.ticket.proofs.Laws.{formed-length, read-malformed, read-formed, read-named, read-stated}
 
 pub record Tells (t : List ℕ) (f : Fields) : Type 0 where
@@ -139,3 +140,20 @@ listed-txid t f tells listed = rw listed at (and-right before (txidIfListed (for
         (before && txidIfListed (formOf (f .kind) .txid) (layout.txidField t) && blankUnlessListed (formOf (f .kind) .iban) (layout.ibanField t))
         (blankUnlessListed false (layout.lastField t))
         (tells .formed))
+
+-- its kind and flag bytes are those of its kind
+pub tells-bytes : (t : List ℕ) (f : Fields) → Tells t f → KindBytes (f .kind) (layout.kindByte t) (layout.flagByte t)
+tells-bytes t f tells = kinded-tells (layout.kindByte t) (layout.flagByte t) (f .kind) (tells .kind)
+
+module _ (t : List ℕ) (f : Fields) (read : reading t ≡ Read f) where
+  pub kind-byte : layout.kindByte t ≡ kindNumber (f .kind)
+  kind-byte = tells-bytes t f (read-tells t f read) .number
+
+  pub flag-byte : (flagLow (f .kind) ≤ layout.flagByte t) × (layout.flagByte t ≤ flagHigh (f .kind))
+  flag-byte = let b = tells-bytes t f (read-tells t f read) in (b .low, b .high)
+
+  pub time-read : layout.timeOf t ≡ f .time
+  time-read = sym (read-tells t f read .time)
+
+  pub amount-read : layout.amountOf t ≡ f .amount
+  amount-read = sym (read-tells t f read .amount)
