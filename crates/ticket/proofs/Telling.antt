@@ -33,7 +33,7 @@ use Rattle.ticket.proofs.KindBytes.{KindBytes, kinded-tells}
 use Rattle.ticket.proofs.Laws.{formed-length, read-malformed, read-formed, read-named, read-stated}
 
 pub record Tells (t : List ℕ) (f : Fields) : Type 0 where
-  pub whole : length t ≡ 108
+  pub whole : length t ≡ layout.ticketLength
   pub kind : kinded (layout.kindByte t) (layout.flagByte t) ≡ As (f .kind)
   pub formed : wellFormed (formOf (f .kind)) t ≡ true
   pub time : f .time ≡ layout.timeOf t
@@ -47,7 +47,7 @@ record Shaped (t : List ℕ) (k : Kind) : Type 0 where
   formed : wellFormed (formOf k) t ≡ true
 
 shaped : (t : List ℕ) (k : Kind) → shapeOf t ≡ Formed k → Shaped t k
-shaped t k e = whole (eqb (length t) 108) refl
+shaped t k e = whole (eqb (length t) layout.ticketLength) refl
   where
     is : (k′ : Kind) → kinded (layout.kindByte t) (layout.flagByte t) ≡ As k′ → (b : Bool) → wellFormed (formOf k′) t ≡ b → _≡_ {A = Shape} (cond b (Formed k′) Malformed) (Formed k) → Shaped t k
     is k′ a true w q =
@@ -59,7 +59,7 @@ shaped t k e = whole (eqb (length t) 108) refl
     from (As k′) a q = is k′ a (wellFormed (formOf k′) t) refl q
     from Unknown a q = let z : _≡_ {A = ℕ} 0 1 = cc in absurd (omega arith)
 
-    whole : (b : Bool) → eqb (length t) 108 ≡ b → Shaped t k
+    whole : (b : Bool) → eqb (length t) layout.ticketLength ≡ b → Shaped t k
     whole true a = from (kinded (layout.kindByte t) (layout.flagByte t)) refl (rw a at e)
     whole false a = let e′ : _≡_ {A = Shape} Malformed (Formed k) = rw a at e in let z : _≡_ {A = ℕ} 0 1 = cc in absurd (omega arith)
 
