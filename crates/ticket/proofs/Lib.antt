@@ -2,3 +2,4 @@ pub mod Laws
 pub mod KindBytes
 pub mod Telling
 pub mod Refusals
+pub mod Padded
