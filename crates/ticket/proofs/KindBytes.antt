@@ -1,17 +1,17 @@
 -- A kind and its bytes tell of each other. Assumes nothing.
-use mathlib.Core.Path.{_≡_, refl, sym, _∙_, ap}
+use mathlib.Core.Path.{_≡_, refl, _∙_, ap}
 use mathlib.Core.Bool.{Bool, true, false, _&&_, cond}
 use mathlib.Core.List.{List, [], _∷_}
 use Prim.Native.Nat.{ℕ, _≤_}
 use native.Mathlib.Omega.{arith}
-use borrow.Author.Tests.{eqb-true, eq-eqb, leb-true, le-leb}
+use borrow.Author.Tests.{eqb-true, leb-true, le-leb}
 use lib.Dec.{leb, eqb}
 use Rattle.fields.proofs.Tests.{and-left, and-right}
 use Rattle.ticket.specs.Kind.{kindNumber, flagLow, flagHigh, allKinds, isOf, kindAmong, kinded}
 use Rattle.ticket.specs.declared.kinds.Kind.{Kind}
 use Rattle.ticket.specs.declared.kinds.Kind.the-variants.{CoverIn, CoverOut, Order, Yes, No, Recall, Return, Decline, Inquiry, Cut, Confirm, Tick}
 use Rattle.ticket.specs.declared.kinds.Kinded.{Kinded}
-use Rattle.ticket.specs.declared.kinds.Kinded.the-variants.{As, Unknown}
+use Rattle.ticket.specs.declared.kinds.Kinded.the-variants.{As}
 
 -- only n lies between n and n
 pub no-other : (n c : ℕ) → (c ≡ n → ⊥) → (leb n c && leb c n) ≡ false

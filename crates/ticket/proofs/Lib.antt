@@ -3,3 +3,6 @@ pub mod KindBytes
 pub mod Telling
 pub mod Refusals
 pub mod Padded
+pub mod WrittenFields
+pub mod ReadsBack
+pub mod Cases
