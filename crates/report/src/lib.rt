@@ -3,7 +3,7 @@ ghost use mathlib.Core.Path.{_≡_};
 ghost use Prim.Native.Nat.{_+_, _*_, _≤_};
 ghost use lib.ListN.{length};
 ghost use lib.Seq.{sets};
-ghost use Rattle.report.specs.Layout.{reportBytes, reportAt};
+ghost use Rattle.report.specs.Layout.{reportLength, reportBytes, reportAt};
 
 pub struct Report {
     pub to: u8,
@@ -13,8 +13,8 @@ pub struct Report {
 }
 
 pub fn put_report(buffer: &mut [u8], n: usize, r: Report)
-    requires { ⌜ 12 * n + 12 ≤ length (now buffer) ⌝ }
-    ensures { λ _. ⌜ now (buffer .exit) ≡ sets (now (buffer .entry)) (12 * n) (reportBytes r) ⌝ }
+    requires { ⌜ reportLength * n + reportLength ≤ length (now buffer) ⌝ }
+    ensures { λ _. ⌜ now (buffer .exit) ≡ sets (now (buffer .entry)) (reportLength * n) (reportBytes r) ⌝ }
 {
     let at = 12 * n;
     buffer[at] = r.to;
@@ -26,7 +26,7 @@ pub fn put_report(buffer: &mut [u8], n: usize, r: Report)
 }
 
 pub fn report_at(buffer: &[u8], n: usize) -> Report
-    requires { ⌜ 12 * n + 12 ≤ length (now buffer) ⌝ }
+    requires { ⌜ reportLength * n + reportLength ≤ length (now buffer) ⌝ }
     ensures { λ r. ⌜ r ≡ reportAt (now (buffer .entry)) n ⌝ }
 {
     let at = 12 * n;

@@ -6,6 +6,7 @@ use Prim.Native.Nat.{ℕ}
 use borrow.Author.Tests.{eqb-true}
 use lib.Dec.{eqb}
 use lib.ListN.{length}
+use Rattle.ticket.specs.Layout.{ticketLength}
 use Rattle.ticket.specs.Form.{formOf}
 use Rattle.ticket.specs.Shape.{shapeOf, accountOf}
 use Rattle.ticket.specs.Amount.{statedIn, limitOf}
@@ -17,12 +18,12 @@ use Rattle.ticket.specs.declared.shapes.Shape.the-variants.{Formed, Malf
 use Rattle.ticket.specs.declared.shapes.Account.the-variants.{Named}
 use Rattle.ticket.specs.declared.amounts.Stated.the-variants.{Amount}
 
--- a ticket with a shape has 108 bytes
-pub formed-length : (t : List ℕ) (k : Kind) → shapeOf t ≡ Formed k → length t ≡ 108
-formed-length t k e = go (eqb (length t) 108) refl
+-- the length of a ticket with a shape
+pub formed-length : (t : List ℕ) (k : Kind) → shapeOf t ≡ Formed k → length t ≡ ticketLength
+formed-length t k e = go (eqb (length t) ticketLength) refl
   where
-    go : (b : Bool) → eqb (length t) 108 ≡ b → length t ≡ 108
-    go true a = eqb-true (length t) 108 a
+    go : (b : Bool) → eqb (length t) ticketLength ≡ b → length t ≡ ticketLength
+    go true a = eqb-true (length t) ticketLength a
     go false a = let e′ : _≡_ {A = Shape} Malformed (Formed k) = rw a at e in cc
 
 -- the checks one after the other

@@ -10,7 +10,7 @@ use lib.ListN.{length}
 use Rattle.codes.specs.Txid.{isTxid}
 use Rattle.fields.proofs.Tests.{and-left, and-right}
 use Rattle.ticket.specs.Layout as layout
-use Rattle.ticket.specs.Kind.{kinded}
+use Rattle.ticket.specs.Kind.{kindNumber, flagLow, flagHigh, kinded}
 use Rattle.ticket.specs.Form.{formOf}
 use Rattle.ticket.specs.Shape.{bicIfListed, txidIfListed, blankUnlessListed, wellFormed, shapeAs, shapeOf, accountOf}
 use Rattle.ticket.specs.Amount.{statedIn, limitOf}
@@ -29,10 +29,11 @@ use Rattle.ticket.specs.declared.amounts.Stated.{Stated}
 use Rattle.ticket.specs.declared.amounts.Stated.the-variants.{Amount, Zero}
 use Rattle.ticket.specs.declared.amounts.Limit.{Limit}
 use Rattle.ticket.specs.declared.amounts.Limit.the-variants.{Within, Above}
+use Rattle.ticket.proofs.KindBytes.{KindBytes, kinded-tells}
 use Rattle.ticket.proofs.Laws.{formed-length, read-malformed, read-formed, read-named, read-stated}
 
 pub record Tells (t : List ℕ) (f : Fields) : Type 0 where
-  pub whole : length t ≡ 108
+  pub whole : length t ≡ layout.ticketLength
   pub kind : kinded (layout.kindByte t) (layout.flagByte t) ≡ As (f .kind)
   pub formed : wellFormed (formOf (f .kind)) t ≡ true
   pub time : f .time ≡ layout.timeOf t
@@ -46,7 +47,7 @@ record Shaped (t : List ℕ) (k : Kind) : Type 0 where
   formed : wellFormed (formOf k) t ≡ true
 
 shaped : (t : List ℕ) (k : Kind) → shapeOf t ≡ Formed k → Shaped t k
-shaped t k e = whole (eqb (length t) 108) refl
+shaped t k e = whole (eqb (length t) layout.ticketLength) refl
   where
     is : (k′ : Kind) → kinded (layout.kindByte t) (layout.flagByte t) ≡ As k′ → (b : Bool) → wellFormed (formOf k′) t ≡ b → _≡_ {A = Shape} (cond b (Formed k′) Malformed) (Formed k) → Shaped t k
     is k′ a true w q =
@@ -58,7 +59,7 @@ shaped t k e = whole (eqb (length t) 108) refl
     from (As k′) a q = is k′ a (wellFormed (formOf k′) t) refl q
     from Unknown a q = let z : _≡_ {A = ℕ} 0 1 = cc in absurd (omega arith)
 
-    whole : (b : Bool) → eqb (length t) 108 ≡ b → Shaped t k
+    whole : (b : Bool) → eqb (length t) layout.ticketLength ≡ b → Shaped t k
     whole true a = from (kinded (layout.kindByte t) (layout.flagByte t)) refl (rw a at e)
     whole false a = let e′ : _≡_ {A = Shape} Malformed (Formed k) = rw a at e in let z : _≡_ {A = ℕ} 0 1 = cc in absurd (omega arith)
 
@@ -139,3 +140,20 @@ listed-txid t f tells listed = rw listed at (and-right before (txidIfListed (for
         (before && txidIfListed (formOf (f .kind) .txid) (layout.txidField t) && blankUnlessListed (formOf (f .kind) .iban) (layout.ibanField t))
         (blankUnlessListed false (layout.lastField t))
         (tells .formed))
+
+-- its kind and flag bytes are those of its kind
+pub tells-bytes : (t : List ℕ) (f : Fields) → Tells t f → KindBytes (f .kind) (layout.kindByte t) (layout.flagByte t)
+tells-bytes t f tells = kinded-tells (layout.kindByte t) (layout.flagByte t) (f .kind) (tells .kind)
+
+module _ (t : List ℕ) (f : Fields) (read : reading t ≡ Read f) where
+  pub kind-byte : layout.kindByte t ≡ kindNumber (f .kind)
+  kind-byte = tells-bytes t f (read-tells t f read) .number
+
+  pub flag-byte : (flagLow (f .kind) ≤ layout.flagByte t) × (layout.flagByte t ≤ flagHigh (f .kind))
+  flag-byte = let b = tells-bytes t f (read-tells t f read) in (b .low, b .high)
+
+  pub time-read : layout.timeOf t ≡ f .time
+  time-read = sym (read-tells t f read .time)
+
+  pub amount-read : layout.amountOf t ≡ f .amount
+  amount-read = sym (read-tells t f read .amount)

@@ -5,3 +5,4 @@ pub mod Shape
 pub mod Amount
 pub mod Refusal
 pub mod Reading
+pub mod Writing

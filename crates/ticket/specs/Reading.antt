@@ -8,7 +8,7 @@ use mathlib.Core.List.{List, []}
 use lib.Dec.{eqb}
 use lib.ListN.{length}
 use Rattle.codes.specs.Txid.{isTxid}
-use Rattle.ticket.specs.Layout.{timeOf, txidOf}
+use Rattle.ticket.specs.Layout.{ticketLength, timeOf, txidOf}
 use Rattle.ticket.specs.Form.{formOf}
 use Rattle.ticket.specs.Shape.{shapeOf, accountOf}
 use Rattle.ticket.specs.Amount.{statedIn, limitOf}
@@ -45,4 +45,4 @@ unfoldable pub reading : List ℕ → Reading
 reading t = readShape t (shapeOf t)
 
 unfoldable pub txidPart : List ℕ → List ℕ
-txidPart t = cond (eqb (length t) 108) (cond (isTxid (txidOf t)) (txidOf t) []) []
+txidPart t = cond (eqb (length t) ticketLength) (cond (isTxid (txidOf t)) (txidOf t) []) []

@@ -52,7 +52,7 @@ shapeAs Unknown t = Malformed
 
 -- 7. Ticket not 108 bytes, or kind, flag, BIC, TxId or unused field wrong (XT33)
 abbrev pub shapeOf : List ℕ → Shape
-shapeOf t = cond (eqb (length t) 108) (shapeAs (kinded (layout.kindByte t) (layout.flagByte t)) t) Malformed
+shapeOf t = cond (eqb (length t) layout.ticketLength) (shapeAs (kinded (layout.kindByte t) (layout.flagByte t)) t) Malformed
 
 -- 8. IBAN wrong (XD19)
 abbrev pub accountOf : Form → List ℕ → Account

@@ -2,6 +2,7 @@
 use super::forms::Form;
 ghost use mathlib.Core.Path.{_≡_};
 ghost use lib.ListN.{length};
+ghost use Rattle.ticket.specs.Layout.{ticketLength};
 ghost use Rattle.ticket.specs.Amount.{statedIn, limitOf};
 
 pub enum Stated {
@@ -15,7 +16,7 @@ pub enum Limit {
 }
 
 pub fn read_stated(form: Form, t: &[u8]) -> Stated
-    requires { ⌜ length (now t) ≡ 108 ⌝ }
+    requires { ⌜ length (now t) ≡ ticketLength ⌝ }
     ensures { λ r. ⌜ r ≡ statedIn form (now (t .entry)) ⌝ }
 {
     let n = fields::u64_at(t, 8);

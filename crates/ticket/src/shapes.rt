@@ -6,6 +6,7 @@ use super::kinds::Kind;
 use super::kinds::Kinded;
 ghost use mathlib.Core.Path.{_≡_};
 ghost use lib.ListN.{length};
+ghost use Rattle.ticket.specs.Layout.{ticketLength};
 ghost use Rattle.ticket.specs.Shape.{bicIfListed, txidIfListed, blankUnlessListed, wellFormed, shapeOf, accountOf};
 
 pub enum Shape {
@@ -45,7 +46,7 @@ fn blank_unless_listed(listed: bool, s: &[u8]) -> bool
 }
 
 fn well_formed(form: Form, t: &[u8]) -> bool
-    requires { ⌜ length (now t) ≡ 108 ⌝ }
+    requires { ⌜ length (now t) ≡ ticketLength ⌝ }
     ensures { λ r. ⌜ r ≡ wellFormed form (now (t .entry)) ⌝ }
 {
     let spare = blank_unless_listed(false, &t[2..4]);
@@ -75,7 +76,7 @@ pub fn read_shape(t: &[u8]) -> Shape
 }
 
 pub fn read_account(form: Form, t: &[u8]) -> Account
-    requires { ⌜ length (now t) ≡ 108 ⌝ }
+    requires { ⌜ length (now t) ≡ ticketLength ⌝ }
     ensures { λ r. ⌜ r ≡ accountOf form (now (t .entry)) ⌝ }
 {
     let listed = form.iban;

@@ -7,6 +7,7 @@ use denote.Ref.{now}
 use borrow.Author.Needs.{needs}
 use native.Mathlib.Omega.{arith}
 use lib.ListN.{length}
+use Rattle.ticket.specs.Layout.{ticketLength}
 use Rattle.ticket.specs.Form.{formOf}
 use Rattle.ticket.specs.Shape.{shapeOf, accountOf}
 use Rattle.ticket.specs.Amount.{statedIn, limitOf}
@@ -31,7 +32,7 @@ kind c = c .before .before .kind .given .0 .0
 formed : (c : tie.After-form-of) → shapeOf (given c) ≡ Formed (kind c)
 formed c = sym (c .before .before .before .before .read-shape .ensures) ∙ c .before .before .kind .given .1
 
-whole : (c : tie.After-form-of) → length (given c) ≡ 108
+whole : (c : tie.After-form-of) → length (given c) ≡ ticketLength
 whole c = formed-length (given c) (kind c) (formed c)
 
 account-is : (c : tie.After-read-account) → c .read-account .result ≡ accountOf (formOf (kind (c .before))) (given (c .before))

@@ -1,5 +1,5 @@
 -- `ticket::kinds::answer` meets its contract. Assumes nothing.
-use borrow.Author.Tests.{ne-eqb}
+use Rattle.ticket.proofs.KindBytes.{no-other}
 use Rattle.ticket.proofs.kinds.answer.Statement.{statement}
 use Rattle.ticket.proofs.kinds.answer.Tie as tie
 
@@ -9,4 +9,4 @@ answer-spec =
     (tie.spec
     (λ c. rw (c .match .keys1))
     (λ c. rw (c .match .keys2))
-    (λ c. simp (ne-eqb _ _ (c .match .rest .0 .1), ne-eqb _ _ (c .match .rest .1))))
+    (λ c. simp (no-other 1 _ (c .match .rest .0 .1), no-other 2 _ (c .match .rest .1))))
