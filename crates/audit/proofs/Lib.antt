@@ -1,4 +1,1 @@
 pub mod Testing
-pub mod Rows
-pub mod Days
-pub mod Wrong

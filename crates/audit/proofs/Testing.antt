@@ -1,21 +1,26 @@
 -- The claim as a test that the checker computes, clause by clause: it passes exactly where the claim holds. Assumes nothing.
-use mathlib.Core.Path.{_≡_, refl, sym}
-use mathlib.Core.Bool.{Bool, true, false, _&&_, not}
+use mathlib.Core.Path.{_≡_, refl, sym, _∙_, ap}
+use mathlib.Core.Bool.{Bool, true, false, _&&_, _||_, not, cond, and-false}
 use mathlib.Core.List.{List, [], _∷_}
-use Prim.Native.Nat.{ℕ, zero, suc, _+_, _<_}
+use mathlib.Core.Logic.{_⊎_, ⊎-elim}
+use Prim.Native.Nat.{ℕ, zero, suc, _+_, _≤_, _<_}
 use native.Mathlib.Omega.{arith}
-use borrow.Author.Tests.{eqb-true, eq-eqb, leb-true, le-leb}
-use lib.Dec.{leb, eqb}
+use borrow.Author.Tests.{eqb-true, eq-eqb, ltb-true, ltb-false, le-ltb}
+use lib.Dec.{ltb, eqb}
 use Rattle.fields.specs.UpTo.{allTo}
 use Rattle.fields.proofs.Tests.{and-left, and-right}
 use Rattle.fields.proofs.UpTo.{all-at}
+use Rattle.report.specs.Ending.{isEnding, endingsIn}
 use Rattle.report.specs.declared.Report.{Report}
 use Rattle.rules.specs.Book.{orderOf, coverOf}
-use Rattle.rules.specs.Tick.{isWaiting}
+use Rattle.rules.specs.Status.{isWaiting}
+use Rattle.rules.specs.Cover.{whole}
 use Rattle.rules.specs.declared.Book.{Book}
-use Rattle.audit.specs.History.{Seen, History, Each, size}
-use Rattle.audit.specs.Orders.{orderCount, orderAmount, waits, waitingSum, letsExpire, mustExpire, endingTickets, allEndings}
-use Rattle.audit.specs.Claim.{outgoing, incoming, AllCarry, codeOf, Claim}
+use Rattle.rules.proofs.Same.{below-or-not}
+use Rattle.audit.specs.History.{Event, History, Each, size}
+use Rattle.audit.specs.Sums.{outgoing, incoming}
+use Rattle.audit.specs.Orders.{orderCount, orderAmount, isNone, isFirst4, waits, waitingTotal, letsExpire, mustExpire, endingTickets, allEndings}
+use Rattle.audit.specs.Claim.{AllCarry, codeOf, Claim}
 
 -- two truth values are the same
 abbrev pub agree : Bool → Bool → Bool
@@ -41,24 +46,112 @@ all-of test (suc n) h = and-both (allTo test n) (test n) (all-of test n (λ i l.
 
 module _ (file : List ℕ) (h : History) (b : Book) where
   abbrev pub coverAt : ℕ → Bool
-  coverAt p =
-      eqb (coverOf b p .available + coverOf b p .reserved + coverOf b p .held + outgoing file p h) (incoming file p h)
+  coverAt p = eqb (whole (coverOf (b .covers) p) + outgoing file p h) (incoming file p h)
 
   abbrev pub reservedAt : ℕ → Bool
-  reservedAt p = eqb (coverOf b p .reserved) (waitingSum file p h)
+  reservedAt p = eqb (coverOf (b .covers) p .reserved) (waitingTotal file p h)
 
   abbrev pub waitingAt : ℕ → Bool
-  waitingAt i = agree (isWaiting (orderOf b i .status)) (waits i h)
+  waitingAt i = agree (isWaiting (orderOf (b .orders) i .status)) (waits i h)
 
-  abbrev pub onceAt : ℕ → Bool
-  onceAt i = leb (endingTickets i h) 1
+abbrev pub onceAt : History → ℕ → Bool
+onceAt h i = eqb (endingTickets i h) (cond (waits i h) 0 1)
 
-abbrev pub expiryAt : List ℕ → Seen → History → ℕ → Bool
-expiryAt file s before i = agree (letsExpire i s before) (mustExpire file i s before)
+-- a test of each event and what was before it
+abbrev pub eachOf : (Event → History → Bool) → History → Bool
+eachOf test [] = true
+eachOf test (e ∷ before) = test e before && eachOf test before
 
-abbrev pub expiryIn : List ℕ → History → Bool
-expiryIn file [] = true
-expiryIn file (s ∷ before) = allTo (expiryAt file s before) (orderCount (s ∷ before)) && expiryIn file before
+each-true : (test : Event → History → Bool) (P : Event → History → Type 0) → ((e : Event) (before : History) → test e before ≡ true → P e before)
+    → (h : History) → eachOf test h ≡ true → Each P h
+each-true test P tells [] t = tt
+each-true test P tells (e ∷ before) t =
+    (tells e before (and-left (test e before) (eachOf test before) t), each-true test P tells before (and-right (test e before) (eachOf test before) t))
+
+true-each : (test : Event → History → Bool) (P : Event → History → Type 0) → ((e : Event) (before : History) → P e before → test e before ≡ true)
+    → (h : History) → Each P h → eachOf test h ≡ true
+true-each test P tells [] c = refl
+true-each test P tells (e ∷ before) c = and-both (test e before) (eachOf test before) (tells e before (c .0)) (true-each test P tells before (c .1))
+
+-- two facts of each event
+both-each : (P Q : Event → History → Type 0) (h : History) → Each P h → Each Q h → Each (λ e before. P e before × Q e before) h
+both-each P Q [] a b = tt
+both-each P Q (e ∷ before) a b = ((a .0, b .0), both-each P Q before (a .1) (b .1))
+
+each-so : (P Q : Event → History → Type 0) → ((e : Event) (before : History) → P e before → Q e before) → (h : History) → Each P h → Each Q h
+each-so P Q so [] a = tt
+each-so P Q so (e ∷ before) a = (so e before (a .0), each-so P Q so before (a .1))
+
+-- each ending has a number below n
+abbrev pub isEndingCode : Report → Bool
+isEndingCode r = isEnding (r .order) r
+
+abbrev pub endingsBelow : ℕ → List Report → Bool
+endingsBelow n [] = true
+endingsBelow n (r ∷ rs) = (not (isEndingCode r) || ltb (r .order) n) && endingsBelow n rs
+
+Known : ℕ → List Report → Type 0
+Known n rs = (i : ℕ) → n ≤ i → endingsIn i rs ≡ []
+
+below-known : (n : ℕ) (rs : List Report) → endingsBelow n rs ≡ true → Known n rs
+unfolding Known
+below-known n [] t i l = refl
+below-known n (r ∷ rs) t i l =
+    go (isEnding i r) refl (below-known n rs (and-right (not (isEndingCode r) || ltb (r .order) n) (endingsBelow n rs) t) i l)
+  where
+    go : (b : Bool) → isEnding i r ≡ b → endingsIn i rs ≡ [] → cond b (r ∷ endingsIn i rs) (endingsIn i rs) ≡ []
+    go true e on =
+        let same : r .order ≡ i = eqb-true (r .order) i (and-left (eqb (r .order) i) _ e) in
+        let is : isEndingCode r ≡ true = rw (← same) at e in
+        let here = and-left (not (isEndingCode r) || ltb (r .order) n) (endingsBelow n rs) t in
+        let below = ltb-true (r .order) n (rw is at here) in
+        absurd (omega arith)
+    go false e on = on
+
+known-below : (n : ℕ) (rs : List Report) → Known n rs → endingsBelow n rs ≡ true
+unfolding Known
+known-below n [] k = refl
+known-below n (r ∷ rs) k =
+    and-both (not (isEndingCode r) || ltb (r .order) n) (endingsBelow n rs)
+    (here (isEndingCode r) refl (ltb (r .order) n) refl)
+    (known-below n rs (λ i l. later i (isEnding i r) (k i l)))
+  where
+    later : (i : ℕ) (b : Bool) → cond b (r ∷ endingsIn i rs) (endingsIn i rs) ≡ [] → endingsIn i rs ≡ []
+    later i true e = let z : _≡_ {A = ℕ} 0 1 = cc in absurd (omega arith)
+    later i false e = e
+
+    here : (x : Bool) → isEndingCode r ≡ x → (y : Bool) → ltb (r .order) n ≡ y → (not x || y) ≡ true
+    here false e y f = refl
+    here true e true f = refl
+    here true e false f =
+        let none : endingsIn (r .order) (r ∷ rs) ≡ [] = k (r .order) (ltb-false (r .order) n f) in
+        let is : _≡_ {A = List Report} (r ∷ endingsIn (r .order) rs) [] = rw e at none in
+        let z : _≡_ {A = ℕ} 0 1 = cc in
+        absurd (omega arith)
+
+-- at an event, the orders before it and n more
+abbrev pub expiryAt : List ℕ → Event → History → ℕ → Bool
+expiryAt file e before i = agree (letsExpire i e before) (mustExpire file i e before)
+
+abbrev pub expiryIn : List ℕ → ℕ → Event → History → Bool
+expiryIn file n e before = allTo (expiryAt file e before) (orderCount before + n)
+
+abbrev pub knownIn : Event → History → Bool
+knownIn e before = endingsBelow (orderCount before) (e .reports)
+
+-- no other order is let expire, and none must
+no-other : (file : List ℕ) (e : Event) (before : History) (i : ℕ) → orderCount before ≤ i → endingsIn i (e .reports) ≡ []
+    → letsExpire i e before ≡ mustExpire file i e before
+no-other file e before i l none = simp (none, and-false, le-ltb i (orderCount before) l)
+
+expiry-tells : (file : List ℕ) (n : ℕ) (e : Event) (before : History) → (expiryIn file n e before ≡ true) × Known (orderCount before) (e .reports)
+    → (i : ℕ) → letsExpire i e before ≡ mustExpire file i e before
+unfolding Known
+expiry-tells file n e before (t, k) i =
+    ⊎-elim
+    (λ (l : i < orderCount before + n). agree-true (letsExpire i e before) (mustExpire file i e before) (all-at (expiryAt file e before) (orderCount before + n) i t l))
+    (λ (l : orderCount before + n ≤ i). no-other file e before i (omega arith) (k i (omega arith)))
+    (below-or-not i (orderCount before + n))
 
 abbrev pub carry : ℕ → ℕ → List Report → Bool
 carry code amount [] = true
@@ -66,17 +159,6 @@ carry code amount (r ∷ rs) = eqb (r .code) code && eqb (r .amount) amount && c
 
 abbrev pub alikeAt : History → ℕ → Bool
 alikeAt h i = carry (codeOf (allEndings i h)) (orderAmount i h) (allEndings i h)
-
--- the clauses in the claim's order
-abbrev pub clauses : List ℕ → History → Book → List Bool
-clauses file h b =
-    allTo (coverAt file h b) (size file)
-    ∷ allTo (reservedAt file h b) (size file)
-    ∷ allTo (waitingAt file h b) (orderCount h)
-    ∷ expiryIn file h
-    ∷ allTo (onceAt file h b) (orderCount h)
-    ∷ allTo (alikeAt h) (orderCount h)
-    ∷ []
 
 carry-true : (code amount : ℕ) (rs : List Report) → carry code amount rs ≡ true → AllCarry code amount rs
 carry-true code amount [] e = tt
@@ -94,60 +176,74 @@ true-carry code amount (r ∷ rs) c =
     (and-both (eqb (r .code) code) (eqb (r .amount) amount) (eq-eqb (r .code) code (c .0)) (eq-eqb (r .amount) amount (c .1)))
     (true-carry code amount rs (c .2))
 
-expiry-true : (file : List ℕ) (h : History) → expiryIn file h ≡ true
-    → Each (λ s before. (i : ℕ) → i < orderCount (s ∷ before) → letsExpire i s before ≡ mustExpire file i s before) h
-expiry-true file [] e = tt
-expiry-true file (s ∷ before) e =
-    let here = and-left (allTo (expiryAt file s before) (orderCount (s ∷ before))) (expiryIn file before) e in (
-      (λ i l. agree-true (letsExpire i s before) (mustExpire file i s before) (all-at (expiryAt file s before) (orderCount (s ∷ before)) i here l)),
-      expiry-true file before (and-right (allTo (expiryAt file s before) (orderCount (s ∷ before))) (expiryIn file before) e),
-    )
+-- the clauses in the claim's order
+abbrev pub clauses : List ℕ → History → Book → List Bool
+clauses file h b =
+    allTo (coverAt file h b) (size file)
+    ∷ allTo (reservedAt file h b) (size file)
+    ∷ eqb (b .count) (orderCount h)
+    ∷ allTo (waitingAt file h b) (orderCount h)
+    ∷ eachOf (expiryIn file (orderCount h)) h
+    ∷ eachOf knownIn h
+    ∷ allTo (onceAt h) (orderCount h)
+    ∷ allTo (alikeAt h) (orderCount h)
+    ∷ []
 
-true-expiry : (file : List ℕ) (h : History)
-    → Each (λ s before. (i : ℕ) → i < orderCount (s ∷ before) → letsExpire i s before ≡ mustExpire file i s before) h → expiryIn file h ≡ true
-true-expiry file [] c = refl
-true-expiry file (s ∷ before) c =
-    and-both (allTo (expiryAt file s before) (orderCount (s ∷ before))) (expiryIn file before)
-    (all-of (expiryAt file s before) (orderCount (s ∷ before)) (λ i l. true-agree (letsExpire i s before) (mustExpire file i s before) (c .0 i l)))
-    (true-expiry file before (c .1))
-
--- every clause passes: the claim holds
+-- every clause passes
 abbrev pub allPass : List Bool → Bool
 allPass [] = true
 allPass (c ∷ cs) = c && allPass cs
 
+-- each of them does
+abbrev Passing : List Bool → Type 0
+Passing [] = Unit {0}
+Passing (c ∷ cs) = (c ≡ true) × Passing cs
+
+passing : (cs : List Bool) → allPass cs ≡ true → Passing cs
+passing [] e = tt
+passing (c ∷ cs) e = (and-left c (allPass cs) e, passing cs (and-right c (allPass cs) e))
+
+all-passing : (cs : List Bool) → Passing cs → allPass cs ≡ true
+all-passing [] p = refl
+all-passing (c ∷ cs) p = and-both c (allPass cs) (p .0) (all-passing cs (p .1))
+
 module _ (file : List ℕ) (h : History) (b : Book) where
+  -- every clause passes: the claim holds
   pub claim-holds : allPass (clauses file h b) ≡ true → Claim file h b
-  claim-holds e =
-      let c₁ = allTo (coverAt file h b) (size file) in
-      let c₂ = allTo (reservedAt file h b) (size file) in
-      let c₃ = allTo (waitingAt file h b) (orderCount h) in
-      let c₄ = expiryIn file h in
-      let c₅ = allTo (onceAt file h b) (orderCount h) in
-      let c₆ = allTo (alikeAt h) (orderCount h) in
-      let e₂ = and-right c₁ (c₂ && (c₃ && (c₄ && (c₅ && (c₆ && true))))) e in
-      let e₃ = and-right c₂ (c₃ && (c₄ && (c₅ && (c₆ && true)))) e₂ in
-      let e₄ = and-right c₃ (c₄ && (c₅ && (c₆ && true))) e₃ in
-      let e₅ = and-right c₄ (c₅ && (c₆ && true)) e₄ in
-      let e₆ = and-right c₅ (c₆ && true) e₅ in
+  unfolding Known
+  claim-holds t =
+      let c = passing (clauses file h b) t in
+      let expiry = c .1 .1 .1 .1 .0 in
+      let known = each-true knownIn (λ e before. Known (orderCount before) (e .reports)) (λ e before. below-known (orderCount before) (e .reports)) h (c .1 .1 .1 .1 .1 .0) in
       record {
-        cover = λ p l. eqb-true _ _ (all-at (coverAt file h b) (size file) p (and-left c₁ _ e) l);
-        reserved = λ p l. eqb-true _ _ (all-at (reservedAt file h b) (size file) p (and-left c₂ _ e₂) l);
-        waiting = λ i l. agree-true _ _ (all-at (waitingAt file h b) (orderCount h) i (and-left c₃ _ e₃) l);
-        expiry = expiry-true file h (and-left c₄ _ e₄);
-        once = λ i l. leb-true _ _ (all-at (onceAt file h b) (orderCount h) i (and-left c₅ _ e₅) l);
-        alike = λ i l. carry-true (codeOf (allEndings i h)) (orderAmount i h) (allEndings i h) (all-at (alikeAt h) (orderCount h) i (and-left c₆ true e₆) l);
+        cover = λ p l. eqb-true _ _ (all-at (coverAt file h b) (size file) p (c .0) l);
+        reserved = λ p l. eqb-true _ _ (all-at (reservedAt file h b) (size file) p (c .1 .0) l);
+        held = eqb-true _ _ (c .1 .1 .0);
+        waiting = λ i l. agree-true _ _ (all-at (waitingAt file h b) (orderCount h) i (c .1 .1 .1 .0) l);
+        expiry =
+            each-so (λ e before. (expiryIn file (orderCount h) e before ≡ true) × Known (orderCount before) (e .reports))
+            (λ e before. (i : ℕ) → letsExpire i e before ≡ mustExpire file i e before) (expiry-tells file (orderCount h)) h
+            (both-each (λ e before. expiryIn file (orderCount h) e before ≡ true) (λ e before. Known (orderCount before) (e .reports)) h
+            (each-true (expiryIn file (orderCount h)) (λ e before. expiryIn file (orderCount h) e before ≡ true) (λ e before q. q) h expiry) known);
+        known = known;
+        once = λ i l. eqb-true _ _ (all-at (onceAt h) (orderCount h) i (c .1 .1 .1 .1 .1 .1 .0) l);
+        alike = λ i l. carry-true (codeOf (allEndings i h)) (orderAmount i h) (allEndings i h) (all-at (alikeAt h) (orderCount h) i (c .1 .1 .1 .1 .1 .1 .1 .0) l);
       }
 
   -- the claim holds: every clause passes
   pub clauses-pass : Claim file h b → allPass (clauses file h b) ≡ true
+  unfolding Known
   clauses-pass c =
-      and-both _ _ (all-of (coverAt file h b) (size file) (λ p l. eq-eqb _ _ (c .cover p l)))
-      (and-both _ _ (all-of (reservedAt file h b) (size file) (λ p l. eq-eqb _ _ (c .reserved p l)))
-      (and-both _ _ (all-of (waitingAt file h b) (orderCount h) (λ i l. true-agree _ _ (c .waiting i l)))
-      (and-both _ _ (true-expiry file h (c .expiry))
-      (and-both _ _ (all-of (onceAt file h b) (orderCount h) (λ i l. le-leb _ _ (c .once i l)))
-      (and-both _ true (all-of (alikeAt h) (orderCount h) (λ i l. true-carry (codeOf (allEndings i h)) (orderAmount i h) (allEndings i h) (c .alike i l))) refl)))))
+      all-passing (clauses file h b)
+      (all-of (coverAt file h b) (size file) (λ p l. eq-eqb _ _ (c .cover p l)),
+      (all-of (reservedAt file h b) (size file) (λ p l. eq-eqb _ _ (c .reserved p l)),
+      (eq-eqb _ _ (c .held),
+      (all-of (waitingAt file h b) (orderCount h) (λ i l. true-agree _ _ (c .waiting i l)),
+      (true-each (expiryIn file (orderCount h)) (λ e before. (i : ℕ) → letsExpire i e before ≡ mustExpire file i e before)
+      (λ e before t. all-of (expiryAt file e before) (orderCount before + orderCount h) (λ i l. true-agree _ _ (t i))) h (c .expiry),
+      (true-each knownIn (λ e before. Known (orderCount before) (e .reports)) (λ e before. known-below (orderCount before) (e .reports)) h (c .known),
+      (all-of (onceAt h) (orderCount h) (λ i l. eq-eqb _ _ (c .once i l)),
+      (all-of (alikeAt h) (orderCount h) (λ i l. true-carry (codeOf (allEndings i h)) (orderAmount i h) (allEndings i h) (c .alike i l)), tt))))))))
 
   -- a clause fails: the claim is false
   pub claim-fails : allPass (clauses file h b) ≡ false → Claim file h b → ⊥

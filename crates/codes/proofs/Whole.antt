@@ -1,11 +1,12 @@
--- No class of bytes has the zero byte, so a TxId or an IBAN is its own value: padding it loses nothing. Assumes nothing.
+-- How long a BIC, a TxId and an IBAN are; and no class of bytes has the zero byte, so a TxId or an IBAN is its own value: padding it
+-- loses nothing. Assumes nothing.
 use mathlib.Core.Path.{_≡_, refl}
 use mathlib.Core.Bool.{true, false, _&&_}
 use mathlib.Core.List.{List, [], _∷_}
-use Prim.Native.Nat.{ℕ, zero, suc, _+_, _-_, _<_}
+use Prim.Native.Nat.{ℕ, zero, suc, _+_, _-_, _≤_, _<_}
 use native.Mathlib.Nat.{not-suc-le-zero, le-of-suc-le-suc}
 use native.Mathlib.Omega.{arith}
-use borrow.Author.Tests.{leb-true}
+use borrow.Author.Tests.{eqb-true, leb-true}
 use lib.Dec.{leb, eqb, eqb·suc-zero}
 use lib.ListN.{length, getD, take, drop, length-drop}
 use lib.Seq.{getD-drop}
@@ -13,6 +14,7 @@ use Rattle.fields.specs.Text.{unpadded}
 use Rattle.fields.proofs.Tests.{and-left, and-right}
 use Rattle.fields.proofs.Padding.{whole}
 use Rattle.codes.specs.Class.{isIn, allIn}
+use Rattle.codes.specs.Bic.{isBic}
 use Rattle.codes.specs.Iban.{isIban, remainder, moved}
 use Rattle.codes.specs.Txid.{isTxid}
 use Rattle.codes.specs.declared.classes.Class.{Class}
@@ -56,3 +58,15 @@ iban-whole s e =
     none-zero LetterOrDigit (drop 4 s) (length s - 5) (and-right front _ classes) (rw length-drop (omega arith))
     in
     whole s (4 + (length s - 5)) (omega arith) (rw (getD-drop 4 s (length s - 5) 0) at last)
+
+pub bic-length : (s : List ℕ) → isBic s ≡ true → length s ≡ 11
+unfolding isBic
+bic-length s e = eqb-true (length s) 11 (and-left _ _ (and-left _ _ (and-left _ _ (and-left _ _ e))))
+
+pub txid-length : (s : List ℕ) → isTxid s ≡ true → length s ≤ 35
+unfolding isTxid
+txid-length s e = leb-true (length s) 35 (and-right (leb 1 (length s)) (leb (length s) 35) (and-left _ _ e))
+
+pub iban-length : (s : List ℕ) → isIban s ≡ true → length s ≤ 34
+unfolding isIban
+iban-length s e = leb-true (length s) 34 (and-right (leb 5 (length s)) (leb (length s) 34) (and-left _ _ (and-left _ _ (and-left _ _ (and-left _ _ e)))))

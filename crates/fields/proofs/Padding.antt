@@ -1,7 +1,7 @@
 -- The length of a padded field's value, by its bytes from the front; and that padding changes no value. Assumes nothing.
 use mathlib.Core.Path.{_≡_, refl, sym, _∙_, ap, ap₂}
 use mathlib.Core.Bool.{Bool, true, false, _&&_, cond, and-true, and-false, and-assoc}
-use mathlib.Core.List.{List, [], _∷_, _++_}
+use mathlib.Core.List.{List, [], _∷_, _++_, append-nil}
 use Prim.Native.Nat.{ℕ, zero, suc, _+_, _-_, _≤_, _<_}
 use native.Mathlib.Nat.{le-of-eq}
 use native.Mathlib.Numerals.{add-one}
@@ -83,3 +83,6 @@ unpadded-padded w s =
 
 pub length-padded : (w : ℕ) (s : List ℕ) → length s ≤ w → length (padded w s) ≡ w
 length-padded w s h = omega (arith, length-append s (replicate (w - length s) 0), length-replicate {A = ℕ} (w - length s) 0)
+
+pub padded-full : (w : ℕ) (s : List ℕ) → length s ≡ w → padded w s ≡ s
+padded-full w s h = let none : w - length s ≡ 0 = omega arith in ap (λ (n : ℕ). s ++ replicate n 0) none ∙ append-nil s

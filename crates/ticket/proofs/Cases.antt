@@ -5,7 +5,7 @@ use Prim.Native.Nat.{ℕ}
 use native.Mathlib.Omega.{arith}
 use Rattle.codes.specs.Bic.{isBic}
 use Rattle.codes.specs.Iban.{isIban}
-use Rattle.codes.specs.Text.{text}
+use Rattle.fields.specs.Text.{text}
 use Rattle.codes.specs.Txid.{isTxid}
 use Rattle.ticket.specs.Reading.{reading}
 use Rattle.ticket.specs.Writing.{WellFormedTicket, orderWritten, coverInTicket, orderTicket, yesTicket, recallTicket, inquiryTicket, tickTicket}

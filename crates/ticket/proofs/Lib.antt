@@ -2,7 +2,6 @@ pub mod Laws
 pub mod KindBytes
 pub mod Telling
 pub mod Refusals
-pub mod Padded
 pub mod WrittenFields
 pub mod ReadsBack
 pub mod Cases

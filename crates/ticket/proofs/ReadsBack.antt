@@ -12,6 +12,8 @@ use Rattle.codes.specs.Iban.{isIban}
 use Rattle.codes.specs.Txid.{isTxid}
 use Rattle.fields.specs.Number.{bytesOf}
 use Rattle.fields.specs.Text.{blank, unpadded, padded}
+use Rattle.fields.proofs.Padding.{padded-full, unpadded-padded}
+use Rattle.codes.proofs.Whole.{bic-length, txid-length, txid-whole, iban-length, iban-whole}
 use Rattle.ticket.specs.Layout as layout
 use Rattle.ticket.specs.Form.{mostCover, formOf}
 use Rattle.ticket.specs.Shape.{bicIfListed, txidIfListed, blankUnlessListed, wellFormed, shapeOf, accountOf}
@@ -27,7 +29,6 @@ use Rattle.ticket.specs.declared.amounts.Stated.the-variants.{Amount}
 use Rattle.ticket.specs.declared.amounts.Limit.the-variants.{Within}
 use Rattle.ticket.proofs.KindBytes.{bytes-kinded}
 use Rattle.ticket.proofs.Laws.{read-stated}
-use Rattle.ticket.proofs.Padded.{padded-full, unpadded-padded, bic-length, txid-length, txid-unpadded, iban-length, iban-unpadded}
 use Rattle.ticket.proofs.WrittenFields.{written-time, written-amount, sender-field, payee-field, txid-field, iban-field, last-field, length-written}
 
 -- each kind's amounts fit in eight bytes
@@ -64,7 +65,7 @@ bic-passes true s e = ap isBic (padded-full 11 s (bic-length s e)) ∙ e
 bic-passes false s e = ap (λ (t : List ℕ). blank (padded 11 t)) e
 
 txid-passes : (listed : Bool) (s : List ℕ) → IfListed listed isTxid s → txidIfListed listed (padded 35 s) ≡ true
-txid-passes true s e = ap isTxid (unpadded-padded 35 s ∙ txid-unpadded s e) ∙ e
+txid-passes true s e = ap isTxid (unpadded-padded 35 s ∙ txid-whole s e) ∙ e
 txid-passes false s e = ap (λ (t : List ℕ). blank (padded 35 t)) e
 
 iban-passes : (listed : Bool) (s : List ℕ) → IfListed listed isIban s → blankUnlessListed listed (padded 34 s) ≡ true
@@ -73,7 +74,7 @@ iban-passes false s e = ap (λ (t : List ℕ). blank (padded 34 t)) e
 
 account-passes : (listed : Bool) (s : List ℕ) → IfListed listed isIban s
     → cond listed (cond (isIban (unpadded (padded 34 s))) Named Wrong) Named ≡ Named
-account-passes true s e = rw (unpadded-padded 34 s, iban-unpadded s e, e)
+account-passes true s e = rw (unpadded-padded 34 s, iban-whole s e, e)
 account-passes false s e = refl
 
 amount-passes : (most n : ℕ) → n ≤ most → blankUnlessListed (not (eqb most 0)) (bytesOf 8 n) ≡ true

@@ -10,9 +10,10 @@ use Rattle.codes.specs.Iban.{isIban}
 use Rattle.codes.specs.Txid.{isTxid}
 use Rattle.fields.specs.Text.{unpadded, padded}
 use Rattle.fields.proofs.BigEndian.{reads-back}
+use Rattle.fields.proofs.Padding.{length-padded, padded-full, unpadded-padded}
+use Rattle.codes.proofs.Whole.{txid-whole, iban-whole, txid-length, iban-length}
 use Rattle.ticket.specs.Layout.{ticketLength, kindByte, flagByte, timeOf, amountOf, senderOf, payeeOf, txidField, txidOf, ibanField, ibanOf, lastField}
 use Rattle.ticket.specs.Writing.{Written, ticketBytes}
-use Rattle.ticket.proofs.Padded.{length-padded, padded-full, unpadded-padded, txid-unpadded, iban-unpadded, txid-length, iban-length}
 
 regroup : (a b c d e : List ℕ) → a ++ b ++ c ++ d ++ e ≡ a ++ (b ++ (c ++ (d ++ e)))
 regroup a b c d e = simp append-assoc
@@ -74,9 +75,9 @@ written-payee w s p = payee-field w s (omega arith) ∙ padded-full 11 (w .payee
 
 pub written-txid : (w : Written) → length (w .sender) ≤ 11 → length (w .payee) ≤ 11 → isTxid (w .txid) ≡ true → txidOf (ticketBytes w) ≡ w .txid
 written-txid w s p x =
-    ap unpadded (txid-field w s p (txid-length (w .txid) x)) ∙ unpadded-padded 35 (w .txid) ∙ txid-unpadded (w .txid) x
+    ap unpadded (txid-field w s p (txid-length (w .txid) x)) ∙ unpadded-padded 35 (w .txid) ∙ txid-whole (w .txid) x
 
 pub written-iban : (w : Written) → length (w .sender) ≤ 11 → length (w .payee) ≤ 11 → length (w .txid) ≤ 35 → isIban (w .iban) ≡ true
     → ibanOf (ticketBytes w) ≡ w .iban
 written-iban w s p x i =
-    ap unpadded (iban-field w s p x (iban-length (w .iban) i)) ∙ unpadded-padded 34 (w .iban) ∙ iban-unpadded (w .iban) i
+    ap unpadded (iban-field w s p x (iban-length (w .iban) i)) ∙ unpadded-padded 34 (w .iban) ∙ iban-whole (w .iban) i
