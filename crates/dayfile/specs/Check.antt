@@ -1,12 +1,14 @@
 -- Refusals 2 to 5.
 --     ranged           2, on the counts
 --     placed           3, on the offsets and the file's length
---     participantsOk   the first n participant rows are right
---     routesOk         the first n route rows are right
+--     participantsOk   the first n participant rows of a section are right
+--     enrolled         4, by that
+--     routesOk         the first n route rows of a section are right
+--     routed           5, by that
 --     InRange          what 2 leaves
 -- Assumes nothing.
 use Prim.Native.Nat.{ℕ, _+_, _*_, _≤_}
-use mathlib.Core.Bool.{Bool, true, false, _&&_, not, cond}
+use mathlib.Core.Bool.{Bool, _&&_, not, cond}
 use mathlib.Core.List.{List}
 use lib.Dec.{leb, eqb}
 use Rattle.fields.specs.Number.{part}
@@ -18,8 +20,10 @@ use Rattle.dayfile.specs.declared.check.Ranged.{Ranged}
 use Rattle.dayfile.specs.declared.check.Ranged.the-variants.{Within, Outside}
 use Rattle.dayfile.specs.declared.check.Placed.{Placed}
 use Rattle.dayfile.specs.declared.check.Placed.the-variants as placed-is
-use Rattle.dayfile.specs.declared.check.Rows.{Rows}
-use Rattle.dayfile.specs.declared.check.Rows.the-variants as rows-are
+use Rattle.dayfile.specs.declared.check.Enrolled.{Enrolled}
+use Rattle.dayfile.specs.declared.check.Enrolled.the-variants as participants-are
+use Rattle.dayfile.specs.declared.check.Routed.{Routed}
+use Rattle.dayfile.specs.declared.check.Routed.the-variants as routes-are
 
 pub record InRange (n : Sections) : Type 0 where
   pub least : 1 ≤ n .participants
@@ -46,16 +50,15 @@ placed h size =
     placed-is.Right
     placed-is.Wrong
 
-abbrev pub rowed : Bool → Rows
-rowed true = rows-are.Right
-rowed false = rows-are.Wrong
-
 -- 4. Participant row: wrong by itself, or an earlier row's BIC
-abbrev pub participantRight : List ℕ → ℕ → Bool
-participantRight f i = participantOk (12 + 24 * i) f && not (bicAmong 12 24 i (part 11 (12 + 24 * i) f) f)
+abbrev pub participantRight : ℕ → List ℕ → ℕ → Bool
+participantRight start f i = participantOk (start + 24 * i) f && not (bicAmong start 24 i (part 11 (start + 24 * i) f) f)
 
-abbrev pub participantsOk : ℕ → List ℕ → Bool
-participantsOk n f = allTo (participantRight f) n
+abbrev pub participantsOk : ℕ → ℕ → List ℕ → Bool
+participantsOk start n f = allTo (participantRight start f) n
+
+abbrev pub enrolled : ℕ → ℕ → List ℕ → Enrolled
+enrolled start n f = cond (participantsOk start n f) participants-are.Right participants-are.Wrong
 
 -- 5. Route row: wrong by itself, or a BIC that an earlier route row has
 abbrev pub routeRight : ℕ → ℕ → List ℕ → ℕ → Bool
@@ -63,3 +66,6 @@ routeRight size start f i = routeOk size i (start + 16 * i) f && not (bicAmong s
 
 abbrev pub routesOk : ℕ → ℕ → ℕ → List ℕ → Bool
 routesOk size start n f = allTo (routeRight size start f) n
+
+abbrev pub routed : ℕ → ℕ → ℕ → List ℕ → Routed
+routed size start n f = cond (routesOk size start n f) routes-are.Right routes-are.Wrong

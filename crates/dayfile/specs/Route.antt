@@ -1,6 +1,8 @@
 -- Following a payee BIC: 01 'Participants, routes, codes'.
 --     followed      from a row on: the participant reached and the number of rows followed, or Nowhere
 --     followTo      the same in at most n rows
+--     reached       the participant reached, 0 where there is none
+--     rowsFollowed  the number of rows followed, 0 where no participant is reached
 --     rowWith       the row with a BIC
 --     followedBic   from that row on
 -- Assumes nothing.
@@ -19,6 +21,14 @@ use Rattle.dayfile.specs.declared.roster.Route.{Route}
 use Rattle.dayfile.specs.declared.roster.Roster.{Roster}
 use Rattle.dayfile.specs.declared.route.Followed.{Followed}
 use Rattle.dayfile.specs.declared.route.Followed.the-variants.{At, Nowhere}
+
+abbrev pub reached : Followed → ℕ
+reached (At p n) = p
+reached Nowhere = 0
+
+abbrev pub rowsFollowed : Followed → ℕ
+rowsFollowed (At p n) = n
+rowsFollowed Nowhere = 0
 
 abbrev pub oneMore : Followed → Followed
 oneMore (At p n) = At p (n + 1)

@@ -4,7 +4,7 @@ use super::rows;
 ghost use mathlib.Core.Path.{_≡_};
 ghost use Prim.Native.Nat.{_+_, _*_, _≤_};
 ghost use lib.ListN.{length};
-ghost use Rattle.dayfile.specs.Check.{InRange, ranged, placed, rowed, participantsOk, routesOk};
+ghost use Rattle.dayfile.specs.Check.{InRange, ranged, placed, enrolled, routed};
 
 // 2. Participants not 1 to 32, routes above 64 or tickets above 512.
 pub enum Ranged {
@@ -18,8 +18,14 @@ pub enum Placed {
     Wrong,
 }
 
-// 4 and 5. A row that is wrong.
-pub enum Rows {
+// 4. A participant row that is wrong.
+pub enum Enrolled {
+    Right,
+    Wrong,
+}
+
+// 5. A route row that is wrong.
+pub enum Routed {
     Right,
     Wrong,
 }
@@ -51,23 +57,23 @@ pub fn check_places(h: Header, length: usize) -> Placed
     }
 }
 
-pub fn check_participants(n: usize, f: &[u8]) -> Rows
-    requires { ⌜ 12 + 24 * n ≤ length (now f) ⌝ }
-    ensures { λ r. ⌜ r ≡ rowed (participantsOk n (now (f .entry))) ⌝ }
+pub fn check_participants(start: usize, n: usize, f: &[u8]) -> Enrolled
+    requires { ⌜ start + 24 * n ≤ length (now f) ⌝ }
+    ensures { λ r. ⌜ r ≡ enrolled start n (now (f .entry)) ⌝ }
 {
     let mut ok = true;
     let mut i = 0;
     while i < n {
-        let at = 12 + 24 * i;
-        ok = ok & (rows::participant_ok(f, at) & !rows::bic_among(f, 12, 24, i, at));
+        let at = start + 24 * i;
+        ok = ok & (rows::participant_ok(f, at) & !rows::bic_among(f, start, 24, i, at));
         i += 1;
     }
-    if ok { Rows::Right } else { Rows::Wrong }
+    if ok { Enrolled::Right } else { Enrolled::Wrong }
 }
 
-pub fn check_routes(size: usize, start: usize, n: usize, f: &[u8]) -> Rows
+pub fn check_routes(size: usize, start: usize, n: usize, f: &[u8]) -> Routed
     requires { ⌜ start + 16 * n ≤ length (now f) ⌝ }
-    ensures { λ r. ⌜ r ≡ rowed (routesOk size start n (now (f .entry))) ⌝ }
+    ensures { λ r. ⌜ r ≡ routed size start n (now (f .entry)) ⌝ }
 {
     let mut ok = true;
     let mut i = 0;
@@ -76,5 +82,5 @@ pub fn check_routes(size: usize, start: usize, n: usize, f: &[u8]) -> Rows
         ok = ok & (rows::route_ok(f, at, size, i) & !rows::bic_among(f, start, 16, i, at));
         i += 1;
     }
-    if ok { Rows::Right } else { Rows::Wrong }
+    if ok { Routed::Right } else { Routed::Wrong }
 }

@@ -7,9 +7,10 @@ pub mod roster;
 pub mod route;
 mod rows;
 
+use check::Enrolled;
 use check::Placed;
 use check::Ranged;
-use check::Rows;
+use check::Routed;
 use header::Headed;
 use roster::Roster;
 ghost use mathlib.Core.Path.{_≡_};
@@ -51,15 +52,15 @@ pub fn read_day_file(f: &[u8]) -> DayFile
     };
     let n = h.counts;
     let at = h.offsets;
-    let Rows::Right = check::check_participants(n.participants, f) else {
+    let Enrolled::Right = check::check_participants(at.participants, n.participants, f) else {
         return refused(4);
     };
-    let Rows::Right = check::check_routes(n.participants, at.routes, n.routes, f) else {
+    let Routed::Right = check::check_routes(n.participants, at.routes, n.routes, f) else {
         return refused(5);
     };
     DayFile {
         refusal: 0,
-        roster: read::read_roster(n, at.routes, f),
+        roster: read::read_roster(h, f),
         tickets: n.tickets,
         first: at.tickets,
     }

@@ -1,5 +1,5 @@
 // The roster of a file whose rows are right.
-use super::header::Sections;
+use super::header::Header;
 use super::roster::Opening;
 use super::roster::Participant;
 use super::roster::PartyKind;
@@ -10,7 +10,7 @@ ghost use mathlib.Core.Path.{_≡_};
 ghost use Prim.Native.Nat.{_+_, _*_, _≤_};
 ghost use lib.ListN.{length};
 ghost use Rattle.fields.specs.Number.{part};
-ghost use Rattle.dayfile.specs.Roster.{kindOf, openingOf, targetOf, participantAt, routeAt, participantsTo, routesTo, rosterOf, emptyRoster, noParticipant, noRoute};
+ghost use Rattle.dayfile.specs.Roster.{kindOf, openingOf, targetOf, participantAt, routeAt, participantsTo, routesTo, RowsWithin, rosterOf, emptyRoster, noParticipant, noRoute};
 
 fn bic_at(f: &[u8], at: usize) -> [u8; 11]
     requires { ⌜ at + 11 ≤ length (now f) ⌝ }
@@ -92,15 +92,15 @@ fn no_route() -> Route
     }
 }
 
-fn read_participants(n: usize, f: &[u8]) -> [Participant; 32]
-    requires { ⌜ (n ≤ 32) × (12 + 24 * n ≤ length (now f)) ⌝ }
-    ensures { λ r. ⌜ r ≡ participantsTo n (now (f .entry)) ⌝ }
+fn read_participants(start: usize, n: usize, f: &[u8]) -> [Participant; 32]
+    requires { ⌜ (n ≤ 32) × (start + 24 * n ≤ length (now f)) ⌝ }
+    ensures { λ r. ⌜ r ≡ participantsTo start n (now (f .entry)) ⌝ }
 {
     let none = no_participant();
     let mut all = [none; 32];
     let mut i = 0;
     while i < n {
-        all[i] = participant_at(f, 12 + 24 * i);
+        all[i] = participant_at(f, start + 24 * i);
         i += 1;
     }
     all
@@ -120,14 +120,17 @@ fn read_routes(start: usize, n: usize, f: &[u8]) -> [Route; 64]
     all
 }
 
-pub fn read_roster(n: Sections, start: usize, f: &[u8]) -> Roster
-    requires { ⌜ (n .participants ≤ 32) × (12 + 24 * n .participants ≤ length (now f)) × (n .routes ≤ 64) × (start + 16 * n .routes ≤ length (now f)) ⌝ }
-    ensures { λ r. ⌜ r ≡ rosterOf n start (now (f .entry)) ⌝ }
+// The counts are in range and the rows lie within the file.
+pub fn read_roster(h: Header, f: &[u8]) -> Roster
+    requires { ⌜ RowsWithin h (length (now f)) ⌝ }
+    ensures { λ r. ⌜ r ≡ rosterOf h (now (f .entry)) ⌝ }
 {
+    let n = h.counts;
+    let at = h.offsets;
     Roster {
-        participants: read_participants(n.participants, f),
+        participants: read_participants(at.participants, n.participants, f),
         size: n.participants,
-        routes: read_routes(start, n.routes, f),
+        routes: read_routes(at.routes, n.routes, f),
         rows: n.routes,
     }
 }

@@ -12,10 +12,11 @@ use Rattle.ticket.specs.Layout.{senderOf, payeeOf, txidField}
 use Rattle.ticket.specs.Form.{formOf}
 use Rattle.ticket.specs.declared.kinds.Kind.{Kind}
 use Rattle.dayfile.specs.Roster.{participantOf}
+use Rattle.dayfile.specs.Route.{reached}
 use Rattle.dayfile.specs.Guarantee.{Guaranteed}
 use Rattle.dayfile.proofs.Arriving.{bic-arrives}
 use Rattle.rules.specs.Book.{orderOf, coverOf}
-use Rattle.rules.specs.Find.{senderIn, orderIn, routeIn, wayIn, payeeOfWay}
+use Rattle.rules.specs.Find.{senderIn, orderIn, routeIn, wayIn}
 use Rattle.rules.specs.Cover.{total, mostTotal}
 use Rattle.rules.specs.Refusal.{senderNumber, orderNumber, isOrder, isAbout, partyOf, isReady, isReturn, isDrawing, isAdding, refusal12, refusal13, refusal14, refusal15, refusal16, refusal17, refusal18, refusal19, refusal20, refusal22}
 use Rattle.rules.specs.declared.Book.{Book}
@@ -41,7 +42,7 @@ module _ (b : Book) (k : Kind) (t : List ℕ) where
       not-found (λ i. same (orderOf b i .txid) (txidField t)) (b .count) (second (isOrder k) (isFound (orderIn b t)) e is)
 
   -- 14 passed
-  pub payee-known : Guaranteed (b .roster) → refusal14 b k t ≡ false → isOrder k ≡ true → payeeOfWay (wayIn b t) < b .roster .size
+  pub payee-known : Guaranteed (b .roster) → refusal14 b k t ≡ false → isOrder k ≡ true → reached (wayIn b t) < b .roster .size
   unfolding routeIn wayIn
   payee-known g e is =
       let a = bic-arrives (b .roster) g (payeeOf t) (not-false _ (second (isOrder k) (not (isFound (routeIn b t))) e is)) in

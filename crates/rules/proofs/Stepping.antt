@@ -17,9 +17,10 @@ use Rattle.ticket.specs.declared.kinds.Kind.{Kind}
 use Rattle.ticket.specs.declared.kinds.Kind.the-variants as kind
 use Rattle.ticket.proofs.Telling.{Tells, read-tells, listed-txid}
 use Rattle.dayfile.specs.DayFile.{dayFile}
+use Rattle.dayfile.specs.Route.{reached}
 use Rattle.dayfile.proofs.Accepted.{guaranteed}
 use Rattle.rules.specs.Book.{orderOf, bookOf}
-use Rattle.rules.specs.Find.{wayIn, payeeOfWay}
+use Rattle.rules.specs.Find.{wayIn}
 use Rattle.rules.specs.Cover.{total}
 use Rattle.rules.specs.Tell.{Told}
 use Rattle.rules.specs.Tick.{isWaiting, tick}
@@ -61,7 +62,7 @@ module _ (b : Book) (s : Sound b) (n time : ℕ) (t : List ℕ) where
   own-sound kind.CoverOut tells now r =
       keeping.drawn-sound b s (senderNumber b t) (sender-found b kind.CoverOut t (r .r12) refl .below) n (cover-there b kind.CoverOut t n (r .r20) refl)
   own-sound kind.Order tells now r =
-      keeping.new-sound b s (senderNumber b t) (payeeOfWay (wayIn b t)) n time (txidField t)
+      keeping.new-sound b s (senderNumber b t) (reached (wayIn b t)) n time (txidField t)
       (record {
         room = room-left b kind.Order t (r .r15) refl;
         payer = sender-found b kind.Order t (r .r12) refl .below;

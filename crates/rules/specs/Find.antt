@@ -8,7 +8,6 @@ use Rattle.ticket.specs.Layout.{senderOf, payeeOf, txidField}
 use Rattle.dayfile.specs.Roster.{participantOf}
 use Rattle.dayfile.specs.Route.{rowWith, followedBic}
 use Rattle.dayfile.specs.declared.route.Followed.{Followed}
-use Rattle.dayfile.specs.declared.route.Followed.the-variants as followed-is
 use Rattle.rules.specs.Book.{orderOf}
 use Rattle.rules.specs.declared.Book.{Book}
 
@@ -27,12 +26,3 @@ routeIn b t = rowWith (b .roster) (payeeOf t)
 -- where the ticket's payee BIC leads
 unfoldable pub wayIn : Book → List ℕ → Followed
 wayIn b t = followedBic (b .roster) (payeeOf t)
-
--- the payee's bank and the number of rows followed
-abbrev pub payeeOfWay : Followed → ℕ
-payeeOfWay (followed-is.At p rows) = p
-payeeOfWay followed-is.Nowhere = 0
-
-abbrev pub rowsOfWay : Followed → ℕ
-rowsOfWay (followed-is.At p rows) = rows
-rowsOfWay followed-is.Nowhere = 0

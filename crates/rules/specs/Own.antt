@@ -11,12 +11,13 @@ use Rattle.ticket.specs.Layout.{txidField}
 use Rattle.ticket.specs.declared.kinds.Kind.{Kind}
 use Rattle.ticket.specs.declared.kinds.Kind.the-variants as kind
 use Rattle.dayfile.specs.Roster.{participantOf}
+use Rattle.dayfile.specs.Route.{reached, rowsFollowed}
 use Rattle.dayfile.specs.declared.roster.Opening.{Opening}
 use Rattle.dayfile.specs.declared.roster.Opening.the-variants as opening
 use Rattle.dayfile.specs.declared.route.Followed.{Followed}
 use Rattle.report.specs.declared.Report.{Report}
 use Rattle.rules.specs.Book.{orderOf, coverOf, isBank}
-use Rattle.rules.specs.Find.{wayIn, payeeOfWay, rowsOfWay}
+use Rattle.rules.specs.Find.{wayIn}
 use Rattle.rules.specs.Cover.{give, draw, reserve, hold, owe, clear}
 use Rattle.rules.specs.Tell.{Told, tellOrder, tellCut}
 use Rattle.rules.specs.Order.{refused, settled, asked, returned, declined}
@@ -54,9 +55,9 @@ newOrder b payer payee n time txid =
 abbrev pub ordered : Book → ℕ → Followed → ℕ → ℕ → List ℕ → Change
 ordered b payer way n time txid =
     record {
-      book = newOrder b payer (payeeOfWay way) n time txid;
-      reports = record { to = payeeOfWay way; code = 1; order = b .count; amount = n } ∷ [];
-      rows = rowsOfWay way;
+      book = newOrder b payer (reached way) n time txid;
+      reports = record { to = reached way; code = 1; order = b .count; amount = n } ∷ [];
+      rows = rowsFollowed way;
     }
 
 -- Yes to Waiting: report 2 to payer, then to payee if a bank
