@@ -9,12 +9,12 @@ use native.Mathlib.Nat.{not-suc-le-zero}
 use native.Mathlib.Omega.{arith}
 use borrow.Author.Tests.{leb-true, ltb-true, not-true}
 use lib.Dec.{leb, ltb, eqb}
-use lib.ListN.{length, getD, length-replicate}
+use lib.ListN.{length, getD, length-replicate, getD-replicate}
 use Rattle.codes.specs.Bic.{isBic}
 use Rattle.fields.specs.Number.{part, numberAt}
 use Rattle.fields.specs.Text.{blank, same}
 use Rattle.fields.proofs.Tests.{and-left, and-right}
-use Rattle.fields.proofs.UpTo.{all-at, none-at, rows-length, row-at}
+use Rattle.fields.proofs.UpTo.{all-at, none-at, rows-length, row-at, row-past}
 use Rattle.dayfile.specs.Rows.{participantOk, limitOf, routeOk, bicAmong, mostOpening}
 use Rattle.dayfile.specs.Check.{participantRight, routeRight, participantsOk, routesOk}
 use Rattle.dayfile.specs.Roster.{participantAt, routeAt, rosterOf, emptyRoster, noParticipant, noRoute, participantOf, routeOf}
@@ -38,6 +38,8 @@ empty-guaranteed =
       routeBic = λ i h. absurd (not-suc-le-zero h);
       routeDistinct = λ i j l h. absurd (not-suc-le-zero h);
       leads = λ i h. absurd (not-suc-le-zero h);
+      unused = λ p h l. getD-replicate 32 p noParticipant _ l;
+      routeUnused = λ i h l. getD-replicate 64 i noRoute _ l;
     }
 
 -- what a participant row that is right by itself tells
@@ -158,6 +160,8 @@ module _ (h : Header) (f : List ℕ) (few : h .counts .participants ≤ 32) (sho
             rw (route-is i (omega arith), route-is j l)
             (distinct-from (h .offsets .routes) 16 j (routeOk (h .counts .participants) j (route-place j) f) (route-right j l) i b);
         leads = λ i l. rw (route-is i l) (route-leads (h .counts .participants) i (route-place i) f (route-ok i l));
+        unused = λ p b l. row-past 32 noParticipant (λ i. participantAt (participant-place i) f) (h .counts .participants) p _ b l;
+        routeUnused = λ i b l. row-past 64 noRoute (λ j. routeAt (route-place j) f) (h .counts .routes) i _ b l;
       }
 
 -- what the roster of any file guarantees, refused ones included

@@ -1,7 +1,7 @@
 -- What an accepted file guarantees.
 --     OpeningWithin            an opening is none or at most 10^15
 --     LeadsWithin              a target is a participant, or a row below the row's own number
---     Guaranteed               the roster: counts, BICs, openings, where each row points
+--     Guaranteed               the roster: counts, BICs, openings, where each row points; what is not in use is as in the empty roster
 --     GuaranteedFile           the roster, at least one participant, and where the tickets lie
 -- Assumes nothing.
 use Prim.Native.Nat.{ℕ, _+_, _*_, _≤_, _<_}
@@ -12,7 +12,7 @@ use lib.ListN.{length}
 use Rattle.codes.specs.Bic.{isBic}
 use Rattle.fields.specs.Text.{same}
 use Rattle.dayfile.specs.Rows.{mostOpening}
-use Rattle.dayfile.specs.Roster.{participantOf, routeOf}
+use Rattle.dayfile.specs.Roster.{noParticipant, noRoute, participantOf, routeOf}
 use Rattle.dayfile.specs.DayFile.{dayFile}
 use Rattle.dayfile.specs.declared.roster.Opening.{Opening}
 use Rattle.dayfile.specs.declared.roster.Opening.the-variants.{None, Cover}
@@ -39,6 +39,8 @@ pub record Guaranteed (r : Roster) : Type 0 where
   pub routeBic : (i : ℕ) → i < r .rows → isBic (routeOf r i .bic) ≡ true
   pub routeDistinct : (i j : ℕ) → i < j → j < r .rows → same (routeOf r i .bic) (routeOf r j .bic) ≡ false
   pub leads : (i : ℕ) → i < r .rows → LeadsWithin (r .size) i (routeOf r i .target)
+  pub unused : (p : ℕ) → r .size ≤ p → p < 32 → participantOf r p ≡ noParticipant
+  pub routeUnused : (i : ℕ) → r .rows ≤ i → i < 64 → routeOf r i ≡ noRoute
 
 pub record GuaranteedFile (f : List ℕ) : Type 0 where
   pub roster : Guaranteed (dayFile f .roster)
