@@ -1,6 +1,6 @@
 -- An accepted file has what `GuaranteedFile` says; the roster of a refused one has what `Guaranteed` says too.
 -- Assumes nothing.
-use mathlib.Core.Path.{_≡_}
+use mathlib.Core.Path.{_≡_, ap}
 use mathlib.Core.Bool.{Bool, true, false, _&&_, _||_, not, cond}
 use mathlib.Core.List.{List}
 use mathlib.Core.Logic.{⊎-elim}
@@ -15,12 +15,13 @@ use Rattle.fields.specs.Number.{part, numberAt}
 use Rattle.fields.specs.Text.{blank, same}
 use Rattle.fields.proofs.Tests.{and-left, and-right}
 use Rattle.fields.proofs.UpTo.{all-at, none-at, rows-length, row-at, row-past}
-use Rattle.dayfile.specs.Rows.{participantOk, limitOf, routeOk, bicAmong, mostOpening}
+use Rattle.dayfile.specs.Rows.{participantOk, boundOf, routeOk, bicAmong, mostOpening}
 use Rattle.dayfile.specs.Check.{participantRight, routeRight, participantsOk, routesOk}
 use Rattle.dayfile.specs.Roster.{participantAt, routeAt, rosterOf, emptyRoster, noParticipant, noRoute, participantOf, routeOf}
 use Rattle.dayfile.specs.DayFile.{dayFile}
 use Rattle.dayfile.specs.Guarantee.{OpeningWithin, LeadsWithin, Guaranteed, GuaranteedFile}
 use Rattle.dayfile.proofs.Passing.{Accepted, Refused, outcome, accepted}
+use Rattle.dayfile.specs.declared.DayFile.{DayFile}
 use Rattle.dayfile.specs.declared.header.Header.{Header}
 use Rattle.dayfile.specs.declared.roster.Opening.the-variants.{None, Cover}
 use Rattle.dayfile.specs.declared.roster.Target.the-variants.{To, Row}
@@ -80,24 +81,24 @@ module _ (size own at : ℕ) (f : List ℕ) (ok : routeOk size own at f ≡ true
   k : ℕ
   k = numberAt 2 (at + 12) f
 
-  limited : (isBic (part 11 at f) && leb (getD f (at + 11) 0) 1 && ltb k (limitOf (getD f (at + 11) 0) size own)) ≡ true
+  bounded : (isBic (part 11 at f) && leb (getD f (at + 11) 0) 1 && ltb k (boundOf (getD f (at + 11) 0) size own)) ≡ true
   unfolding k
-  limited =
-      and-left (isBic (part 11 at f) && leb (getD f (at + 11) 0) 1 && ltb k (limitOf (getD f (at + 11) 0) size own)) (blank (part 2 (at + 14) f)) ok
+  bounded =
+      and-left (isBic (part 11 at f) && leb (getD f (at + 11) 0) 1 && ltb k (boundOf (getD f (at + 11) 0) size own)) (blank (part 2 (at + 14) f)) ok
 
   route-bic : isBic (part 11 at f) ≡ true
   route-bic =
       and-left (isBic (part 11 at f)) (leb (getD f (at + 11) 0) 1)
-      (and-left (isBic (part 11 at f) && leb (getD f (at + 11) 0) 1) (ltb k (limitOf (getD f (at + 11) 0) size own)) limited)
+      (and-left (isBic (part 11 at f) && leb (getD f (at + 11) 0) 1) (ltb k (boundOf (getD f (at + 11) 0) size own)) bounded)
 
   route-leads : LeadsWithin size own (routeAt at f .target)
   unfolding k
   route-leads = go (eqb (getD f (at + 11) 0) 1) below
     where
-      below : k < limitOf (getD f (at + 11) 0) size own
+      below : k < boundOf (getD f (at + 11) 0) size own
       below =
-          ltb-true k (limitOf (getD f (at + 11) 0) size own)
-          (and-right (isBic (part 11 at f) && leb (getD f (at + 11) 0) 1) (ltb k (limitOf (getD f (at + 11) 0) size own)) limited)
+          ltb-true k (boundOf (getD f (at + 11) 0) size own)
+          (and-right (isBic (part 11 at f) && leb (getD f (at + 11) 0) 1) (ltb k (boundOf (getD f (at + 11) 0) size own)) bounded)
 
       go : (b : Bool) → k < cond b own size → LeadsWithin size own (cond b (Row k) (To k))
       go true h = h
@@ -187,6 +188,14 @@ file-guaranteed f z =
       end = rw (a .file) (omega arith);
     }
 
+-- a file that has tickets is not refused
+pub with-tickets : (f : List ℕ) (k : ℕ) → k < dayFile f .tickets → dayFile f .refusal ≡ 0
+with-tickets f k h =
+    ⊎-elim
+    (λ (a : Accepted f). ap (λ (d : DayFile). d .refusal) (a .file))
+    (λ (r : Refused f). absurd (let none = ap (λ (d : DayFile). d .tickets) (r .file) in omega arith))
+    (outcome f)
+
 -- its tickets lie within it
-pub tickets-within : (f : List ℕ) → dayFile f .refusal ≡ 0 → (k : ℕ) → k < dayFile f .tickets → dayFile f .first + 108 * k + 108 ≤ length f
-tickets-within f z k h = let g = file-guaranteed f z in omega arith
+pub tickets-within : (f : List ℕ) (k : ℕ) → k < dayFile f .tickets → dayFile f .first + 108 * k + 108 ≤ length f
+tickets-within f k h = let g = file-guaranteed f (with-tickets f k h) in omega arith

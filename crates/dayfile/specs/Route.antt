@@ -3,10 +3,11 @@
 --     followTo      the same in at most n rows
 --     reached       the participant reached, 0 where there is none
 --     rowsFollowed  the number of rows followed, 0 where no participant is reached
+--     rowsIn        how many rows are looked at
 --     rowWith       the row with a BIC
 --     followedBic   from that row on
 -- Assumes nothing.
-use Prim.Native.Nat.{ℕ, zero, suc, _+_}
+use Prim.Native.Nat.{ℕ, zero, suc, _+_, min}
 use mathlib.Core.Bool.{Bool, cond}
 use mathlib.Core.List.{List}
 use lib.Dec.{ltb}
@@ -50,9 +51,13 @@ followed routes row = cond (ltb row 64) (followTo (suc row) routes row) Nowhere
 abbrev pub hasBic : List Route → List ℕ → ℕ → Bool
 hasBic routes bic row = same (rowOf routes row .bic) bic
 
+-- how many rows are looked at: all in use, and a roster has room for 64
+abbrev pub rowsIn : Roster → ℕ
+rowsIn r = min 64 (r .rows)
+
 -- the first row with the BIC; in an accepted file no other has it
 abbrev pub rowWith : Roster → List ℕ → Found
-rowWith r bic = firstTo (hasBic (r .routes) bic) (r .rows)
+rowWith r bic = firstTo (hasBic (r .routes) bic) (rowsIn r)
 
 abbrev pub followedFrom : Roster → Found → Followed
 followedFrom r (found.At row) = followed (r .routes) row

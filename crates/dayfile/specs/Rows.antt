@@ -1,6 +1,6 @@
 -- A participant row of 24 bytes and a route row of 16, at a place of the file.
 --     participantOk   all that refusal 4 asks of a row but the earlier rows' BICs
---     limitOf         what a route row's k has to be below
+--     boundOf         what a route row's k has to be below
 --     routeOk         all that refusal 5 asks of a row but the earlier rows' BICs
 --     bicAmong        one of the first n rows of a section has the BIC
 -- Assumes nothing.
@@ -28,15 +28,15 @@ participantOk at f =
     && blank (part 3 (at + 21) f)
 
 -- a row's k is below the participant count, or with kind 1 below the row's own number
-abbrev pub limitOf : ℕ → ℕ → ℕ → ℕ
-limitOf kind size own = cond (eqb kind 1) own size
+abbrev pub boundOf : ℕ → ℕ → ℕ → ℕ
+boundOf kind size own = cond (eqb kind 1) own size
 
 -- BIC, kind (0 participant, 1 row), k (2), two zero
 abbrev pub routeOk : ℕ → ℕ → ℕ → List ℕ → Bool
 routeOk size own at f =
     isBic (part 11 at f)
     && leb (getD f (at + 11) 0) 1
-    && ltb (numberAt 2 (at + 12) f) (limitOf (getD f (at + 11) 0) size own)
+    && ltb (numberAt 2 (at + 12) f) (boundOf (getD f (at + 11) 0) size own)
     && blank (part 2 (at + 14) f)
 
 abbrev pub bicAmong : ℕ → ℕ → ℕ → List ℕ → List ℕ → Bool

@@ -14,10 +14,8 @@ use check::Routed;
 use header::Headed;
 use roster::Roster;
 ghost use mathlib.Core.Path.{_≡_};
-ghost use Prim.Native.Nat.{_+_, _*_, _≤_};
-ghost use lib.ListN.{length};
-ghost use Rattle.fields.specs.Number.{part};
-ghost use Rattle.dayfile.specs.DayFile.{dayFile, refusedFile};
+ghost use Prim.Native.Nat.{_<_};
+ghost use Rattle.dayfile.specs.DayFile.{dayFile, refusedFile, ticketAt};
 
 // What a day file gives: the refusal, 0 if none; the roster, empty if refused; how many tickets there are and where the first lies.
 pub struct DayFile {
@@ -66,10 +64,10 @@ pub fn read_day_file(f: &[u8]) -> DayFile
     }
 }
 
-// Ticket k of an accepted file, as the file's own bytes, where first is the place of the first.
+// Ticket k of a file, as the file's own bytes, where first is the place that the file gives for the first.
 pub fn ticket(f: &[u8], first: usize, k: usize) -> &[u8]
-    requires { ⌜ first + 108 * k + 108 ≤ length (now f) ⌝ }
-    ensures { λ r. ⌜ now r ≡ part 108 (first + 108 * k) (now (f .entry)) ⌝ }
+    requires { ⌜ (first ≡ dayFile (now f) .first) × (k < dayFile (now f) .tickets) ⌝ }
+    ensures { λ r. ⌜ now r ≡ ticketAt (now (f .entry)) k ⌝ }
 {
     let at = first + 108 * k;
     &f[at..at + 108]

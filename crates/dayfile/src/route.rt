@@ -4,9 +4,8 @@ use super::roster::Route;
 use super::roster::Target;
 use fields::Found;
 ghost use mathlib.Core.Path.{_≡_};
-ghost use Prim.Native.Nat.{_≤_};
 ghost use Rattle.fields.specs.Text.{same};
-ghost use Rattle.dayfile.specs.Route.{followed, rowWith, followedBic};
+ghost use Rattle.dayfile.specs.Route.{followed, rowsIn, rowWith, followedBic};
 
 // The participant reached and the number of rows followed.
 pub enum Followed {
@@ -43,12 +42,19 @@ fn has_bic(route: Route, bic: &[u8]) -> bool
     fields::same_bytes(&own, bic)
 }
 
-// The row with a BIC. A roster that was read from a file has at most 64 rows.
-pub fn row_with(r: Roster, bic: &[u8]) -> Found
-    requires { ⌜ r .rows ≤ 64 ⌝ }
-    ensures { λ q. ⌜ q ≡ rowWith r (now (bic .entry)) ⌝ }
+// How many rows are looked at: all in use, and a roster has room for 64.
+fn rows_in(r: Roster) -> usize
+    ensures { λ n. ⌜ n ≡ rowsIn r ⌝ }
 {
     let rows = r.rows;
+    if 64 <= rows { 64 } else { rows }
+}
+
+// The first row with a BIC.
+pub fn row_with(r: Roster, bic: &[u8]) -> Found
+    ensures { λ q. ⌜ q ≡ rowWith r (now (bic .entry)) ⌝ }
+{
+    let rows = rows_in(r);
     let routes = r.routes;
     let mut found = Found::Nothing;
     let mut i = 0;
@@ -60,7 +66,6 @@ pub fn row_with(r: Roster, bic: &[u8]) -> Found
 }
 
 pub fn follow_bic(r: Roster, bic: &[u8]) -> Followed
-    requires { ⌜ r .rows ≤ 64 ⌝ }
     ensures { λ q. ⌜ q ≡ followedBic r (now (bic .entry)) ⌝ }
 {
     let Found::At(row) = row_with(r, bic) else {

@@ -7,7 +7,7 @@ use native.Mathlib.Omega.{arith}
 use denote.Ref.{now}
 use lib.ListN.{length}
 use Rattle.dayfile.specs.Header.{headed}
-use Rattle.dayfile.specs.Check.{InRange, ranged, placed}
+use Rattle.dayfile.specs.Check.{InRange, ranged, placed, routed}
 use Rattle.dayfile.specs.DayFile.{dayFile, fileHeaded, fileRanged, filePlaced, fileEnrolled, fileRouted}
 use Rattle.dayfile.specs.declared.header.Header.{Header}
 use Rattle.dayfile.specs.declared.header.Headed.the-variants.{As}
@@ -61,7 +61,7 @@ from-routes c =
     let k = p .before .before .before .before .before .before .before .before in
     from-participants p
     ∙ ap (fileEnrolled (header k) (given k)) (c .before .enum-told6 .given .1)
-    ∙ ap (fileRouted (header k) (given k)) (sym (c .check-routes .ensures))
+    ∙ ap (fileRouted (header k) (given k)) {x = routed (header k .counts .participants) (header k .offsets .routes) (header k .counts .routes) (given k)} (sym (c .check-routes .ensures))
 
 pub read-day-file-spec : {M : Type 1} → statement M
 unfolding dayFile
