@@ -15,7 +15,8 @@ use Rattle.fields.specs.Number.{part, numberAt}
 use Rattle.fields.specs.Text.{blank, same}
 use Rattle.fields.proofs.Tests.{and-left, and-right}
 use Rattle.fields.proofs.UpTo.{all-at, none-at, rows-length, row-at, row-past}
-use Rattle.dayfile.specs.Rows.{participantOk, boundOf, routeOk, bicAmong, mostOpening}
+use Rattle.dayfile.specs.Limits.{mostOpening}
+use Rattle.dayfile.specs.Rows.{participantOk, boundOf, routeOk, bicAmong}
 use Rattle.dayfile.specs.Check.{participantRight, routeRight, participantsOk, routesOk}
 use Rattle.dayfile.specs.Roster.{participantAt, routeAt, rosterOf, emptyRoster, noParticipant, noRoute, participantOf, routeOf}
 use Rattle.dayfile.specs.DayFile.{dayFile}

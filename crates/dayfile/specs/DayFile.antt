@@ -7,6 +7,7 @@ use Prim.Native.Nat.{ℕ, _+_, _*_}
 use mathlib.Core.List.{List}
 use lib.ListN.{length}
 use Rattle.fields.specs.Number.{part}
+use Rattle.ticket.specs.Layout.{ticketLength}
 use Rattle.dayfile.specs.Header.{headed}
 use Rattle.dayfile.specs.Check.{ranged, placed, enrolled, routed}
 use Rattle.dayfile.specs.Roster.{rosterOf, emptyRoster}
@@ -57,4 +58,4 @@ dayFile f = fileHeaded f (headed f)
 
 -- 01: sections follow with no gap
 abbrev pub ticketAt : List ℕ → ℕ → List ℕ
-ticketAt f k = part 108 (dayFile f .first + 108 * k) f
+ticketAt f k = part ticketLength (dayFile f .first + ticketLength * k) f

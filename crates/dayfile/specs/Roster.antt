@@ -15,6 +15,7 @@ use lib.Dec.{eqb}
 use lib.ListN.{getD, replicate}
 use Rattle.fields.specs.Number.{part, numberAt}
 use Rattle.fields.specs.UpTo.{rowsTo}
+use Rattle.dayfile.specs.Limits.{mostParticipants, mostRoutes, participantLength, routeLength}
 use Rattle.dayfile.specs.declared.header.Header.{Header}
 use Rattle.dayfile.specs.declared.roster.PartyKind.{PartyKind}
 use Rattle.dayfile.specs.declared.roster.PartyKind.the-variants.{Bank, Linked}
@@ -60,16 +61,16 @@ abbrev pub noRoute : Route
 noRoute = record { bic = replicate 11 0; target = To 0 }
 
 abbrev pub participantsTo : ℕ → ℕ → List ℕ → List Participant
-participantsTo start n f = rowsTo 32 noParticipant (λ i. participantAt (start + 24 * i) f) n
+participantsTo start n f = rowsTo mostParticipants noParticipant (λ i. participantAt (start + participantLength * i) f) n
 
 abbrev pub routesTo : ℕ → ℕ → List ℕ → List Route
-routesTo start n f = rowsTo 64 noRoute (λ i. routeAt (start + 16 * i) f) n
+routesTo start n f = rowsTo mostRoutes noRoute (λ i. routeAt (start + routeLength * i) f) n
 
 pub record RowsWithin (h : Header) (length : ℕ) : Type 0 where
-  pub few : h .counts .participants ≤ 32
-  pub participants : h .offsets .participants + 24 * h .counts .participants ≤ length
-  pub short : h .counts .routes ≤ 64
-  pub routes : h .offsets .routes + 16 * h .counts .routes ≤ length
+  pub few : h .counts .participants ≤ mostParticipants
+  pub participants : h .offsets .participants + participantLength * h .counts .participants ≤ length
+  pub short : h .counts .routes ≤ mostRoutes
+  pub routes : h .offsets .routes + routeLength * h .counts .routes ≤ length
 
 abbrev pub rosterOf : Header → List ℕ → Roster
 rosterOf h f =
@@ -81,7 +82,7 @@ rosterOf h f =
     }
 
 abbrev pub emptyRoster : Roster
-emptyRoster = record { participants = replicate 32 noParticipant; size = 0; routes = replicate 64 noRoute; rows = 0 }
+emptyRoster = record { participants = replicate mostParticipants noParticipant; size = 0; routes = replicate mostRoutes noRoute; rows = 0 }
 
 abbrev pub participantOf : Roster → ℕ → Participant
 participantOf r p = getD (r .participants) p (record { bic = []; kind = Bank; opening = None })

@@ -15,6 +15,7 @@ use Rattle.fields.specs.Text.{same}
 use Rattle.fields.specs.Search.{firstTo}
 use Rattle.fields.specs.declared.search.Found.{Found}
 use Rattle.fields.specs.declared.search.Found.the-variants as found
+use Rattle.dayfile.specs.Limits.{mostRoutes}
 use Rattle.dayfile.specs.Roster.{rowOf}
 use Rattle.dayfile.specs.declared.roster.Target.{Target}
 use Rattle.dayfile.specs.declared.roster.Target.the-variants.{To, Row}
@@ -44,16 +45,16 @@ abbrev pub followTo : ℕ → List Route → ℕ → Followed
 followTo zero routes row = Nowhere
 followTo (suc n) routes row = leads (λ k. followTo n routes k) row (rowOf routes row .target)
 
--- a row is followed in no more rows than its number and itself; there are 64 rows
+-- a row is followed in no more rows than its number and itself; a roster has room for 64 rows
 unfoldable pub followed : List Route → ℕ → Followed
-followed routes row = cond (ltb row 64) (followTo (suc row) routes row) Nowhere
+followed routes row = cond (ltb row mostRoutes) (followTo (suc row) routes row) Nowhere
 
 abbrev pub hasBic : List Route → List ℕ → ℕ → Bool
 hasBic routes bic row = same (rowOf routes row .bic) bic
 
 -- how many rows are looked at: all in use, and a roster has room for 64
 abbrev pub rowsIn : Roster → ℕ
-rowsIn r = min 64 (r .rows)
+rowsIn r = min mostRoutes (r .rows)
 
 -- the first row with the BIC; in an accepted file no other has it
 abbrev pub rowWith : Roster → List ℕ → Found

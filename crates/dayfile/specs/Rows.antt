@@ -13,9 +13,7 @@ use Rattle.codes.specs.Bic.{isBic}
 use Rattle.fields.specs.Number.{part, numberAt}
 use Rattle.fields.specs.Text.{blank, same}
 use Rattle.fields.specs.UpTo.{anyTo}
-
-abbrev pub mostOpening : ℕ
-mostOpening = 1_000_000_000_000_000
+use Rattle.dayfile.specs.Limits.{mostOpening}
 
 -- BIC, kind, opening (8), wish 0 or 1, three zero. Kind and wish at most 1, opening at most 10^15 and zero without the wish
 abbrev pub participantOk : ℕ → List ℕ → Bool

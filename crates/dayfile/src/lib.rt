@@ -2,6 +2,7 @@
 // Any bytes of any length may be handed in.
 mod check;
 mod header;
+pub mod limits;
 mod read;
 pub mod roster;
 pub mod route;
@@ -69,6 +70,6 @@ pub fn ticket(f: &[u8], first: usize, k: usize) -> &[u8]
     requires { ⌜ (first ≡ dayFile (now f) .first) × (k < dayFile (now f) .tickets) ⌝ }
     ensures { λ r. ⌜ now r ≡ ticketAt (now (f .entry)) k ⌝ }
 {
-    let at = first + 108 * k;
-    &f[at..at + 108]
+    let at = first + limits::TICKET_LENGTH * k;
+    &f[at..at + limits::TICKET_LENGTH]
 }

@@ -1,4 +1,5 @@
 // Following a payee BIC: from the row with that BIC on, until a participant is reached. The row number falls at each call.
+use super::limits;
 use super::roster::Roster;
 use super::roster::Route;
 use super::roster::Target;
@@ -13,10 +14,10 @@ pub enum Followed {
     Nowhere,
 }
 
-pub fn follow(routes: [Route; 64], row: usize) -> Followed
+pub fn follow(routes: [Route; limits::MOST_ROUTES], row: usize) -> Followed
     ensures { λ r. ⌜ r ≡ followed routes row ⌝ }
 {
-    if 64 <= row {
+    if limits::MOST_ROUTES <= row {
         return Followed::Nowhere;
     }
     let route = routes[row];
@@ -47,7 +48,11 @@ fn rows_in(r: Roster) -> usize
     ensures { λ n. ⌜ n ≡ rowsIn r ⌝ }
 {
     let rows = r.rows;
-    if 64 <= rows { 64 } else { rows }
+    if limits::MOST_ROUTES <= rows {
+        limits::MOST_ROUTES
+    } else {
+        rows
+    }
 }
 
 // The first row with a BIC.

@@ -1,16 +1,15 @@
 // Whether a participant row and a route row are right by themselves, and whether an earlier row has a BIC.
+use super::limits;
 ghost use mathlib.Core.Path.{_≡_};
 ghost use Prim.Native.Nat.{_+_, _*_, _≤_};
 ghost use lib.ListN.{length};
 ghost use Rattle.fields.specs.Number.{part};
 ghost use Rattle.fields.specs.Text.{same};
+ghost use Rattle.dayfile.specs.Limits.{participantLength, routeLength};
 ghost use Rattle.dayfile.specs.Rows.{participantOk, boundOf, routeOk, bicAmong};
 
-// 01: an opening is at most 10^15
-const MOST_OPENING: u64 = 1000000000000000;
-
 pub fn participant_ok(f: &[u8], at: usize) -> bool
-    requires { ⌜ at + 24 ≤ length (now f) ⌝ }
+    requires { ⌜ at + participantLength ≤ length (now f) ⌝ }
     ensures { λ r. ⌜ r ≡ participantOk at (now (f .entry)) ⌝ }
 {
     let bic = codes::zolfigar_bic_ok(&f[at..at + 11]) == 1;
@@ -21,7 +20,7 @@ pub fn participant_ok(f: &[u8], at: usize) -> bool
     bic
         & (kind <= 1)
         & (wish <= 1)
-        & (opening <= MOST_OPENING)
+        & (opening <= limits::MOST_OPENING)
         & ((wish == 1) | (opening == 0))
         & spare
 }
@@ -34,7 +33,7 @@ fn bound_of(kind: u8, size: usize, own: usize) -> usize
 }
 
 pub fn route_ok(f: &[u8], at: usize, size: usize, own: usize) -> bool
-    requires { ⌜ at + 16 ≤ length (now f) ⌝ }
+    requires { ⌜ at + routeLength ≤ length (now f) ⌝ }
     ensures { λ r. ⌜ r ≡ routeOk size own at (now (f .entry)) ⌝ }
 {
     let bic = codes::zolfigar_bic_ok(&f[at..at + 11]) == 1;

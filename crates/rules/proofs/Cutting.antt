@@ -9,7 +9,7 @@ use lib.Seq.{getD-set-other}
 use Rattle.fields.specs.UpTo.{anyTo}
 use Rattle.fields.proofs.Tests.{or-left, or-right}
 use Rattle.fields.proofs.UpTo.{none-at}
-use Rattle.dayfile.specs.Rows.{mostOpening}
+use Rattle.dayfile.specs.Limits.{mostOpening}
 use Rattle.dayfile.specs.Roster.{participantOf}
 use Rattle.dayfile.specs.Guarantee.{OpeningWithin}
 use Rattle.dayfile.specs.declared.roster.Opening.{Opening}

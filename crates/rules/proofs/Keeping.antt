@@ -10,7 +10,7 @@ use native.Mathlib.Omega.{arith}
 use borrow.Author.Tests.{eq-eqb, ne-eqb}
 use lib.ListN.{set, replicate, length-replicate, getD-replicate}
 use Rattle.fields.proofs.UpTo.{sum-zero}
-use Rattle.dayfile.specs.Rows.{mostOpening}
+use Rattle.dayfile.specs.Limits.{mostOpening}
 use Rattle.dayfile.specs.Guarantee.{Guaranteed}
 use Rattle.dayfile.specs.declared.roster.Roster.{Roster}
 use Rattle.rules.specs.Book.{noOrder, noCover, unusedOrder, orderOf, coverOf, freshBook}

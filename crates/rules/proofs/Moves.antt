@@ -7,7 +7,7 @@ use native.Mathlib.Omega.{arith}
 use lib.ListN.{length, set, length-set}
 use lib.Seq.{getD-set-same, getD-set-other}
 use Rattle.fields.proofs.UpTo.{sum-change}
-use Rattle.dayfile.specs.Rows.{mostOpening}
+use Rattle.dayfile.specs.Limits.{mostOpening}
 use Rattle.rules.specs.Book.{noCover}
 use Rattle.rules.specs.Cover.{at, give, draw, reserve, release, spend, hold, owe, clear, whole, totalOf}
 use Rattle.rules.specs.Sound.{CoversSound}

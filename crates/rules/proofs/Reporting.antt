@@ -17,7 +17,7 @@ use Rattle.ticket.specs.declared.kinds.Kind.the-variants as kind
 use Rattle.ticket.proofs.Telling.{Tells, read-tells}
 use Rattle.report.specs.Layout.{Fitting, AllFitting}
 use Rattle.report.specs.declared.Report.{Report}
-use Rattle.dayfile.specs.Rows.{mostOpening}
+use Rattle.dayfile.specs.Limits.{mostOpening}
 use Rattle.dayfile.specs.Roster.{participantOf}
 use Rattle.dayfile.specs.Guarantee.{OpeningWithin}
 use Rattle.dayfile.specs.declared.roster.Opening.{Opening}

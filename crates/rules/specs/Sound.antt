@@ -16,7 +16,7 @@ use Rattle.codes.specs.Txid.{isTxid}
 use Rattle.fields.specs.Text.{same, unpadded}
 use Rattle.fields.specs.UpTo.{sumTo}
 use Rattle.ticket.specs.Form.{mostOrder}
-use Rattle.dayfile.specs.Rows.{mostOpening}
+use Rattle.dayfile.specs.Limits.{mostOpening}
 use Rattle.dayfile.specs.Guarantee.{Guaranteed}
 use Rattle.rules.specs.Book.{noOrder, noCover, unusedOrder}
 use Rattle.rules.specs.Cover.{at, total, mostTotal}
