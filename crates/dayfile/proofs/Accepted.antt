@@ -1,6 +1,6 @@
 -- An accepted file has what `GuaranteedFile` says; the roster of a refused one has what `Guaranteed` says too.
 -- Assumes nothing.
-use mathlib.Core.Path.{_≡_}
+use mathlib.Core.Path.{_≡_, ap}
 use mathlib.Core.Bool.{Bool, true, false, _&&_, _||_, not, cond}
 use mathlib.Core.List.{List}
 use mathlib.Core.Logic.{⊎-elim}
@@ -9,19 +9,21 @@ use native.Mathlib.Nat.{not-suc-le-zero}
 use native.Mathlib.Omega.{arith}
 use borrow.Author.Tests.{leb-true, ltb-true, not-true}
 use lib.Dec.{leb, ltb, eqb}
-use lib.ListN.{length, getD, length-replicate}
+use lib.ListN.{length, getD, length-replicate, getD-replicate}
 use Rattle.codes.specs.Bic.{isBic}
 use Rattle.fields.specs.Number.{part, numberAt}
 use Rattle.fields.specs.Text.{blank, same}
 use Rattle.fields.proofs.Tests.{and-left, and-right}
-use Rattle.fields.proofs.UpTo.{all-at, none-at, rows-length, row-at}
-use Rattle.dayfile.specs.Rows.{participantOk, limitOf, routeOk, bicAmong, mostOpening}
+use Rattle.fields.proofs.UpTo.{all-at, none-at, rows-length, row-at, row-past}
+use Rattle.dayfile.specs.Limits.{mostOpening}
+use Rattle.dayfile.specs.Rows.{participantOk, boundOf, routeOk, bicAmong}
 use Rattle.dayfile.specs.Check.{participantRight, routeRight, participantsOk, routesOk}
 use Rattle.dayfile.specs.Roster.{participantAt, routeAt, rosterOf, emptyRoster, noParticipant, noRoute, participantOf, routeOf}
 use Rattle.dayfile.specs.DayFile.{dayFile}
 use Rattle.dayfile.specs.Guarantee.{OpeningWithin, LeadsWithin, Guaranteed, GuaranteedFile}
 use Rattle.dayfile.proofs.Passing.{Accepted, Refused, outcome, accepted}
-use Rattle.dayfile.specs.declared.header.Sections.{Sections}
+use Rattle.dayfile.specs.declared.DayFile.{DayFile}
+use Rattle.dayfile.specs.declared.header.Header.{Header}
 use Rattle.dayfile.specs.declared.roster.Opening.the-variants.{None, Cover}
 use Rattle.dayfile.specs.declared.roster.Target.the-variants.{To, Row}
 
@@ -38,6 +40,8 @@ empty-guaranteed =
       routeBic = λ i h. absurd (not-suc-le-zero h);
       routeDistinct = λ i j l h. absurd (not-suc-le-zero h);
       leads = λ i h. absurd (not-suc-le-zero h);
+      unused = λ p h l. getD-replicate 32 p noParticipant _ l;
+      routeUnused = λ i h l. getD-replicate 64 i noRoute _ l;
     }
 
 -- what a participant row that is right by itself tells
@@ -78,49 +82,59 @@ module _ (size own at : ℕ) (f : List ℕ) (ok : routeOk size own at f ≡ true
   k : ℕ
   k = numberAt 2 (at + 12) f
 
-  limited : (isBic (part 11 at f) && leb (getD f (at + 11) 0) 1 && ltb k (limitOf (getD f (at + 11) 0) size own)) ≡ true
+  bounded : (isBic (part 11 at f) && leb (getD f (at + 11) 0) 1 && ltb k (boundOf (getD f (at + 11) 0) size own)) ≡ true
   unfolding k
-  limited =
-      and-left (isBic (part 11 at f) && leb (getD f (at + 11) 0) 1 && ltb k (limitOf (getD f (at + 11) 0) size own)) (blank (part 2 (at + 14) f)) ok
+  bounded =
+      and-left (isBic (part 11 at f) && leb (getD f (at + 11) 0) 1 && ltb k (boundOf (getD f (at + 11) 0) size own)) (blank (part 2 (at + 14) f)) ok
 
   route-bic : isBic (part 11 at f) ≡ true
   route-bic =
       and-left (isBic (part 11 at f)) (leb (getD f (at + 11) 0) 1)
-      (and-left (isBic (part 11 at f) && leb (getD f (at + 11) 0) 1) (ltb k (limitOf (getD f (at + 11) 0) size own)) limited)
+      (and-left (isBic (part 11 at f) && leb (getD f (at + 11) 0) 1) (ltb k (boundOf (getD f (at + 11) 0) size own)) bounded)
 
   route-leads : LeadsWithin size own (routeAt at f .target)
   unfolding k
   route-leads = go (eqb (getD f (at + 11) 0) 1) below
     where
-      below : k < limitOf (getD f (at + 11) 0) size own
+      below : k < boundOf (getD f (at + 11) 0) size own
       below =
-          ltb-true k (limitOf (getD f (at + 11) 0) size own)
-          (and-right (isBic (part 11 at f) && leb (getD f (at + 11) 0) 1) (ltb k (limitOf (getD f (at + 11) 0) size own)) limited)
+          ltb-true k (boundOf (getD f (at + 11) 0) size own)
+          (and-right (isBic (part 11 at f) && leb (getD f (at + 11) 0) 1) (ltb k (boundOf (getD f (at + 11) 0) size own)) bounded)
 
       go : (b : Bool) → k < cond b own size → LeadsWithin size own (cond b (Row k) (To k))
       go true h = h
       go false h = h
 
 -- the roster of rows that are right
-module _ (n : Sections) (start : ℕ) (f : List ℕ) (few : n .participants ≤ 32) (short : n .routes ≤ 64)
-    (participants : participantsOk (n .participants) f ≡ true) (routes : routesOk (n .participants) start (n .routes) f ≡ true) where
-  participant-is : (p : ℕ) → p < n .participants → participantOf (rosterOf n start f) p ≡ participantAt (12 + 24 * p) f
-  participant-is p h = row-at 32 noParticipant (λ i. participantAt (12 + 24 * i) f) (n .participants) p _ h few
+module _ (h : Header) (f : List ℕ) (few : h .counts .participants ≤ 32) (short : h .counts .routes ≤ 64)
+    (participants : participantsOk (h .offsets .participants) (h .counts .participants) f ≡ true)
+    (routes : routesOk (h .counts .participants) (h .offsets .routes) (h .counts .routes) f ≡ true) where
+  -- where a row lies
+  abbrev participant-place : ℕ → ℕ
+  participant-place p = h .offsets .participants + 24 * p
 
-  route-is : (i : ℕ) → i < n .routes → routeOf (rosterOf n start f) i ≡ routeAt (start + 16 * i) f
-  route-is i h = row-at 64 noRoute (λ j. routeAt (start + 16 * j) f) (n .routes) i _ h short
+  abbrev route-place : ℕ → ℕ
+  route-place i = h .offsets .routes + 16 * i
 
-  participant-right : (p : ℕ) → p < n .participants → participantRight f p ≡ true
-  participant-right p h = all-at (participantRight f) (n .participants) p participants h
+  participant-is : (p : ℕ) → p < h .counts .participants → participantOf (rosterOf h f) p ≡ participantAt (participant-place p) f
+  participant-is p l = row-at 32 noParticipant (λ i. participantAt (participant-place i) f) (h .counts .participants) p _ l few
 
-  participant-ok : (p : ℕ) → p < n .participants → participantOk (12 + 24 * p) f ≡ true
-  participant-ok p h = and-left (participantOk (12 + 24 * p) f) (not (bicAmong 12 24 p (part 11 (12 + 24 * p) f) f)) (participant-right p h)
+  route-is : (i : ℕ) → i < h .counts .routes → routeOf (rosterOf h f) i ≡ routeAt (route-place i) f
+  route-is i l = row-at 64 noRoute (λ j. routeAt (route-place j) f) (h .counts .routes) i _ l short
 
-  route-right : (i : ℕ) → i < n .routes → routeRight (n .participants) start f i ≡ true
-  route-right i h = all-at (routeRight (n .participants) start f) (n .routes) i routes h
+  participant-right : (p : ℕ) → p < h .counts .participants → participantRight (h .offsets .participants) f p ≡ true
+  participant-right p l = all-at (participantRight (h .offsets .participants) f) (h .counts .participants) p participants l
 
-  route-ok : (i : ℕ) → i < n .routes → routeOk (n .participants) i (start + 16 * i) f ≡ true
-  route-ok i h = and-left (routeOk (n .participants) i (start + 16 * i) f) (not (bicAmong start 16 i (part 11 (start + 16 * i) f) f)) (route-right i h)
+  participant-ok : (p : ℕ) → p < h .counts .participants → participantOk (participant-place p) f ≡ true
+  participant-ok p l =
+      and-left (participantOk (participant-place p) f) (not (bicAmong (h .offsets .participants) 24 p (part 11 (participant-place p) f) f)) (participant-right p l)
+
+  route-right : (i : ℕ) → i < h .counts .routes → routeRight (h .counts .participants) (h .offsets .routes) f i ≡ true
+  route-right i l = all-at (routeRight (h .counts .participants) (h .offsets .routes) f) (h .counts .routes) i routes l
+
+  route-ok : (i : ℕ) → i < h .counts .routes → routeOk (h .counts .participants) i (route-place i) f ≡ true
+  route-ok i l =
+      and-left (routeOk (h .counts .participants) i (route-place i) f) (not (bicAmong (h .offsets .routes) 16 i (part 11 (route-place i) f) f)) (route-right i l)
 
   -- no earlier row of a section has the BIC
   distinct-from : (from width q : ℕ) (ok : Bool) → (ok && not (bicAmong from width q (part 11 (from + width * q) f) f)) ≡ true
@@ -129,23 +143,27 @@ module _ (n : Sections) (start : ℕ) (f : List ℕ) (few : n .participants ≤ 
       none-at (λ j. same (part 11 (from + width * j) f) (part 11 (from + width * q) f)) q p
       (not-true _ (and-right ok (not (bicAmong from width q (part 11 (from + width * q) f) f)) e)) l
 
-  pub roster-guaranteed : Guaranteed (rosterOf n start f)
+  pub roster-guaranteed : Guaranteed (rosterOf h f)
   roster-guaranteed =
       record {
         size = few;
         rows = short;
-        participants = rows-length 32 noParticipant (λ i. participantAt (12 + 24 * i) f) (n .participants);
-        routes = rows-length 64 noRoute (λ i. routeAt (start + 16 * i) f) (n .routes);
-        bic = λ p h. rw (participant-is p h) (participant-bic (12 + 24 * p) f (participant-ok p h));
+        participants = rows-length 32 noParticipant (λ i. participantAt (participant-place i) f) (h .counts .participants);
+        routes = rows-length 64 noRoute (λ i. routeAt (route-place i) f) (h .counts .routes);
+        bic = λ p l. rw (participant-is p l) (participant-bic (participant-place p) f (participant-ok p l));
         distinct =
-            λ p q l h.
-            rw (participant-is p (omega arith), participant-is q h) (distinct-from 12 24 q (participantOk (12 + 24 * q) f) (participant-right q h) p l);
-        opening = λ p h. rw (participant-is p h) (participant-opening (12 + 24 * p) f (participant-ok p h));
-        routeBic = λ i h. rw (route-is i h) (route-bic (n .participants) i (start + 16 * i) f (route-ok i h));
+            λ p q b l.
+            rw (participant-is p (omega arith), participant-is q l)
+            (distinct-from (h .offsets .participants) 24 q (participantOk (participant-place q) f) (participant-right q l) p b);
+        opening = λ p l. rw (participant-is p l) (participant-opening (participant-place p) f (participant-ok p l));
+        routeBic = λ i l. rw (route-is i l) (route-bic (h .counts .participants) i (route-place i) f (route-ok i l));
         routeDistinct =
-            λ i j l h.
-            rw (route-is i (omega arith), route-is j h) (distinct-from start 16 j (routeOk (n .participants) j (start + 16 * j) f) (route-right j h) i l);
-        leads = λ i h. rw (route-is i h) (route-leads (n .participants) i (start + 16 * i) f (route-ok i h));
+            λ i j b l.
+            rw (route-is i (omega arith), route-is j l)
+            (distinct-from (h .offsets .routes) 16 j (routeOk (h .counts .participants) j (route-place j) f) (route-right j l) i b);
+        leads = λ i l. rw (route-is i l) (route-leads (h .counts .participants) i (route-place i) f (route-ok i l));
+        unused = λ p b l. row-past 32 noParticipant (λ i. participantAt (participant-place i) f) (h .counts .participants) p _ b l;
+        routeUnused = λ i b l. row-past 64 noRoute (λ j. routeAt (route-place j) f) (h .counts .routes) i _ b l;
       }
 
 -- what the roster of any file guarantees, refused ones included
@@ -154,7 +172,7 @@ guaranteed f =
     ⊎-elim
     (λ (a : Accepted f).
     let h = a .header in
-    rw (a .file) (roster-guaranteed (h .counts) (h .offsets .routes) f (a .range .participants) (a .range .routes) (a .participants) (a .routes)))
+    rw (a .file) (roster-guaranteed h f (a .range .participants) (a .range .routes) (a .participants) (a .routes)))
     (λ (r : Refused f). rw (r .file) empty-guaranteed)
     (outcome f)
 
@@ -171,6 +189,14 @@ file-guaranteed f z =
       end = rw (a .file) (omega arith);
     }
 
+-- a file that has tickets is not refused
+pub with-tickets : (f : List ℕ) (k : ℕ) → k < dayFile f .tickets → dayFile f .refusal ≡ 0
+with-tickets f k h =
+    ⊎-elim
+    (λ (a : Accepted f). ap (λ (d : DayFile). d .refusal) (a .file))
+    (λ (r : Refused f). absurd (let none = ap (λ (d : DayFile). d .tickets) (r .file) in omega arith))
+    (outcome f)
+
 -- its tickets lie within it
-pub tickets-within : (f : List ℕ) → dayFile f .refusal ≡ 0 → (k : ℕ) → k < dayFile f .tickets → dayFile f .first + 108 * k + 108 ≤ length f
-tickets-within f z k h = let g = file-guaranteed f z in omega arith
+pub tickets-within : (f : List ℕ) (k : ℕ) → k < dayFile f .tickets → dayFile f .first + 108 * k + 108 ≤ length f
+tickets-within f k h = let g = file-guaranteed f (with-tickets f k h) in omega arith

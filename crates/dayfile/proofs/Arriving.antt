@@ -4,14 +4,14 @@ use mathlib.Core.Path.{_≡_, refl, _∙_, ap}
 use mathlib.Core.Bool.{true}
 use mathlib.Core.List.{List}
 use Prim.Native.Nat.{ℕ, zero, suc, _+_, _≤_, _<_}
-use native.Mathlib.Nat.{not-suc-le-zero}
+use native.Mathlib.Nat.{not-suc-le-zero, min-le-right, min-eq-right}
 use native.Mathlib.Omega.{arith}
 use Rattle.fields.specs.Search.{isFound, numberOf}
 use Rattle.fields.specs.declared.search.Found.{Found}
 use Rattle.fields.specs.declared.search.Found.the-variants as found
 use Rattle.fields.proofs.Finding.{found-at}
 use Rattle.dayfile.specs.Roster.{routeOf}
-use Rattle.dayfile.specs.Route.{oneMore, followed, hasBic, rowWith, followedFrom, followedBic}
+use Rattle.dayfile.specs.Route.{oneMore, followed, hasBic, rowsIn, rowWith, followedFrom, followedBic}
 use Rattle.dayfile.specs.Guarantee.{LeadsWithin, Guaranteed}
 use Rattle.dayfile.specs.declared.roster.Target.{Target}
 use Rattle.dayfile.specs.declared.roster.Target.the-variants.{To, Row}
@@ -58,4 +58,10 @@ module _ (r : Roster) (g : Guaranteed r) where
   from-found found.Nothing e l = let z : _≡_ {A = ℕ} 0 1 = cc in absurd (omega arith)
 
   pub bic-arrives : (bic : List ℕ) → isFound (rowWith r bic) ≡ true → Arrives r (followedBic r bic)
-  bic-arrives bic e = from-found (rowWith r bic) e (found-at (hasBic (r .routes) bic) (r .rows) e .below)
+  bic-arrives bic e =
+      let low = found-at (hasBic (r .routes) bic) (rowsIn r) e .below in
+      from-found (rowWith r bic) e (let m = min-le-right 64 (r .rows) in omega arith)
+
+-- where a roster has no more rows than it has room for, all in use are looked at
+pub rows-in : (r : Roster) → r .rows ≤ 64 → rowsIn r ≡ r .rows
+rows-in r h = min-eq-right h

@@ -8,7 +8,7 @@ use native.Mathlib.Omega.{arith}
 use borrow.Author.Tests.{ltb-true, lt-ltb, le-ltb}
 use lib.Dec.{ltb}
 use Rattle.dayfile.specs.Roster.{rowOf}
-use Rattle.dayfile.specs.Route.{oneMore, leads, followTo, followed}
+use Rattle.dayfile.specs.Route.{rowsFollowed, oneMore, leads, followTo, followed}
 use Rattle.dayfile.specs.declared.roster.Target.{Target}
 use Rattle.dayfile.specs.declared.roster.Target.the-variants.{To, Row}
 use Rattle.dayfile.specs.declared.roster.Route.{Route}
@@ -47,38 +47,31 @@ followed-on routes row h =
     ∙ leads-same (λ k. followTo row routes k) (followed routes) row (rowOf routes row .target)
     (λ k l. enough row (suc k) routes k l (omega arith) ∙ sym (within routes k (omega arith)))
 
-rows-of : Followed → ℕ
-rows-of (At p n) = n
-rows-of Nowhere = 0
-
-one-more-rows : (f : Followed) → rows-of (oneMore f) ≤ rows-of f + 1
-unfolding rows-of
+one-more-rows : (f : Followed) → rowsFollowed (oneMore f) ≤ rowsFollowed f + 1
 one-more-rows (At p n) = omega arith
 one-more-rows Nowhere = omega arith
 
-leads-rows : (f : ℕ → Followed) (n row : ℕ) (t : Target) → ((k : ℕ) → rows-of (f k) ≤ n) → rows-of (leads f row t) ≤ suc n
-unfolding rows-of
+leads-rows : (f : ℕ → Followed) (n row : ℕ) (t : Target) → ((k : ℕ) → rowsFollowed (f k) ≤ n) → rowsFollowed (leads f row t) ≤ suc n
 leads-rows f n row (To p) h = omega arith
 leads-rows f n row (Row k) h = go (ltb k row)
   where
-    go : (b : Bool) → rows-of (cond b (oneMore (f k)) Nowhere) ≤ suc n
+    go : (b : Bool) → rowsFollowed (cond b (oneMore (f k)) Nowhere) ≤ suc n
     go true = let o = one-more-rows (f k) in let g = h k in omega arith
     go false = omega arith
 
-to-rows : (n : ℕ) (routes : List Route) (row : ℕ) → rows-of (followTo n routes row) ≤ n
-unfolding rows-of
+to-rows : (n : ℕ) (routes : List Route) (row : ℕ) → rowsFollowed (followTo n routes row) ≤ n
 to-rows zero routes row = omega arith
 to-rows (suc n) routes row = leads-rows (λ k. followTo n routes k) n row (rowOf routes row .target) (λ k. to-rows n routes k)
 
 -- a row is followed in no more rows than its number and itself
 pub followed-rows : (routes : List Route) (row p n : ℕ) → followed routes row ≡ At p n → n ≤ row + 1
-unfolding followed rows-of
+unfolding followed
 followed-rows routes row p n e = go (ltb row 64) refl
   where
     go : (b : Bool) → ltb row 64 ≡ b → n ≤ row + 1
     go true a =
         let e′ : _≡_ {A = Followed} (followTo (suc row) routes row) (At p n) = rw a at e in
-        let r : rows-of (At p n) ≤ suc row = rw e′ at (to-rows (suc row) routes row) in
+        let r : rowsFollowed (At p n) ≤ suc row = rw e′ at (to-rows (suc row) routes row) in
         omega arith
     go false a = let e′ : _≡_ {A = Followed} Nowhere (At p n) = rw a at e in let z : _≡_ {A = ℕ} 0 1 = cc in omega arith
 

@@ -1,6 +1,6 @@
 -- What the checks of a day file tell, one after the other. Assumes nothing.
 use mathlib.Core.Path.{_≡_, refl, _∙_, ap}
-use mathlib.Core.Bool.{Bool, true, false, _&&_}
+use mathlib.Core.Bool.{Bool, true, false, _&&_, cond}
 use mathlib.Core.List.{List}
 use mathlib.Core.Logic.{_⊎_, inl, inr, ⊎-elim}
 use Prim.Native.Nat.{ℕ, _+_, _*_, _≤_}
@@ -10,8 +10,8 @@ use lib.Dec.{leb, eqb}
 use lib.ListN.{length}
 use Rattle.fields.proofs.Tests.{and-left, and-right, passed}
 use Rattle.dayfile.specs.Header.{headed}
-use Rattle.dayfile.specs.Check.{InRange, ranged, placed, rowed, participantsOk, routesOk}
-use Rattle.dayfile.specs.DayFile.{dayFile, fileHeaded, fileRanged, filePlaced, fileParticipants, fileRoutes, refusedFile, acceptedFile}
+use Rattle.dayfile.specs.Check.{InRange, ranged, placed, participantsOk, routesOk, enrolled, routed}
+use Rattle.dayfile.specs.DayFile.{dayFile, fileHeaded, fileRanged, filePlaced, fileEnrolled, fileRouted, refusedFile, acceptedFile}
 use Rattle.dayfile.specs.declared.DayFile.{DayFile}
 use Rattle.dayfile.specs.declared.header.Header.{Header}
 use Rattle.dayfile.specs.declared.header.Headed.{Headed}
@@ -20,6 +20,8 @@ use Rattle.dayfile.specs.declared.check.Ranged.{Ranged}
 use Rattle.dayfile.specs.declared.check.Ranged.the-variants.{Within, Outside}
 use Rattle.dayfile.specs.declared.check.Placed.{Placed}
 use Rattle.dayfile.specs.declared.check.Placed.the-variants.{Right, Wrong}
+use Rattle.dayfile.specs.declared.check.Enrolled.the-variants as participants-are
+use Rattle.dayfile.specs.declared.check.Routed.the-variants as routes-are
 
 -- 2 passed: the counts are in range
 pub in-range : (h : Header) → ranged h ≡ Within → InRange (h .counts)
@@ -114,7 +116,7 @@ module _ (f : List ℕ) (h : Header) (head : headed f ≡ As h) where
   pub file-ranged : ranged h ≡ Within → dayFile f ≡ filePlaced h f (placed h (length f))
   file-ranged range = file-headed ∙ ap (fileRanged h f) range
 
-  pub file-placed : ranged h ≡ Within → placed h (length f) ≡ Right → dayFile f ≡ fileParticipants h f (rowed (participantsOk (h .counts .participants) f))
+  pub file-placed : ranged h ≡ Within → placed h (length f) ≡ Right → dayFile f ≡ fileEnrolled h f (enrolled (h .offsets .participants) (h .counts .participants) f)
   file-placed range place = file-ranged range ∙ ap (filePlaced h f) place
 
 -- a file that is not refused has passed all five
@@ -123,7 +125,7 @@ pub record Accepted (f : List ℕ) : Type 0 where
   pub head : headed f ≡ As header
   pub range : InRange (header .counts)
   pub place : InPlace header (length f)
-  pub participants : participantsOk (header .counts .participants) f ≡ true
+  pub participants : participantsOk (header .offsets .participants) (header .counts .participants) f ≡ true
   pub routes : routesOk (header .counts .participants) (header .offsets .routes) (header .counts .routes) f ≡ true
   pub file : dayFile f ≡ acceptedFile header f
 
@@ -140,7 +142,7 @@ pub outcome : (f : List ℕ) → Accepted f ⊎ Refused f
 outcome f = from-head (headed f) refl
   where
     from-routes : (h : Header) → headed f ≡ As h → ranged h ≡ Within → placed h (length f) ≡ Right
-        → (p : Bool) → participantsOk (h .counts .participants) f ≡ p
+        → (p : Bool) → participantsOk (h .offsets .participants) (h .counts .participants) f ≡ p
         → (r : Bool) → routesOk (h .counts .participants) (h .offsets .routes) (h .counts .routes) f ≡ r → Accepted f ⊎ Refused f
     from-routes h e₁ e₂ e₃ true e₄ true e₅ =
         inl
@@ -151,13 +153,13 @@ outcome f = from-head (headed f) refl
           place = in-place h (length f) e₃;
           participants = e₄;
           routes = e₅;
-          file = file-placed f h e₁ e₂ e₃ ∙ ap (λ (b : Bool). fileParticipants h f (rowed b)) e₄ ∙ ap (λ (b : Bool). fileRoutes h f (rowed b)) e₅;
+          file = file-placed f h e₁ e₂ e₃ ∙ ap (λ (b : Bool). fileEnrolled h f (cond b participants-are.Right participants-are.Wrong)) e₄ ∙ ap (λ (b : Bool). fileRouted h f (cond b routes-are.Right routes-are.Wrong)) e₅;
         })
     from-routes h e₁ e₂ e₃ true e₄ false e₅ =
         refused-by f 5 (omega arith)
-        (file-placed f h e₁ e₂ e₃ ∙ ap (λ (b : Bool). fileParticipants h f (rowed b)) e₄ ∙ ap (λ (b : Bool). fileRoutes h f (rowed b)) e₅)
+        (file-placed f h e₁ e₂ e₃ ∙ ap (λ (b : Bool). fileEnrolled h f (cond b participants-are.Right participants-are.Wrong)) e₄ ∙ ap (λ (b : Bool). fileRouted h f (cond b routes-are.Right routes-are.Wrong)) e₅)
     from-routes h e₁ e₂ e₃ false e₄ r e₅ =
-        refused-by f 4 (omega arith) (file-placed f h e₁ e₂ e₃ ∙ ap (λ (b : Bool). fileParticipants h f (rowed b)) e₄)
+        refused-by f 4 (omega arith) (file-placed f h e₁ e₂ e₃ ∙ ap (λ (b : Bool). fileEnrolled h f (cond b participants-are.Right participants-are.Wrong)) e₄)
 
     from-place : (h : Header) → headed f ≡ As h → ranged h ≡ Within → (p : Placed) → placed h (length f) ≡ p → Accepted f ⊎ Refused f
     from-place h e₁ e₂ Right e₃ = from-routes h e₁ e₂ e₃ _ refl _ refl

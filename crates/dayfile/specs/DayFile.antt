@@ -7,10 +7,11 @@ use Prim.Native.Nat.{ℕ, _+_, _*_}
 use mathlib.Core.List.{List}
 use lib.ListN.{length}
 use Rattle.fields.specs.Number.{part}
+use Rattle.ticket.specs.Layout.{ticketLength}
 use Rattle.dayfile.specs.Header.{headed}
-use Rattle.dayfile.specs.Check.{ranged, placed, rowed, participantsOk, routesOk}
+use Rattle.dayfile.specs.Check.{ranged, placed, enrolled, routed}
 use Rattle.dayfile.specs.Roster.{rosterOf, emptyRoster}
-use Rattle.dayfile.specs.Refusal.{headedRefusal, rangedRefusal, placedRefusal, participantsRefusal, routesRefusal}
+use Rattle.dayfile.specs.Refusal.{headedRefusal, rangedRefusal, placedRefusal, enrolledRefusal, routedRefusal}
 use Rattle.dayfile.specs.declared.DayFile.{DayFile}
 use Rattle.dayfile.specs.declared.header.Header.{Header}
 use Rattle.dayfile.specs.declared.header.Headed.{Headed}
@@ -19,8 +20,10 @@ use Rattle.dayfile.specs.declared.check.Ranged.{Ranged}
 use Rattle.dayfile.specs.declared.check.Ranged.the-variants.{Within, Outside}
 use Rattle.dayfile.specs.declared.check.Placed.{Placed}
 use Rattle.dayfile.specs.declared.check.Placed.the-variants as placed-is
-use Rattle.dayfile.specs.declared.check.Rows.{Rows}
-use Rattle.dayfile.specs.declared.check.Rows.the-variants as rows-are
+use Rattle.dayfile.specs.declared.check.Enrolled.{Enrolled}
+use Rattle.dayfile.specs.declared.check.Enrolled.the-variants as participants-are
+use Rattle.dayfile.specs.declared.check.Routed.{Routed}
+use Rattle.dayfile.specs.declared.check.Routed.the-variants as routes-are
 
 -- 01: 1 to 5 give the empty book (no participants)
 abbrev pub refusedFile : ℕ → DayFile
@@ -28,18 +31,18 @@ refusedFile n = record { refusal = n; roster = emptyRoster; tickets = 0; first =
 
 abbrev pub acceptedFile : Header → List ℕ → DayFile
 acceptedFile h f =
-    record { refusal = 0; roster = rosterOf (h .counts) (h .offsets .routes) f; tickets = h .counts .tickets; first = h .offsets .tickets }
+    record { refusal = 0; roster = rosterOf h f; tickets = h .counts .tickets; first = h .offsets .tickets }
 
-abbrev pub fileRoutes : Header → List ℕ → Rows → DayFile
-fileRoutes h f rows-are.Right = acceptedFile h f
-fileRoutes h f rows-are.Wrong = refusedFile (routesRefusal rows-are.Wrong)
+abbrev pub fileRouted : Header → List ℕ → Routed → DayFile
+fileRouted h f routes-are.Right = acceptedFile h f
+fileRouted h f routes-are.Wrong = refusedFile (routedRefusal routes-are.Wrong)
 
-abbrev pub fileParticipants : Header → List ℕ → Rows → DayFile
-fileParticipants h f rows-are.Right = fileRoutes h f (rowed (routesOk (h .counts .participants) (h .offsets .routes) (h .counts .routes) f))
-fileParticipants h f rows-are.Wrong = refusedFile (participantsRefusal rows-are.Wrong)
+abbrev pub fileEnrolled : Header → List ℕ → Enrolled → DayFile
+fileEnrolled h f participants-are.Right = fileRouted h f (routed (h .counts .participants) (h .offsets .routes) (h .counts .routes) f)
+fileEnrolled h f participants-are.Wrong = refusedFile (enrolledRefusal participants-are.Wrong)
 
 abbrev pub filePlaced : Header → List ℕ → Placed → DayFile
-filePlaced h f placed-is.Right = fileParticipants h f (rowed (participantsOk (h .counts .participants) f))
+filePlaced h f placed-is.Right = fileEnrolled h f (enrolled (h .offsets .participants) (h .counts .participants) f)
 filePlaced h f placed-is.Wrong = refusedFile (placedRefusal placed-is.Wrong)
 
 abbrev pub fileRanged : Header → List ℕ → Ranged → DayFile
@@ -55,4 +58,4 @@ dayFile f = fileHeaded f (headed f)
 
 -- 01: sections follow with no gap
 abbrev pub ticketAt : List ℕ → ℕ → List ℕ
-ticketAt f k = part 108 (dayFile f .first + 108 * k) f
+ticketAt f k = part ticketLength (dayFile f .first + ticketLength * k) f

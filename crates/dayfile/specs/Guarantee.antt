@@ -1,7 +1,7 @@
 -- What an accepted file guarantees.
 --     OpeningWithin            an opening is none or at most 10^15
 --     LeadsWithin              a target is a participant, or a row below the row's own number
---     Guaranteed               the roster: counts, BICs, openings, where each row points
+--     Guaranteed               the roster: counts, BICs, openings, where each row points; what is not in use is as in the empty roster
 --     GuaranteedFile           the roster, at least one participant, and where the tickets lie
 -- Assumes nothing.
 use Prim.Native.Nat.{ℕ, _+_, _*_, _≤_, _<_}
@@ -11,8 +11,9 @@ use mathlib.Core.List.{List}
 use lib.ListN.{length}
 use Rattle.codes.specs.Bic.{isBic}
 use Rattle.fields.specs.Text.{same}
-use Rattle.dayfile.specs.Rows.{mostOpening}
-use Rattle.dayfile.specs.Roster.{participantOf, routeOf}
+use Rattle.ticket.specs.Layout.{ticketLength}
+use Rattle.dayfile.specs.Limits.{mostParticipants, mostRoutes, mostTickets, mostOpening, headerLength, participantLength, routeLength}
+use Rattle.dayfile.specs.Roster.{noParticipant, noRoute, participantOf, routeOf}
 use Rattle.dayfile.specs.DayFile.{dayFile}
 use Rattle.dayfile.specs.declared.roster.Opening.{Opening}
 use Rattle.dayfile.specs.declared.roster.Opening.the-variants.{None, Cover}
@@ -29,20 +30,22 @@ LeadsWithin size own (To p) = p < size
 LeadsWithin size own (Row k) = k < own
 
 pub record Guaranteed (r : Roster) : Type 0 where
-  pub size : r .size ≤ 32
-  pub rows : r .rows ≤ 64
-  pub participants : length (r .participants) ≡ 32
-  pub routes : length (r .routes) ≡ 64
+  pub size : r .size ≤ mostParticipants
+  pub rows : r .rows ≤ mostRoutes
+  pub participants : length (r .participants) ≡ mostParticipants
+  pub routes : length (r .routes) ≡ mostRoutes
   pub bic : (p : ℕ) → p < r .size → isBic (participantOf r p .bic) ≡ true
   pub distinct : (p q : ℕ) → p < q → q < r .size → same (participantOf r p .bic) (participantOf r q .bic) ≡ false
   pub opening : (p : ℕ) → p < r .size → OpeningWithin (participantOf r p .opening)
   pub routeBic : (i : ℕ) → i < r .rows → isBic (routeOf r i .bic) ≡ true
   pub routeDistinct : (i j : ℕ) → i < j → j < r .rows → same (routeOf r i .bic) (routeOf r j .bic) ≡ false
   pub leads : (i : ℕ) → i < r .rows → LeadsWithin (r .size) i (routeOf r i .target)
+  pub unused : (p : ℕ) → r .size ≤ p → p < mostParticipants → participantOf r p ≡ noParticipant
+  pub routeUnused : (i : ℕ) → r .rows ≤ i → i < mostRoutes → routeOf r i ≡ noRoute
 
 pub record GuaranteedFile (f : List ℕ) : Type 0 where
   pub roster : Guaranteed (dayFile f .roster)
   pub least : 1 ≤ dayFile f .roster .size
-  pub tickets : dayFile f .tickets ≤ 512
-  pub first : dayFile f .first ≡ 12 + 24 * dayFile f .roster .size + 16 * dayFile f .roster .rows
-  pub end : length f ≡ dayFile f .first + 108 * dayFile f .tickets
+  pub tickets : dayFile f .tickets ≤ mostTickets
+  pub first : dayFile f .first ≡ headerLength + participantLength * dayFile f .roster .size + routeLength * dayFile f .roster .rows
+  pub end : length f ≡ dayFile f .first + ticketLength * dayFile f .tickets

@@ -5,6 +5,7 @@ use mathlib.Core.List.{List}
 use lib.Dec.{ltb}
 use lib.ListN.{length}
 use Rattle.fields.specs.Number.{numberAt}
+use Rattle.dayfile.specs.Limits.{headerLength}
 use Rattle.dayfile.specs.declared.header.Header.{Header}
 use Rattle.dayfile.specs.declared.header.Headed.{Headed}
 use Rattle.dayfile.specs.declared.header.Headed.the-variants.{As, Short}
@@ -19,4 +20,4 @@ headerOf f =
 
 -- 1. File below 12 bytes
 abbrev pub headed : List ℕ → Headed
-headed f = cond (ltb (length f) 12) Short (As (headerOf f))
+headed f = cond (ltb (length f) headerLength) Short (As (headerOf f))

@@ -1,3 +1,4 @@
+pub mod Limits
 pub mod Header
 pub mod Rows
 pub mod Check

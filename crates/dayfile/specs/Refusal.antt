@@ -6,8 +6,10 @@ use Rattle.dayfile.specs.declared.check.Ranged.{Ranged}
 use Rattle.dayfile.specs.declared.check.Ranged.the-variants.{Within, Outside}
 use Rattle.dayfile.specs.declared.check.Placed.{Placed}
 use Rattle.dayfile.specs.declared.check.Placed.the-variants as placed-is
-use Rattle.dayfile.specs.declared.check.Rows.{Rows}
-use Rattle.dayfile.specs.declared.check.Rows.the-variants as rows-are
+use Rattle.dayfile.specs.declared.check.Enrolled.{Enrolled}
+use Rattle.dayfile.specs.declared.check.Enrolled.the-variants as participants-are
+use Rattle.dayfile.specs.declared.check.Routed.{Routed}
+use Rattle.dayfile.specs.declared.check.Routed.the-variants as routes-are
 
 abbrev pub headedRefusal : Headed → ℕ
 headedRefusal (As h) = 0
@@ -21,10 +23,10 @@ abbrev pub placedRefusal : Placed → ℕ
 placedRefusal placed-is.Right = 0
 placedRefusal placed-is.Wrong = 3
 
-abbrev pub participantsRefusal : Rows → ℕ
-participantsRefusal rows-are.Right = 0
-participantsRefusal rows-are.Wrong = 4
+abbrev pub enrolledRefusal : Enrolled → ℕ
+enrolledRefusal participants-are.Right = 0
+enrolledRefusal participants-are.Wrong = 4
 
-abbrev pub routesRefusal : Rows → ℕ
-routesRefusal rows-are.Right = 0
-routesRefusal rows-are.Wrong = 5
+abbrev pub routedRefusal : Routed → ℕ
+routedRefusal routes-are.Right = 0
+routedRefusal routes-are.Wrong = 5

@@ -1,20 +1,22 @@
 -- The roster that a file's rows give. Rows that are not in use are the zero of their type.
 --     participantAt, routeAt        the row at a place
---     participantsTo, routesTo      the first n rows
+--     participantsTo, routesTo      the first n rows of a section that starts at a place
 --     bankKind                      whether a kind is that of a bank
---     rosterOf                      participants and routes
+--     RowsWithin                    the counts are in range and the rows lie within the file
+--     rosterOf                      participants and routes, by the counts and offsets of a header
 --     participantOf, routeOf        the rows of a roster, by number
 --     rowOf                         the same of the routes alone
 --     emptyRoster                   none of either
 -- Assumes nothing.
-use Prim.Native.Nat.{ℕ, _+_, _*_}
+use Prim.Native.Nat.{ℕ, _+_, _*_, _≤_}
 use mathlib.Core.Bool.{Bool, true, false, cond}
 use mathlib.Core.List.{List, []}
 use lib.Dec.{eqb}
 use lib.ListN.{getD, replicate}
 use Rattle.fields.specs.Number.{part, numberAt}
 use Rattle.fields.specs.UpTo.{rowsTo}
-use Rattle.dayfile.specs.declared.header.Sections.{Sections}
+use Rattle.dayfile.specs.Limits.{mostParticipants, mostRoutes, participantLength, routeLength}
+use Rattle.dayfile.specs.declared.header.Header.{Header}
 use Rattle.dayfile.specs.declared.roster.PartyKind.{PartyKind}
 use Rattle.dayfile.specs.declared.roster.PartyKind.the-variants.{Bank, Linked}
 use Rattle.dayfile.specs.declared.roster.Opening.{Opening}
@@ -58,23 +60,29 @@ noParticipant = record { bic = replicate 11 0; kind = Bank; opening = None }
 abbrev pub noRoute : Route
 noRoute = record { bic = replicate 11 0; target = To 0 }
 
-abbrev pub participantsTo : ℕ → List ℕ → List Participant
-participantsTo n f = rowsTo 32 noParticipant (λ i. participantAt (12 + 24 * i) f) n
+abbrev pub participantsTo : ℕ → ℕ → List ℕ → List Participant
+participantsTo start n f = rowsTo mostParticipants noParticipant (λ i. participantAt (start + participantLength * i) f) n
 
 abbrev pub routesTo : ℕ → ℕ → List ℕ → List Route
-routesTo start n f = rowsTo 64 noRoute (λ i. routeAt (start + 16 * i) f) n
+routesTo start n f = rowsTo mostRoutes noRoute (λ i. routeAt (start + routeLength * i) f) n
 
-abbrev pub rosterOf : Sections → ℕ → List ℕ → Roster
-rosterOf n start f =
+pub record RowsWithin (h : Header) (length : ℕ) : Type 0 where
+  pub few : h .counts .participants ≤ mostParticipants
+  pub participants : h .offsets .participants + participantLength * h .counts .participants ≤ length
+  pub short : h .counts .routes ≤ mostRoutes
+  pub routes : h .offsets .routes + routeLength * h .counts .routes ≤ length
+
+abbrev pub rosterOf : Header → List ℕ → Roster
+rosterOf h f =
     record {
-      participants = participantsTo (n .participants) f;
-      size = n .participants;
-      routes = routesTo start (n .routes) f;
-      rows = n .routes;
+      participants = participantsTo (h .offsets .participants) (h .counts .participants) f;
+      size = h .counts .participants;
+      routes = routesTo (h .offsets .routes) (h .counts .routes) f;
+      rows = h .counts .routes;
     }
 
 abbrev pub emptyRoster : Roster
-emptyRoster = record { participants = replicate 32 noParticipant; size = 0; routes = replicate 64 noRoute; rows = 0 }
+emptyRoster = record { participants = replicate mostParticipants noParticipant; size = 0; routes = replicate mostRoutes noRoute; rows = 0 }
 
 abbrev pub participantOf : Roster → ℕ → Participant
 participantOf r p = getD (r .participants) p (record { bic = []; kind = Bank; opening = None })

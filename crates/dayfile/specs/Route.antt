@@ -1,10 +1,13 @@
 -- Following a payee BIC: 01 'Participants, routes, codes'.
 --     followed      from a row on: the participant reached and the number of rows followed, or Nowhere
 --     followTo      the same in at most n rows
+--     reached       the participant reached, 0 where there is none
+--     rowsFollowed  the number of rows followed, 0 where no participant is reached
+--     rowsIn        how many rows are looked at
 --     rowWith       the row with a BIC
 --     followedBic   from that row on
 -- Assumes nothing.
-use Prim.Native.Nat.{ℕ, zero, suc, _+_}
+use Prim.Native.Nat.{ℕ, zero, suc, _+_, min}
 use mathlib.Core.Bool.{Bool, cond}
 use mathlib.Core.List.{List}
 use lib.Dec.{ltb}
@@ -12,6 +15,7 @@ use Rattle.fields.specs.Text.{same}
 use Rattle.fields.specs.Search.{firstTo}
 use Rattle.fields.specs.declared.search.Found.{Found}
 use Rattle.fields.specs.declared.search.Found.the-variants as found
+use Rattle.dayfile.specs.Limits.{mostRoutes}
 use Rattle.dayfile.specs.Roster.{rowOf}
 use Rattle.dayfile.specs.declared.roster.Target.{Target}
 use Rattle.dayfile.specs.declared.roster.Target.the-variants.{To, Row}
@@ -19,6 +23,14 @@ use Rattle.dayfile.specs.declared.roster.Route.{Route}
 use Rattle.dayfile.specs.declared.roster.Roster.{Roster}
 use Rattle.dayfile.specs.declared.route.Followed.{Followed}
 use Rattle.dayfile.specs.declared.route.Followed.the-variants.{At, Nowhere}
+
+abbrev pub reached : Followed → ℕ
+reached (At p n) = p
+reached Nowhere = 0
+
+abbrev pub rowsFollowed : Followed → ℕ
+rowsFollowed (At p n) = n
+rowsFollowed Nowhere = 0
 
 abbrev pub oneMore : Followed → Followed
 oneMore (At p n) = At p (n + 1)
@@ -33,16 +45,20 @@ abbrev pub followTo : ℕ → List Route → ℕ → Followed
 followTo zero routes row = Nowhere
 followTo (suc n) routes row = leads (λ k. followTo n routes k) row (rowOf routes row .target)
 
--- a row is followed in no more rows than its number and itself; there are 64 rows
+-- a row is followed in no more rows than its number and itself; a roster has room for 64 rows
 unfoldable pub followed : List Route → ℕ → Followed
-followed routes row = cond (ltb row 64) (followTo (suc row) routes row) Nowhere
+followed routes row = cond (ltb row mostRoutes) (followTo (suc row) routes row) Nowhere
 
 abbrev pub hasBic : List Route → List ℕ → ℕ → Bool
 hasBic routes bic row = same (rowOf routes row .bic) bic
 
+-- how many rows are looked at: all in use, and a roster has room for 64
+abbrev pub rowsIn : Roster → ℕ
+rowsIn r = min mostRoutes (r .rows)
+
 -- the first row with the BIC; in an accepted file no other has it
 abbrev pub rowWith : Roster → List ℕ → Found
-rowWith r bic = firstTo (hasBic (r .routes) bic) (r .rows)
+rowWith r bic = firstTo (hasBic (r .routes) bic) (rowsIn r)
 
 abbrev pub followedFrom : Roster → Found → Followed
 followedFrom r (found.At row) = followed (r .routes) row
@@ -51,12 +67,3 @@ followedFrom r found.Nothing = Nowhere
 -- 01: following a payee BIC starts at the row with that BIC
 abbrev pub followedBic : Roster → List ℕ → Followed
 followedBic r bic = followedFrom r (rowWith r bic)
-
--- the participant reached, and the number of rows followed
-abbrev pub reached : Followed → ℕ
-reached (At p rows) = p
-reached Nowhere = 0
-
-abbrev pub rowsFollowed : Followed → ℕ
-rowsFollowed (At p rows) = rows
-rowsFollowed Nowhere = 0

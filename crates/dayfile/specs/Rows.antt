@@ -1,6 +1,6 @@
 -- A participant row of 24 bytes and a route row of 16, at a place of the file.
 --     participantOk   all that refusal 4 asks of a row but the earlier rows' BICs
---     limitOf         what a route row's k has to be below
+--     boundOf         what a route row's k has to be below
 --     routeOk         all that refusal 5 asks of a row but the earlier rows' BICs
 --     bicAmong        one of the first n rows of a section has the BIC
 -- Assumes nothing.
@@ -13,9 +13,7 @@ use Rattle.codes.specs.Bic.{isBic}
 use Rattle.fields.specs.Number.{part, numberAt}
 use Rattle.fields.specs.Text.{blank, same}
 use Rattle.fields.specs.UpTo.{anyTo}
-
-abbrev pub mostOpening : ℕ
-mostOpening = 1_000_000_000_000_000
+use Rattle.dayfile.specs.Limits.{mostOpening}
 
 -- BIC, kind, opening (8), wish 0 or 1, three zero. Kind and wish at most 1, opening at most 10^15 and zero without the wish
 abbrev pub participantOk : ℕ → List ℕ → Bool
@@ -28,15 +26,15 @@ participantOk at f =
     && blank (part 3 (at + 21) f)
 
 -- a row's k is below the participant count, or with kind 1 below the row's own number
-abbrev pub limitOf : ℕ → ℕ → ℕ → ℕ
-limitOf kind size own = cond (eqb kind 1) own size
+abbrev pub boundOf : ℕ → ℕ → ℕ → ℕ
+boundOf kind size own = cond (eqb kind 1) own size
 
 -- BIC, kind (0 participant, 1 row), k (2), two zero
 abbrev pub routeOk : ℕ → ℕ → ℕ → List ℕ → Bool
 routeOk size own at f =
     isBic (part 11 at f)
     && leb (getD f (at + 11) 0) 1
-    && ltb (numberAt 2 (at + 12) f) (limitOf (getD f (at + 11) 0) size own)
+    && ltb (numberAt 2 (at + 12) f) (boundOf (getD f (at + 11) 0) size own)
     && blank (part 2 (at + 14) f)
 
 abbrev pub bicAmong : ℕ → ℕ → ℕ → List ℕ → List ℕ → Bool

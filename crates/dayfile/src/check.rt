@@ -1,10 +1,12 @@
 // Refusals 2 to 5, each by an enum.
 use super::header::Header;
+use super::limits;
 use super::rows;
 ghost use mathlib.Core.Path.{_≡_};
 ghost use Prim.Native.Nat.{_+_, _*_, _≤_};
 ghost use lib.ListN.{length};
-ghost use Rattle.dayfile.specs.Check.{InRange, ranged, placed, rowed, participantsOk, routesOk};
+ghost use Rattle.dayfile.specs.Limits.{participantLength, routeLength};
+ghost use Rattle.dayfile.specs.Check.{InRange, ranged, placed, enrolled, routed};
 
 // 2. Participants not 1 to 32, routes above 64 or tickets above 512.
 pub enum Ranged {
@@ -18,8 +20,14 @@ pub enum Placed {
     Wrong,
 }
 
-// 4 and 5. A row that is wrong.
-pub enum Rows {
+// 4. A participant row that is wrong.
+pub enum Enrolled {
+    Right,
+    Wrong,
+}
+
+// 5. A route row that is wrong.
+pub enum Routed {
     Right,
     Wrong,
 }
@@ -28,7 +36,11 @@ pub fn check_counts(h: Header) -> Ranged
     ensures { λ r. ⌜ r ≡ ranged h ⌝ }
 {
     let n = h.counts;
-    if (1 <= n.participants) & (n.participants <= 32) & (n.routes <= 64) & (n.tickets <= 512) {
+    if (1 <= n.participants)
+        & (n.participants <= limits::MOST_PARTICIPANTS)
+        & (n.routes <= limits::MOST_ROUTES)
+        & (n.tickets <= limits::MOST_TICKETS)
+    {
         Ranged::Within
     } else {
         Ranged::Outside
@@ -41,40 +53,48 @@ pub fn check_places(h: Header, length: usize) -> Placed
 {
     let n = h.counts;
     let at = h.offsets;
-    let routes = 12 + 24 * n.participants;
-    let tickets = routes + 16 * n.routes;
-    let end = tickets + 108 * n.tickets;
-    if (at.participants == 12) & (at.routes == routes) & (at.tickets == tickets) & (length == end) {
+    let routes = limits::HEADER_LENGTH + limits::PARTICIPANT_LENGTH * n.participants;
+    let tickets = routes + limits::ROUTE_LENGTH * n.routes;
+    let end = tickets + limits::TICKET_LENGTH * n.tickets;
+    if (at.participants == limits::HEADER_LENGTH)
+        & (at.routes == routes)
+        & (at.tickets == tickets)
+        & (length == end)
+    {
         Placed::Right
     } else {
         Placed::Wrong
     }
 }
 
-pub fn check_participants(n: usize, f: &[u8]) -> Rows
-    requires { ⌜ 12 + 24 * n ≤ length (now f) ⌝ }
-    ensures { λ r. ⌜ r ≡ rowed (participantsOk n (now (f .entry))) ⌝ }
+pub fn check_participants(start: usize, n: usize, f: &[u8]) -> Enrolled
+    requires { ⌜ start + participantLength * n ≤ length (now f) ⌝ }
+    ensures { λ r. ⌜ r ≡ enrolled start n (now (f .entry)) ⌝ }
 {
     let mut ok = true;
     let mut i = 0;
     while i < n {
-        let at = 12 + 24 * i;
-        ok = ok & (rows::participant_ok(f, at) & !rows::bic_among(f, 12, 24, i, at));
+        let at = start + limits::PARTICIPANT_LENGTH * i;
+        ok = ok
+            & (rows::participant_ok(f, at)
+                & !rows::bic_among(f, start, limits::PARTICIPANT_LENGTH, i, at));
         i += 1;
     }
-    if ok { Rows::Right } else { Rows::Wrong }
+    if ok { Enrolled::Right } else { Enrolled::Wrong }
 }
 
-pub fn check_routes(size: usize, start: usize, n: usize, f: &[u8]) -> Rows
-    requires { ⌜ start + 16 * n ≤ length (now f) ⌝ }
-    ensures { λ r. ⌜ r ≡ rowed (routesOk size start n (now (f .entry))) ⌝ }
+pub fn check_routes(size: usize, start: usize, n: usize, f: &[u8]) -> Routed
+    requires { ⌜ start + routeLength * n ≤ length (now f) ⌝ }
+    ensures { λ r. ⌜ r ≡ routed size start n (now (f .entry)) ⌝ }
 {
     let mut ok = true;
     let mut i = 0;
     while i < n {
-        let at = start + 16 * i;
-        ok = ok & (rows::route_ok(f, at, size, i) & !rows::bic_among(f, start, 16, i, at));
+        let at = start + limits::ROUTE_LENGTH * i;
+        ok = ok
+            & (rows::route_ok(f, at, size, i)
+                & !rows::bic_among(f, start, limits::ROUTE_LENGTH, i, at));
         i += 1;
     }
-    if ok { Rows::Right } else { Rows::Wrong }
+    if ok { Routed::Right } else { Routed::Wrong }
 }

@@ -1,4 +1,5 @@
 // The header of 12 bytes, and refusal 1.
+use super::limits;
 ghost use mathlib.Core.Path.{_≡_};
 ghost use Rattle.dayfile.specs.Header.{headed};
 
@@ -22,7 +23,7 @@ pub enum Headed {
 pub fn read_header(f: &[u8]) -> Headed
     ensures { λ r. ⌜ r ≡ headed (now (f .entry)) ⌝ }
 {
-    if f.len() < 12 {
+    if f.len() < limits::HEADER_LENGTH {
         return Headed::Short;
     }
     let counts = Sections {

@@ -2,21 +2,21 @@
 // Any bytes of any length may be handed in.
 mod check;
 mod header;
+pub mod limits;
 mod read;
 pub mod roster;
 pub mod route;
 mod rows;
 
+use check::Enrolled;
 use check::Placed;
 use check::Ranged;
-use check::Rows;
+use check::Routed;
 use header::Headed;
 use roster::Roster;
 ghost use mathlib.Core.Path.{_≡_};
-ghost use Prim.Native.Nat.{_+_, _*_, _≤_};
-ghost use lib.ListN.{length};
-ghost use Rattle.fields.specs.Number.{part};
-ghost use Rattle.dayfile.specs.DayFile.{dayFile, refusedFile};
+ghost use Prim.Native.Nat.{_<_};
+ghost use Rattle.dayfile.specs.DayFile.{dayFile, refusedFile, ticketAt};
 
 // What a day file gives: the refusal, 0 if none; the roster, empty if refused; how many tickets there are and where the first lies.
 pub struct DayFile {
@@ -51,25 +51,25 @@ pub fn read_day_file(f: &[u8]) -> DayFile
     };
     let n = h.counts;
     let at = h.offsets;
-    let Rows::Right = check::check_participants(n.participants, f) else {
+    let Enrolled::Right = check::check_participants(at.participants, n.participants, f) else {
         return refused(4);
     };
-    let Rows::Right = check::check_routes(n.participants, at.routes, n.routes, f) else {
+    let Routed::Right = check::check_routes(n.participants, at.routes, n.routes, f) else {
         return refused(5);
     };
     DayFile {
         refusal: 0,
-        roster: read::read_roster(n, at.routes, f),
+        roster: read::read_roster(h, f),
         tickets: n.tickets,
         first: at.tickets,
     }
 }
 
-// Ticket k of an accepted file, as the file's own bytes, where first is the place of the first.
+// Ticket k of a file, as the file's own bytes, where first is the place that the file gives for the first.
 pub fn ticket(f: &[u8], first: usize, k: usize) -> &[u8]
-    requires { ⌜ first + 108 * k + 108 ≤ length (now f) ⌝ }
-    ensures { λ r. ⌜ now r ≡ part 108 (first + 108 * k) (now (f .entry)) ⌝ }
+    requires { ⌜ (first ≡ dayFile (now f) .first) × (k < dayFile (now f) .tickets) ⌝ }
+    ensures { λ r. ⌜ now r ≡ ticketAt (now (f .entry)) k ⌝ }
 {
-    let at = first + 108 * k;
-    &f[at..at + 108]
+    let at = first + limits::TICKET_LENGTH * k;
+    &f[at..at + limits::TICKET_LENGTH]
 }

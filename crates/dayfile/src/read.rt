@@ -1,5 +1,6 @@
 // The roster of a file whose rows are right.
-use super::header::Sections;
+use super::header::Header;
+use super::limits;
 use super::roster::Opening;
 use super::roster::Participant;
 use super::roster::PartyKind;
@@ -10,7 +11,8 @@ ghost use mathlib.Core.Path.{_≡_};
 ghost use Prim.Native.Nat.{_+_, _*_, _≤_};
 ghost use lib.ListN.{length};
 ghost use Rattle.fields.specs.Number.{part};
-ghost use Rattle.dayfile.specs.Roster.{kindOf, openingOf, targetOf, participantAt, routeAt, participantsTo, routesTo, rosterOf, emptyRoster, noParticipant, noRoute};
+ghost use Rattle.dayfile.specs.Limits.{mostParticipants, mostRoutes, participantLength, routeLength};
+ghost use Rattle.dayfile.specs.Roster.{kindOf, openingOf, targetOf, participantAt, routeAt, participantsTo, routesTo, RowsWithin, rosterOf, emptyRoster, noParticipant, noRoute};
 
 fn bic_at(f: &[u8], at: usize) -> [u8; 11]
     requires { ⌜ at + 11 ≤ length (now f) ⌝ }
@@ -52,7 +54,7 @@ fn target_of(kind: u8, k: usize) -> Target
 }
 
 fn participant_at(f: &[u8], at: usize) -> Participant
-    requires { ⌜ at + 24 ≤ length (now f) ⌝ }
+    requires { ⌜ at + participantLength ≤ length (now f) ⌝ }
     ensures { λ r. ⌜ r ≡ participantAt at (now (f .entry)) ⌝ }
 {
     Participant {
@@ -63,7 +65,7 @@ fn participant_at(f: &[u8], at: usize) -> Participant
 }
 
 fn route_at(f: &[u8], at: usize) -> Route
-    requires { ⌜ at + 16 ≤ length (now f) ⌝ }
+    requires { ⌜ at + routeLength ≤ length (now f) ⌝ }
     ensures { λ r. ⌜ r ≡ routeAt at (now (f .entry)) ⌝ }
 {
     Route {
@@ -92,42 +94,45 @@ fn no_route() -> Route
     }
 }
 
-fn read_participants(n: usize, f: &[u8]) -> [Participant; 32]
-    requires { ⌜ (n ≤ 32) × (12 + 24 * n ≤ length (now f)) ⌝ }
-    ensures { λ r. ⌜ r ≡ participantsTo n (now (f .entry)) ⌝ }
+fn read_participants(start: usize, n: usize, f: &[u8]) -> [Participant; limits::MOST_PARTICIPANTS]
+    requires { ⌜ (n ≤ mostParticipants) × (start + participantLength * n ≤ length (now f)) ⌝ }
+    ensures { λ r. ⌜ r ≡ participantsTo start n (now (f .entry)) ⌝ }
 {
     let none = no_participant();
-    let mut all = [none; 32];
+    let mut all = [none; limits::MOST_PARTICIPANTS];
     let mut i = 0;
     while i < n {
-        all[i] = participant_at(f, 12 + 24 * i);
+        all[i] = participant_at(f, start + limits::PARTICIPANT_LENGTH * i);
         i += 1;
     }
     all
 }
 
-fn read_routes(start: usize, n: usize, f: &[u8]) -> [Route; 64]
-    requires { ⌜ (n ≤ 64) × (start + 16 * n ≤ length (now f)) ⌝ }
+fn read_routes(start: usize, n: usize, f: &[u8]) -> [Route; limits::MOST_ROUTES]
+    requires { ⌜ (n ≤ mostRoutes) × (start + routeLength * n ≤ length (now f)) ⌝ }
     ensures { λ r. ⌜ r ≡ routesTo start n (now (f .entry)) ⌝ }
 {
     let none = no_route();
-    let mut all = [none; 64];
+    let mut all = [none; limits::MOST_ROUTES];
     let mut i = 0;
     while i < n {
-        all[i] = route_at(f, start + 16 * i);
+        all[i] = route_at(f, start + limits::ROUTE_LENGTH * i);
         i += 1;
     }
     all
 }
 
-pub fn read_roster(n: Sections, start: usize, f: &[u8]) -> Roster
-    requires { ⌜ (n .participants ≤ 32) × (12 + 24 * n .participants ≤ length (now f)) × (n .routes ≤ 64) × (start + 16 * n .routes ≤ length (now f)) ⌝ }
-    ensures { λ r. ⌜ r ≡ rosterOf n start (now (f .entry)) ⌝ }
+// The counts are in range and the rows lie within the file.
+pub fn read_roster(h: Header, f: &[u8]) -> Roster
+    requires { ⌜ RowsWithin h (length (now f)) ⌝ }
+    ensures { λ r. ⌜ r ≡ rosterOf h (now (f .entry)) ⌝ }
 {
+    let n = h.counts;
+    let at = h.offsets;
     Roster {
-        participants: read_participants(n.participants, f),
+        participants: read_participants(at.participants, n.participants, f),
         size: n.participants,
-        routes: read_routes(start, n.routes, f),
+        routes: read_routes(at.routes, n.routes, f),
         rows: n.routes,
     }
 }
@@ -138,9 +143,9 @@ pub fn empty_roster() -> Roster
     let participant = no_participant();
     let route = no_route();
     Roster {
-        participants: [participant; 32],
+        participants: [participant; limits::MOST_PARTICIPANTS],
         size: 0,
-        routes: [route; 64],
+        routes: [route; limits::MOST_ROUTES],
         rows: 0,
     }
 }

@@ -1,4 +1,6 @@
 // The participants and the routes of a day, by value.
+use super::limits;
+
 pub enum PartyKind {
     Bank,
     Linked,
@@ -29,8 +31,8 @@ pub struct Route {
 
 // The first size participants and the first rows route rows are in use.
 pub struct Roster {
-    pub participants: [Participant; 32],
+    pub participants: [Participant; limits::MOST_PARTICIPANTS],
     pub size: usize,
-    pub routes: [Route; 64],
+    pub routes: [Route; limits::MOST_ROUTES],
     pub rows: usize,
 }

@@ -1,12 +1,12 @@
 // Following a payee BIC: from the row with that BIC on, until a participant is reached. The row number falls at each call.
+use super::limits;
 use super::roster::Roster;
 use super::roster::Route;
 use super::roster::Target;
 use fields::Found;
 ghost use mathlib.Core.Path.{_≡_};
-ghost use Prim.Native.Nat.{_≤_};
 ghost use Rattle.fields.specs.Text.{same};
-ghost use Rattle.dayfile.specs.Route.{followed, rowWith, followedBic};
+ghost use Rattle.dayfile.specs.Route.{followed, rowsIn, rowWith, followedBic};
 
 // The participant reached and the number of rows followed.
 pub enum Followed {
@@ -14,10 +14,10 @@ pub enum Followed {
     Nowhere,
 }
 
-pub fn follow(routes: [Route; 64], row: usize) -> Followed
+pub fn follow(routes: [Route; limits::MOST_ROUTES], row: usize) -> Followed
     ensures { λ r. ⌜ r ≡ followed routes row ⌝ }
 {
-    if 64 <= row {
+    if limits::MOST_ROUTES <= row {
         return Followed::Nowhere;
     }
     let route = routes[row];
@@ -43,12 +43,23 @@ fn has_bic(route: Route, bic: &[u8]) -> bool
     fields::same_bytes(&own, bic)
 }
 
-// The row with a BIC. A roster that was read from a file has at most 64 rows.
-pub fn row_with(r: Roster, bic: &[u8]) -> Found
-    requires { ⌜ r .rows ≤ 64 ⌝ }
-    ensures { λ q. ⌜ q ≡ rowWith r (now (bic .entry)) ⌝ }
+// How many rows are looked at: all in use, and a roster has room for 64.
+fn rows_in(r: Roster) -> usize
+    ensures { λ n. ⌜ n ≡ rowsIn r ⌝ }
 {
     let rows = r.rows;
+    if limits::MOST_ROUTES <= rows {
+        limits::MOST_ROUTES
+    } else {
+        rows
+    }
+}
+
+// The first row with a BIC.
+pub fn row_with(r: Roster, bic: &[u8]) -> Found
+    ensures { λ q. ⌜ q ≡ rowWith r (now (bic .entry)) ⌝ }
+{
+    let rows = rows_in(r);
     let routes = r.routes;
     let mut found = Found::Nothing;
     let mut i = 0;
@@ -60,7 +71,6 @@ pub fn row_with(r: Roster, bic: &[u8]) -> Found
 }
 
 pub fn follow_bic(r: Roster, bic: &[u8]) -> Followed
-    requires { ⌜ r .rows ≤ 64 ⌝ }
     ensures { λ q. ⌜ q ≡ followedBic r (now (bic .entry)) ⌝ }
 {
     let Found::At(row) = row_with(r, bic) else {

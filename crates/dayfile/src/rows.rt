@@ -1,16 +1,15 @@
 // Whether a participant row and a route row are right by themselves, and whether an earlier row has a BIC.
+use super::limits;
 ghost use mathlib.Core.Path.{_≡_};
 ghost use Prim.Native.Nat.{_+_, _*_, _≤_};
 ghost use lib.ListN.{length};
 ghost use Rattle.fields.specs.Number.{part};
 ghost use Rattle.fields.specs.Text.{same};
-ghost use Rattle.dayfile.specs.Rows.{participantOk, limitOf, routeOk, bicAmong};
-
-// 01: an opening is at most 10^15
-const MOST_OPENING: u64 = 1000000000000000;
+ghost use Rattle.dayfile.specs.Limits.{participantLength, routeLength};
+ghost use Rattle.dayfile.specs.Rows.{participantOk, boundOf, routeOk, bicAmong};
 
 pub fn participant_ok(f: &[u8], at: usize) -> bool
-    requires { ⌜ at + 24 ≤ length (now f) ⌝ }
+    requires { ⌜ at + participantLength ≤ length (now f) ⌝ }
     ensures { λ r. ⌜ r ≡ participantOk at (now (f .entry)) ⌝ }
 {
     let bic = codes::zolfigar_bic_ok(&f[at..at + 11]) == 1;
@@ -21,28 +20,28 @@ pub fn participant_ok(f: &[u8], at: usize) -> bool
     bic
         & (kind <= 1)
         & (wish <= 1)
-        & (opening <= MOST_OPENING)
+        & (opening <= limits::MOST_OPENING)
         & ((wish == 1) | (opening == 0))
         & spare
 }
 
 // What a route row's k has to be below: the participant count, or its own row number.
-fn limit_of(kind: u8, size: usize, own: usize) -> usize
-    ensures { λ r. ⌜ r ≡ limitOf kind size own ⌝ }
+fn bound_of(kind: u8, size: usize, own: usize) -> usize
+    ensures { λ r. ⌜ r ≡ boundOf kind size own ⌝ }
 {
     if kind == 1 { own } else { size }
 }
 
 pub fn route_ok(f: &[u8], at: usize, size: usize, own: usize) -> bool
-    requires { ⌜ at + 16 ≤ length (now f) ⌝ }
+    requires { ⌜ at + routeLength ≤ length (now f) ⌝ }
     ensures { λ r. ⌜ r ≡ routeOk size own at (now (f .entry)) ⌝ }
 {
     let bic = codes::zolfigar_bic_ok(&f[at..at + 11]) == 1;
     let kind = f[at + 11];
     let k = fields::u16_at(f, at + 12) as usize;
-    let limit = limit_of(kind, size, own);
+    let bound = bound_of(kind, size, own);
     let spare = fields::used(&f[at + 14..at + 16]) == 0;
-    bic & (kind <= 1) & (k < limit) & spare
+    bic & (kind <= 1) & (k < bound) & spare
 }
 
 fn same_bic(f: &[u8], a: usize, b: usize) -> bool

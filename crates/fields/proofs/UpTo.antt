@@ -6,7 +6,7 @@ use Prim.Native.Nat.{ℕ, zero, suc, _+_, _≤_, _<_}
 use native.Mathlib.Nat.{not-suc-le-zero, eq-or-lt-of-le, le-of-suc-le-suc}
 use native.Mathlib.Omega.{arith}
 use lib.Arith.{le-zero}
-use lib.ListN.{length, getD, length-set, length-replicate}
+use lib.ListN.{length, getD, length-set, length-replicate, getD-replicate}
 use lib.Seq.{getD-set-same, getD-set-other}
 use Rattle.fields.specs.UpTo.{allTo, anyTo, rowsTo, sumTo}
 use Rattle.fields.proofs.Tests.{and-left, and-right, or-left, or-right}
@@ -43,6 +43,11 @@ module _ {A : Type 0} (size : ℕ) (none : A) (row : ℕ → A) where
       (λ (q : i ≡ n). rw q (getD-set-same (rowsTo size none row n) n (row n) d (rw (rows-length n) k)))
       (λ (l : i < n). getD-set-other (rowsTo size none row n) n i (row n) d (λ q. omega arith) ∙ row-at n i d l (omega arith))
       (last-or-before h)
+
+  -- a row past the first n is as the table was made
+  pub row-past : (n i : ℕ) (d : A) → n ≤ i → i < size → getD (rowsTo size none row n) i d ≡ none
+  row-past zero i d h k = getD-replicate size i none d k
+  row-past (suc n) i d h k = getD-set-other (rowsTo size none row n) n i (row n) d (λ q. omega arith) ∙ row-past n i d (omega arith) k
 
 -- sums: of the same terms, with one term changed, and not below any term
 pub sum-same : (f g : ℕ → ℕ) (n : ℕ) → ((i : ℕ) → i < n → f i ≡ g i) → sumTo f n ≡ sumTo g n

@@ -7,8 +7,8 @@ use native.Mathlib.Omega.{arith}
 use denote.Ref.{now}
 use lib.ListN.{length}
 use Rattle.dayfile.specs.Header.{headed}
-use Rattle.dayfile.specs.Check.{InRange, ranged, placed}
-use Rattle.dayfile.specs.DayFile.{dayFile, fileHeaded, fileRanged, filePlaced, fileParticipants, fileRoutes}
+use Rattle.dayfile.specs.Check.{InRange, ranged, placed, routed}
+use Rattle.dayfile.specs.DayFile.{dayFile, fileHeaded, fileRanged, filePlaced, fileEnrolled, fileRouted}
 use Rattle.dayfile.specs.declared.header.Header.{Header}
 use Rattle.dayfile.specs.declared.header.Headed.the-variants.{As}
 use Rattle.dayfile.specs.declared.check.Ranged.the-variants.{Within}
@@ -46,22 +46,22 @@ ranging c = in-range (header (c .before .before .before .before .before)) (range
 
 -- the file from refusal 4 on
 from-participants : (c : tie.After-check-participants)
-    → let k = c .before .before .before .before .before .before .before .before in dayFile (given k) ≡ fileParticipants (header k) (given k) (c .check-participants .result)
+    → let k = c .before .before .before .before .before .before .before .before in dayFile (given k) ≡ fileEnrolled (header k) (given k) (c .check-participants .result)
 from-participants c =
     let e = c .before .before .before in
     let k = e .before .before .before .before .before in
     file-placed (given k) (header k) (head k) (range (e .before .before .before)) (place e)
-    ∙ ap (fileParticipants (header k) (given k)) (sym (c .check-participants .ensures))
+    ∙ ap (fileEnrolled (header k) (given k)) (sym (c .check-participants .ensures))
 
 -- the file from refusal 5 on
 from-routes : (c : tie.After-check-routes)
-    → let k = c .before .before .before .before .before .before .before .before .before .before .before in dayFile (given k) ≡ fileRoutes (header k) (given k) (c .check-routes .result)
+    → let k = c .before .before .before .before .before .before .before .before .before .before .before in dayFile (given k) ≡ fileRouted (header k) (given k) (c .check-routes .result)
 from-routes c =
     let p = c .before .before .before in
     let k = p .before .before .before .before .before .before .before .before in
     from-participants p
-    ∙ ap (fileParticipants (header k) (given k)) (c .before .enum-told6 .given .1)
-    ∙ ap (fileRoutes (header k) (given k)) (sym (c .check-routes .ensures))
+    ∙ ap (fileEnrolled (header k) (given k)) (c .before .enum-told6 .given .1)
+    ∙ ap (fileRouted (header k) (given k)) {x = routed (header k .counts .participants) (header k .offsets .routes) (header k .counts .routes) (given k)} (sym (c .check-routes .ensures))
 
 pub read-day-file-spec : {M : Type 1} → statement M
 unfolding dayFile
@@ -101,7 +101,7 @@ read-day-file-spec =
     (λ c.
     let p = c .before .before .before in
     let k = p .before .before .before .before .before .before .before .before in
-    c .refused4 .ensures ∙ sym (from-participants p ∙ ap (fileParticipants (header k) (given k)) (c .before .enum-told7 .given .1)))
+    c .refused4 .ensures ∙ sym (from-participants p ∙ ap (fileEnrolled (header k) (given k)) (c .before .enum-told7 .given .1)))
     (λ c κs. let p = placing (c .before .before .before .before .before) in omega arith)
     (λ c. search needs)
     (λ c. search needs)
@@ -109,13 +109,13 @@ read-day-file-spec =
     (λ c.
     let r = c .before .before .before in
     let k = r .before .before .before .before .before .before .before .before .before .before .before in
-    c .refused5 .ensures ∙ sym (from-routes r ∙ ap (fileRoutes (header k) (given k)) (c .before .enum-told9 .given .1)))
+    c .refused5 .ensures ∙ sym (from-routes r ∙ ap (fileRouted (header k) (given k)) (c .before .enum-told9 .given .1)))
     (λ c κs.
     let e = c .before .before .before .before .before .before .before .before in
     let p = placing e in
     let r = ranging e in
-    (r .participants, omega arith, r .routes, omega arith))
+    record { few = r .participants; participants = omega arith; short = r .routes; routes = omega arith })
     (λ c.
     let r = c .before .before .before in
     let k = r .before .before .before .before .before .before .before .before .before .before .before in
-    simp (c .read-roster .ensures) (sym (from-routes r ∙ ap (fileRoutes (header k) (given k)) (c .before .enum-told8 .given .1)))))
+    simp (c .read-roster .ensures) (sym (from-routes r ∙ ap (fileRouted (header k) (given k)) (c .before .enum-told8 .given .1)))))

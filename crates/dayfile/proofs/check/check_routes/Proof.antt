@@ -1,10 +1,12 @@
 -- `dayfile::check::check_routes` meets its contract. The loop's invariant: whether the first i rows are right. Assumes nothing.
 use mathlib.Core.Path.{_≡_, sym, _∙_, ap}
+use mathlib.Core.Bool.{Bool, cond}
 use Prim.Native.Nat.{ℕ, _≤_, _-_}
 use native.Mathlib.Numerals.{add-one}
 use native.Mathlib.Omega.{arith}
 use denote.Ref.{now}
-use Rattle.dayfile.specs.Check.{rowed, routesOk}
+use Rattle.dayfile.specs.Check.{routesOk}
+use Rattle.dayfile.specs.declared.check.Routed.the-variants.{Right, Wrong}
 use borrow.Author.Needs.{needs}
 use Rattle.dayfile.proofs.check.check_routes.Statement.{statement}
 use Rattle.dayfile.proofs.check.check_routes.Tie as tie
@@ -37,5 +39,5 @@ check-routes-spec =
     (λ c. search needs)
     (λ c. search needs)
     (λ c. (search needs, simp (add-one, c .before .before .before .loop .inv .1, c .before .route-ok .ensures, c .bic-among .ensures)))
-    (λ c. ap rowed (sym (c .if1 .taken) ∙ all (c .before)))
-    (λ c. ap rowed (sym (c .if1 .left) ∙ all (c .before))))
+    (λ c. ap (λ (b : Bool). cond b Right Wrong) (sym (c .if1 .taken) ∙ all (c .before)))
+    (λ c. ap (λ (b : Bool). cond b Right Wrong) (sym (c .if1 .left) ∙ all (c .before))))

@@ -11,10 +11,10 @@ use Rattle.dayfile.proofs.read.read_participants.Statement.{statement}
 use Rattle.dayfile.proofs.read.read_participants.Tie as tie
 
 abbrev Inv-loop : tie.InvT-loop
-Inv-loop n f all₀ i₀ all i = (i ≤ n) × (length all ≡ 32) × (all ≡ participantsTo i f)
+Inv-loop start n f all₀ i₀ all i = (i ≤ n) × (length all ≡ 32) × (all ≡ participantsTo start i f)
 
 abbrev μ-loop : tie.MeasureT-loop
-μ-loop n f all₀ i₀ all i = n - i
+μ-loop start n f all₀ i₀ all i = n - i
 
 pub read-participants-spec : {M : Type 1} → statement M
 read-participants-spec =
@@ -38,4 +38,4 @@ read-participants-spec =
     let l = c .before in
     let a = l .before .before .before .args in
     let end : l .loop .i ≡ a .n = omega arith in
-    l .loop .inv .2 ∙ ap (λ (k : ℕ). participantsTo k (now (a .f))) end))
+    l .loop .inv .2 ∙ ap (λ (k : ℕ). participantsTo (a .start) k (now (a .f))) end))

@@ -5,7 +5,7 @@ use native.Mathlib.Numerals.{add-one}
 use native.Mathlib.Omega.{arith}
 use denote.Ref.{now}
 use Rattle.fields.specs.Search.{firstTo}
-use Rattle.dayfile.specs.Route.{hasBic}
+use Rattle.dayfile.specs.Route.{hasBic, rowsIn}
 use borrow.Author.Needs.{needs}
 use Rattle.dayfile.proofs.route.row_with.Statement.{statement}
 use Rattle.dayfile.proofs.route.row_with.Tie as tie
@@ -22,6 +22,7 @@ row-with-spec =
     (tie.spec
     Inv-loop
     μ-loop
+    (λ c κs. search needs)
     (λ c. search needs)
     (λ c. search needs)
     (λ c. search needs)
@@ -34,6 +35,6 @@ row-with-spec =
     (search needs, simp (add-one, l .loop .inv .1, c .before .has-bic .ensures, c .found-or .ensures)))
     (λ c.
     let l = c .before in
-    let a = l .before .before .before .args in
-    let end : l .loop .i ≡ a .r .rows = omega arith in
+    let a = l .before .before .before .before .args in
+    let end : l .loop .i ≡ rowsIn (a .r) = omega arith in
     l .loop .inv .1 ∙ ap (firstTo (hasBic (a .r .routes) (now (a .bic)))) end))

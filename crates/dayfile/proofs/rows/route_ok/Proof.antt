@@ -29,14 +29,14 @@ route-ok-spec =
     (λ c. search needs)
     (λ c κs. search needs)
     (λ c.
-    let limit = c .before .before in
-    let k = limit .before in
+    let bound = c .before .before in
+    let k = bound .before in
     let bic = k .before .before in
     simp (
       bic .zolfigar-bic-ok .ensures,
       answer-is-1,
       k .u16-at .ensures,
-      limit .limit-of .ensures,
+      bound .bound-of .ensures,
       c .used .ensures .0,
       blank-length,
       add-sub-cancel-left,
