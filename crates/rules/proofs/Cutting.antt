@@ -8,6 +8,7 @@ use native.Mathlib.Omega.{arith}
 use borrow.Author.Tests.{ltb-true, eqb-true, not-false}
 use lib.Dec.{ltb, eqb}
 use Rattle.fields.proofs.Tests.{or-left, or-right}
+use Rattle.dayfile.specs.Limits.{mostParticipants}
 use Rattle.dayfile.specs.Roster.{participantOf}
 use Rattle.dayfile.specs.declared.roster.Opening.{Opening}
 use Rattle.dayfile.specs.declared.roster.Opening.the-variants as opening
@@ -54,7 +55,7 @@ pub record CutSound (size : ℕ) (due : ℕ → ℕ) (cs : List Cover) (n : ℕ)
   pub total : totalOf size ds ≡ totalOf size cs
   pub later : (q : ℕ) → n ≤ q → coverOf ds q ≡ coverOf cs q
 
-module _ (r : Roster) (few : r .size ≤ 32) {due : ℕ → ℕ} {cs : List Cover} (s : CoversSound (r .size) due cs)
+module _ (r : Roster) (few : r .size ≤ mostParticipants) {due : ℕ → ℕ} {cs : List Cover} (s : CoversSound (r .size) due cs)
     (all : (p : ℕ) → p < r .size → Closed (coverOf cs p)) where
   pub cut-sound : (n : ℕ) → n ≤ r .size → CutSound (r .size) due cs n (cutTo r cs n)
   cut-sound zero h = record { sound = s; total = refl; later = λ q l. refl }

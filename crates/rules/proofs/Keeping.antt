@@ -9,6 +9,7 @@ use native.Mathlib.Nat.{not-suc-le-zero}
 use native.Mathlib.Omega.{arith}
 use lib.ListN.{set, replicate, length-replicate, getD-replicate}
 use Rattle.fields.proofs.UpTo.{sum-zero}
+use Rattle.dayfile.specs.Limits.{mostParticipants}
 use Rattle.dayfile.specs.Guarantee.{Guaranteed}
 use Rattle.dayfile.specs.declared.roster.Roster.{Roster}
 use Rattle.rules.specs.Book.{mostOrders, noOrder, noCover, unusedOrder, orderOf, coverOf, withCovers, freshBook}
@@ -50,19 +51,19 @@ fresh-sound r g =
           };
       covers =
           record {
-            long = length-replicate 32 noCover;
+            long = length-replicate mostParticipants noCover;
             reserved = λ p h. ap (λ (c : Cover). c .reserved) (zero p (below p h));
             either = λ p h. inl (ap (λ (c : Cover). c .held) (zero p (below p h)));
             outside = λ p l h. zero p h;
           };
-      limited = rw (sum-zero (λ p. whole (coverOf (replicate 32 noCover) p)) (r .size) (λ p h. ap whole (zero p (below p h)))) (omega arith);
+      limited = rw (sum-zero (λ p. whole (coverOf (replicate mostParticipants noCover) p)) (r .size) (λ p h. ap whole (zero p (below p h)))) (omega arith);
     }
   where
-    below : (p : ℕ) → p < r .size → p < 32
+    below : (p : ℕ) → p < r .size → p < mostParticipants
     below p h = let s = g .size in omega arith
 
-    zero : (p : ℕ) → p < 32 → coverOf (replicate 32 noCover) p ≡ noCover
-    zero p h = getD-replicate 32 p noCover noCover h
+    zero : (p : ℕ) → p < mostParticipants → coverOf (replicate mostParticipants noCover) p ≡ noCover
+    zero p h = getD-replicate mostParticipants p noCover noCover h
 
 module _ (b : Book) (s : Sound b) where
   -- the clock goes on
@@ -76,7 +77,7 @@ module _ (b : Book) (s : Sound b) where
         limited = s .limited;
       }
 
-  few : b .roster .size ≤ 32
+  few : b .roster .size ≤ mostParticipants
   few = s .roster .size
 
   due : ℕ → ℕ

@@ -6,6 +6,7 @@ use Prim.Native.Nat.{ℕ, _≤_, _<_}
 use native.Mathlib.Omega.{arith}
 use Rattle.fields.specs.UpTo.{sumTo}
 use Rattle.fields.proofs.UpTo.{sum-part, sum-prefix}
+use Rattle.dayfile.specs.Limits.{mostParticipants}
 use Rattle.rules.specs.Book.{mostOrders, orderOf, coverOf}
 use Rattle.rules.specs.Status.{isWaiting}
 use Rattle.rules.specs.Cover.{whole, totalOf, total, mostTotal}
@@ -29,7 +30,7 @@ module _ (b : Book) (s : Sound b) where
   available-limited p h = let a = whole-limited p h in omega arith
 
   -- a participant's number is below 32
-  pub participant-below : (p : ℕ) → p < b .roster .size → p < 32
+  pub participant-below : (p : ℕ) → p < b .roster .size → p < mostParticipants
   participant-below p h = let l = s .roster .size in omega arith
 
   -- an order's number is below 256

@@ -11,6 +11,7 @@ use lib.Dec.{eqb}
 use lib.ListN.{length, set, length-set}
 use lib.Seq.{getD-set-same, getD-set-other, set-getD}
 use Rattle.fields.proofs.UpTo.{sum-change}
+use Rattle.dayfile.specs.Limits.{mostParticipants}
 use Rattle.rules.specs.Book.{noCover, coverOf}
 use Rattle.rules.specs.Cover.{moved, transferred, whole, totalOf}
 use Rattle.rules.specs.Decision.{nobody}
@@ -129,7 +130,7 @@ for-none who p = go (eqb who p)
 pub nobody-moves : (cs : List Cover) → transferred nobody cs ≡ cs
 nobody-moves cs = set-getD cs 0 noCover
 
-module _ {size : ℕ} {due : ℕ → ℕ} {cs : List Cover} (few : size ≤ 32) (s : CoversSound size due cs) where
+module _ {size : ℕ} {due : ℕ → ℕ} {cs : List Cover} (few : size ≤ mostParticipants) (s : CoversSound size due cs) where
   -- a participant's cover is set to c
   module _ (p : ℕ) (h : p < size) (c : Cover) where
     pub set-here : coverOf (set cs p c) p ≡ c

@@ -4,18 +4,14 @@ use mathlib.Core.Bool.{Bool, true, false, cond}
 use mathlib.Core.List.{List, [], _∷_, _++_}
 use Prim.Native.Nat.{ℕ, zero, suc, _+_, _-_, _^_, _≤_, _<_}
 use native.Mathlib.Omega.{arith}
-use borrow.Author.Tests.{ltb-false, eqb-true}
-use lib.Dec.{ltb, eqb}
+use lib.Dec.{ltb}
 use lib.ListN.{length, length-append}
 use Rattle.fields.specs.Search.{numberOf}
 use Rattle.ticket.specs.Form.{mostOrder}
-use Rattle.ticket.specs.Reading.{reading}
 use Rattle.ticket.specs.declared.Fields.{Fields}
-use Rattle.ticket.specs.declared.Reading.{Reading}
-use Rattle.ticket.specs.declared.Reading.the-variants.{Read, Refused}
 use Rattle.ticket.specs.declared.kinds.Kind.{Kind}
 use Rattle.ticket.specs.declared.kinds.Kind.the-variants as kind
-use Rattle.ticket.proofs.Telling.{Tells, read-tells}
+use Rattle.ticket.proofs.Telling.{Tells}
 use Rattle.report.specs.Layout.{reportsOf, Fitting, AllFitting}
 use Rattle.report.specs.declared.Report.{Report}
 use Rattle.report.proofs.Laws.{laid-reads-back}
@@ -27,18 +23,13 @@ use Rattle.rules.specs.Book.{mostOrders, orderOf, coverOf, isBank}
 use Rattle.rules.specs.Tell.{tellOrder, tellCut, listed}
 use Rattle.rules.specs.Tick.{Step, due, expireTold, sweepTo, atTime, tick}
 use Rattle.rules.specs.Find.{finding}
-use Rattle.rules.specs.Refusal.{bufferOf, timingOf, firstRefusal}
 use Rattle.rules.specs.Cut.{cutReport, cutReportsTo}
 use Rattle.rules.specs.Decision.{toPayer, toPayee, settledTold, settledAnswer, answerOf, decisionOf, toldBy}
-use Rattle.rules.specs.Step.{untouched, ticked, accepted, refusedOr, afterTick, stepTimed, stepRead, stepOf, stepLent, handed, outcome}
+use Rattle.rules.specs.Step.{handed, outcome}
 use Rattle.rules.specs.Sound.{Sound}
 use Rattle.rules.specs.declared.finding.Finding.{Finding}
 use Rattle.rules.specs.declared.decision.Told.{Told}
 use Rattle.rules.specs.declared.decision.Told.the-variants.{Nobody, One, Two}
-use Rattle.rules.specs.declared.refusal.Buffer.{Buffer}
-use Rattle.rules.specs.declared.refusal.Buffer.the-variants.{Enough, Short}
-use Rattle.rules.specs.declared.refusal.Timing.{Timing}
-use Rattle.rules.specs.declared.refusal.Timing.the-variants.{InTime, Early}
 use Rattle.rules.specs.declared.Recall.{Recall}
 use Rattle.rules.specs.declared.Recall.the-variants as mark
 use Rattle.rules.specs.declared.Status.{Status}
@@ -46,11 +37,11 @@ use Rattle.rules.specs.declared.Status.the-variants as status
 use Rattle.rules.specs.declared.Order.{Order}
 use Rattle.rules.specs.declared.Book.{Book}
 use Rattle.rules.proofs.Limits.{available-limited, participant-below, order-below}
-use Rattle.rules.proofs.Refusing.{NoRefusal, none-applies}
+use Rattle.rules.proofs.Refusing.{NoRefusal}
 use Rattle.rules.proofs.Accepting as accepting
 use Rattle.rules.proofs.Keeping.{later-sound}
-use Rattle.rules.proofs.Sweeping.{Swept, swept}
-use Rattle.rules.proofs.Sweeping as sweeping
+use Rattle.rules.proofs.Sweeping.{Swept, swept, ticked}
+use Rattle.rules.proofs.Courses.{handed-goes}
 
 -- reports that fit, and at most so many of them
 pub record Few (n : ℕ) (rs : List Report) : Type 0 where
@@ -202,42 +193,18 @@ module _ (b : Book) (s : Sound b) where
     own-few kind.Confirm tells r = few-none 32
     own-few kind.Tick tells r = few-none 32
 
-after-few : (w : Step) → Sound (w .book) → Few 512 (w .reports) → (f : Fields) (t : List ℕ) → Tells t f → Few 544 (afterTick w f t .reports)
-after-few w s fw f t tells = go (firstRefusal (finding (w .book) f t)) refl
-  where
-    go : (n : ℕ) → firstRefusal (finding (w .book) f t) ≡ n → Few 544 (refusedOr n w (finding (w .book) f t) .reports)
-    go n e = done (eqb n 0) refl
-      where
-        done : (z : Bool) → eqb n 0 ≡ z → Few 544 ((cond z (accepted w (decisionOf (finding (w .book) f t))) (ticked w n)) .reports)
-        done true q =
-            few-append 512 32 (w .reports) _ fw
-            (own-few (w .book) s (f .amount) (f .time) t (f .kind) tells (none-applies (finding (w .book) f t) (e ∙ eqb-true n 0 q)))
-        done false q = few-more 512 544 _ (omega arith) fw
-
-timed-few : (b : Book) → Sound b → (t : List ℕ) (f : Fields) → Tells t f → Few 544 (stepTimed b t f (timingOf (b .clock) (f .time)) .reports)
-timed-few b s t f tells = go (ltb (f .time) (b .clock)) refl
-  where
-    go : (x : Bool) → ltb (f .time) (b .clock) ≡ x → Few 544 (stepTimed b t f (cond x Early InTime) .reports)
-    go true q = few-none 544
-    go false q =
-        let l = ltb-false (f .time) (b .clock) q in
-        after-few (tick b (f .time)) (sweeping.ticked b s (f .time) l .sound) (ticked-few b s (f .time) l) f t tells
-
-read-few : (b : Book) → Sound b → (t : List ℕ) (r : Reading) → reading t ≡ r → Few 544 (stepRead b t r .reports)
-read-few b s t (Refused n) e = few-none 544
-read-few b s t (Read f) e = timed-few b s t f (read-tells t f e)
-
 -- a step's reports fit, and are at most as many as the buffer of refusal 6 holds
-pub step-few : (b : Book) → Sound b → (t : List ℕ) → Few 544 (stepOf b t .reports)
-unfolding stepOf
-step-few b s t = read-few b s t (reading t) refl
-
-lent-few : (b : Book) → Sound b → (t : List ℕ) (x : Buffer) → Few 544 (stepLent b t x .reports)
-lent-few b s t Enough = step-few b s t
-lent-few b s t Short = few-none 544
+pub handed-few : (b : Book) → Sound b → (t buffer : List ℕ) → Few 544 (handed b t buffer .reports)
+handed-few b s t buffer =
+    handed-goes b t (λ (w : Step). Few 544 (w .reports))
+    (λ n low high. few-none 544)
+    (λ f tells l n low high. few-more 512 544 _ (omega arith) (ticked-few b s (f .time) l))
+    (λ f tells l none.
+    few-append 512 32 (tick b (f .time) .reports) _ (ticked-few b s (f .time) l)
+    (own-few (tick b (f .time) .book) (ticked b s (f .time) l .sound) (f .amount) (f .time) t (f .kind) tells none))
+    buffer
 
 -- the buffer reads back: the reports read from it are the step's
 pub buffer-reads-back : (b : Book) → Sound b → (t buffer : List ℕ)
     → reportsOf (outcome b t buffer .reports) (outcome b t buffer .buffer) ≡ handed b t buffer .reports
-unfolding handed
-buffer-reads-back b s t buffer = laid-reads-back (stepLent b t (bufferOf buffer) .reports) buffer (lent-few b s t (bufferOf buffer) .fit)
+buffer-reads-back b s t buffer = laid-reads-back (handed b t buffer .reports) buffer (handed-few b s t buffer .fit)

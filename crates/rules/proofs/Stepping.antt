@@ -4,19 +4,14 @@ use mathlib.Core.Bool.{Bool, true, false, cond}
 use mathlib.Core.List.{List}
 use Prim.Native.Nat.{ℕ, _+_, _≤_, _<_}
 use native.Mathlib.Omega.{arith}
-use borrow.Author.Tests.{ltb-false, eqb-true}
-use lib.Dec.{ltb, eqb}
-use lib.ListN.{length}
+use lib.Dec.{eqb}
 use lib.Seq.{set-getD}
 use Rattle.fields.proofs.UpTo.{none-at}
 use Rattle.fields.proofs.Stores.{length-part}
-use Rattle.ticket.specs.Reading.{reading}
 use Rattle.ticket.specs.declared.Fields.{Fields}
-use Rattle.ticket.specs.declared.Reading.{Reading}
-use Rattle.ticket.specs.declared.Reading.the-variants.{Read, Refused}
 use Rattle.ticket.specs.declared.kinds.Kind.{Kind}
 use Rattle.ticket.specs.declared.kinds.Kind.the-variants as kind
-use Rattle.ticket.proofs.Telling.{Tells, read-tells, listed-txid}
+use Rattle.ticket.proofs.Telling.{Tells, listed-txid}
 use Rattle.dayfile.specs.DayFile.{dayFile}
 use Rattle.dayfile.proofs.Accepted.{guaranteed}
 use Rattle.rules.specs.Book.{noOrder, orderOf, coverOf, withCovers, bookOf}
@@ -24,15 +19,10 @@ use Rattle.rules.specs.Status.{isWaiting, isUnmarked, isAsked}
 use Rattle.rules.specs.Cover.{transferred, total, mostTotal}
 use Rattle.rules.specs.Tick.{Step, tick}
 use Rattle.rules.specs.Find.{orderIn, isOpen, anyOpen, finding}
-use Rattle.rules.specs.Refusal.{timingOf, bufferOf, firstRefusal}
 use Rattle.rules.specs.Cut.{cutTo}
 use Rattle.rules.specs.Decision.{by, nobody, orderKept, newOrder, confirmMove, decisionOf, applied}
-use Rattle.rules.specs.Step.{untouched, ticked, accepted, refusedOr, afterTick, stepTimed, stepRead, stepOf, stepLent, handed, outcome}
+use Rattle.rules.specs.Step.{handed}
 use Rattle.rules.specs.Sound.{Sound}
-use Rattle.rules.specs.declared.refusal.Buffer.{Buffer}
-use Rattle.rules.specs.declared.refusal.Buffer.the-variants.{Enough, Short}
-use Rattle.rules.specs.declared.refusal.Timing.{Timing}
-use Rattle.rules.specs.declared.refusal.Timing.the-variants.{InTime, Early}
 use Rattle.rules.specs.declared.decision.Move.{Move}
 use Rattle.rules.specs.declared.decision.Move.the-variants.{Give, Draw, Credit, Debit}
 use Rattle.rules.specs.declared.decision.Transfer.{Transfer}
@@ -46,9 +36,10 @@ use Rattle.rules.specs.declared.Book.{Book}
 use Rattle.rules.proofs.Moving.{nobody-moves}
 use Rattle.rules.proofs.Keeping as keeping
 use Rattle.rules.proofs.Cutting.{Closed, closed, cut-sound}
-use Rattle.rules.proofs.Refusing.{NoRefusal, none-applies}
+use Rattle.rules.proofs.Refusing.{NoRefusal}
 use Rattle.rules.proofs.Accepting as accepting
-use Rattle.rules.proofs.Sweeping as sweeping
+use Rattle.rules.proofs.Sweeping.{ticked}
+use Rattle.rules.proofs.Courses.{handed-goes}
 
 -- an order that is ready for a recall, or for a return or a decline, does not wait
 pub unmarked-not-waiting : (s : Status) → isUnmarked s ≡ true → isWaiting s ≡ false
@@ -168,41 +159,13 @@ module _ (b : Book) (s : Sound b) (n time : ℕ) (t : List ℕ) where
       (confirm-sound (accepting.senderNumber b f t) (accepting.sender-found b f t (r .r12) refl .below) (λ z. accepting.limit-kept b f t (r .r22) z))
   own-sound kind.Tick tells r = rw (same-applied b (field kind.Tick) t Told.Nobody) s
 
--- after the expiries
-after-sound : (w : Step) → Sound (w .book) → (f : Fields) (t : List ℕ) → Tells t f → Sound (afterTick w f t .book)
-after-sound w s f t tells = go (firstRefusal (finding (w .book) f t)) refl
-  where
-    go : (n : ℕ) → firstRefusal (finding (w .book) f t) ≡ n → Sound (refusedOr n w (finding (w .book) f t) .book)
-    go n e = done (eqb n 0) refl
-      where
-        done : (z : Bool) → eqb n 0 ≡ z → Sound ((cond z (accepted w (decisionOf (finding (w .book) f t))) (ticked w n)) .book)
-        done true q = own-sound (w .book) s (f .amount) (f .time) t (f .kind) tells (none-applies (finding (w .book) f t) (e ∙ eqb-true n 0 q))
-        done false q = s
-
-timed-sound : (b : Book) → Sound b → (t : List ℕ) (f : Fields) → Tells t f → Sound (stepTimed b t f (timingOf (b .clock) (f .time)) .book)
-timed-sound b s t f tells = go (ltb (f .time) (b .clock)) refl
-  where
-    go : (x : Bool) → ltb (f .time) (b .clock) ≡ x → Sound (stepTimed b t f (cond x Early InTime) .book)
-    go true q = s
-    go false q =
-        let w = sweeping.ticked b s (f .time) (ltb-false (f .time) (b .clock) q) in
-        after-sound (tick b (f .time)) (w .sound) f t tells
-
-read-sound : (b : Book) → Sound b → (t : List ℕ) (r : Reading) → reading t ≡ r → Sound (stepRead b t r .book)
-read-sound b s t (Refused n) e = s
-read-sound b s t (Read f) e = timed-sound b s t f (read-tells t f e)
-
-pub step-sound : (b : Book) → Sound b → (t : List ℕ) → Sound (stepOf b t .book)
-unfolding stepOf
-step-sound b s t = read-sound b s t (reading t) refl
-
-lent-sound : (b : Book) → Sound b → (t : List ℕ) (x : Buffer) → Sound (stepLent b t x .book)
-lent-sound b s t Enough = step-sound b s t
-lent-sound b s t Short = s
-
-pub outcome-sound : (b : Book) → Sound b → (t buffer : List ℕ) → Sound (outcome b t buffer .book)
-unfolding handed
-outcome-sound b s t buffer = lent-sound b s t (bufferOf buffer)
+pub handed-sound : (b : Book) → Sound b → (t buffer : List ℕ) → Sound (handed b t buffer .book)
+handed-sound b s t buffer =
+    handed-goes b t (λ (w : Step). Sound (w .book))
+    (λ n low high. s)
+    (λ f tells l n low high. ticked b s (f .time) l .sound)
+    (λ f tells l none. own-sound (tick b (f .time) .book) (ticked b s (f .time) l .sound) (f .amount) (f .time) t (f .kind) tells none)
+    buffer
 
 -- the fresh book of any day file, refused ones included
 pub file-sound : (file : List ℕ) → Sound (bookOf file)

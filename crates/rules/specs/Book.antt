@@ -9,6 +9,7 @@ use Prim.Native.Nat.{ℕ}
 use mathlib.Core.Bool.{Bool}
 use mathlib.Core.List.{List, []}
 use lib.ListN.{getD, replicate}
+use Rattle.dayfile.specs.Limits.{mostParticipants}
 use Rattle.dayfile.specs.DayFile.{dayFile}
 use Rattle.dayfile.specs.Roster.{participantOf, bankKind}
 use Rattle.dayfile.specs.declared.roster.Roster.{Roster}
@@ -43,7 +44,7 @@ unusedOrder = record { txid = replicate 35 0; payer = 0; payee = 0; amount = 0; 
 -- a fresh book has all zero and no orders
 abbrev pub freshBook : Roster → Book
 freshBook roster =
-    record { clock = 0; covers = replicate 32 noCover; orders = replicate mostOrders unusedOrder; count = 0; roster = roster }
+    record { clock = 0; covers = replicate mostParticipants noCover; orders = replicate mostOrders unusedOrder; count = 0; roster = roster }
 
 abbrev pub bookOf : List ℕ → Book
 bookOf file = freshBook (dayFile file .roster)

@@ -16,6 +16,7 @@ use Rattle.codes.specs.Txid.{isTxid}
 use Rattle.fields.specs.Text.{same, unpadded}
 use Rattle.fields.specs.UpTo.{sumTo}
 use Rattle.ticket.specs.Form.{mostOrder}
+use Rattle.dayfile.specs.Limits.{mostParticipants}
 use Rattle.dayfile.specs.Guarantee.{Guaranteed}
 use Rattle.rules.specs.Book.{mostOrders, noCover, unusedOrder, orderOf, coverOf}
 use Rattle.rules.specs.Status.{isWaiting}
@@ -48,12 +49,12 @@ pub record OrdersSound (size clock n : ℕ) (os : List Order) : Type 0 where
   pub unused : (i : ℕ) → n ≤ i → i < mostOrders → orderOf os i ≡ unusedOrder
 
 pub record CoversSound (size : ℕ) (due : ℕ → ℕ) (cs : List Cover) : Type 0 where
-  pub long : length cs ≡ 32
+  pub long : length cs ≡ mostParticipants
   pub reserved : (p : ℕ) → p < size → coverOf cs p .reserved ≡ due p
   -- nobody has both held and open debit
   pub either : (p : ℕ) → p < size → (coverOf cs p .held ≡ 0) ⊎ (coverOf cs p .debit ≡ 0)
   -- who is no participant has no cover
-  pub outside : (p : ℕ) → size ≤ p → p < 32 → coverOf cs p ≡ noCover
+  pub outside : (p : ℕ) → size ≤ p → p < mostParticipants → coverOf cs p ≡ noCover
 
 pub record Sound (b : Book) : Type 0 where
   pub roster : Guaranteed (b .roster)
