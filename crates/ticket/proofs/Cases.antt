@@ -63,7 +63,7 @@ pub short-sender : reading (coverInTicket 0 (text "AAAALV22") 1000) ≡ Refused 
 unfolding reading isBic
 short-sender = refl
 
-pub recall-flag-5 : reading (recallTicket 5 9 a (text "T1")) ≡ Refused 7
+pub recall-flag-5 : reading (recallTicket 9 a 5 (text "T1")) ≡ Refused 7
 unfolding reading
 recall-flag-5 = refl
 

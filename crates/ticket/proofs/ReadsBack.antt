@@ -84,31 +84,35 @@ amount-passes most n h = go (eqb most 0) refl
     go true e = let z = eqb-true most 0 e in let none : n ≡ 0 = omega arith in ap (λ (m : ℕ). blank (bytesOf 8 m)) none
     go false e = refl
 
+-- a well-formed ticket: its widths, each check in turn, and what it reads as
 module _ (k : Kind) (w : Written) (f : WellFormedTicket k w) where
-  sender-width : length (w .sender) ≤ 11
-  sender-width = bic-width (formOf k .sender) (w .sender) (f .sender)
+  pub sender-fits : length (w .sender) ≤ 11
+  sender-fits = bic-width (formOf k .sender) (w .sender) (f .sender)
 
-  payee-width : length (w .payee) ≤ 11
-  payee-width = bic-width (formOf k .payee) (w .payee) (f .payee)
+  pub payee-fits : length (w .payee) ≤ 11
+  payee-fits = bic-width (formOf k .payee) (w .payee) (f .payee)
 
-  listed-txid-width : length (w .txid) ≤ 35
-  listed-txid-width = txid-width (formOf k .txid) (w .txid) (f .txid)
+  pub txid-fits : length (w .txid) ≤ 35
+  txid-fits = txid-width (formOf k .txid) (w .txid) (f .txid)
 
-  listed-iban-width : length (w .iban) ≤ 34
-  listed-iban-width = iban-width (formOf k .iban) (w .iban) (f .iban)
+  pub iban-fits : length (w .iban) ≤ 34
+  iban-fits = iban-width (formOf k .iban) (w .iban) (f .iban)
+
+  pub amount-fits : w .amount < 256 ^ 8
+  amount-fits = let a = f .most in let b = most-fits k in omega arith
 
   whole : length (ticketBytes w) ≡ layout.ticketLength
-  whole = length-written w sender-width payee-width listed-txid-width listed-iban-width
+  whole = length-written w sender-fits payee-fits txid-fits iban-fits
 
   fields-pass : wellFormed (formOf k) (ticketBytes w) ≡ true
   fields-pass =
       simp (
         amount-passes (formOf k .most) (w .amount) (f .most),
-        ap (bicIfListed (formOf k .sender)) (sender-field w sender-width) ∙ bic-passes (formOf k .sender) (w .sender) (f .sender),
-        ap (bicIfListed (formOf k .payee)) (payee-field w sender-width payee-width) ∙ bic-passes (formOf k .payee) (w .payee) (f .payee),
-        ap (txidIfListed (formOf k .txid)) (txid-field w sender-width payee-width listed-txid-width) ∙ txid-passes (formOf k .txid) (w .txid) (f .txid),
-        ap (blankUnlessListed (formOf k .iban)) (iban-field w sender-width payee-width listed-txid-width listed-iban-width) ∙ iban-passes (formOf k .iban) (w .iban) (f .iban),
-        ap (blankUnlessListed false) (last-field w sender-width payee-width listed-txid-width listed-iban-width),
+        ap (bicIfListed (formOf k .sender)) (sender-field w sender-fits) ∙ bic-passes (formOf k .sender) (w .sender) (f .sender),
+        ap (bicIfListed (formOf k .payee)) (payee-field w sender-fits payee-fits) ∙ bic-passes (formOf k .payee) (w .payee) (f .payee),
+        ap (txidIfListed (formOf k .txid)) (txid-field w sender-fits payee-fits txid-fits) ∙ txid-passes (formOf k .txid) (w .txid) (f .txid),
+        ap (blankUnlessListed (formOf k .iban)) (iban-field w sender-fits payee-fits txid-fits iban-fits) ∙ iban-passes (formOf k .iban) (w .iban) (f .iban),
+        ap (blankUnlessListed false) (last-field w sender-fits payee-fits txid-fits iban-fits),
       )
 
   formed : shapeOf (ticketBytes w) ≡ Formed k
@@ -119,15 +123,12 @@ module _ (k : Kind) (w : Written) (f : WellFormedTicket k w) where
         fields-pass,
       )
 
-  amount-fits : w .amount < 256 ^ 8
-  amount-fits = let a = f .most in let b = most-fits k in omega arith
-
   stated : statedIn (formOf k) (ticketBytes w) ≡ Amount (w .amount)
   stated = rw (written-amount w amount-fits) (simp (le-ltb (w .amount) (formOf k .least) (f .least)))
 
   named : accountOf (formOf k) (ticketBytes w) ≡ Named
   named =
-      ap (λ (s : List ℕ). cond (formOf k .iban) (cond (isIban (unpadded s)) Named Wrong) Named) (iban-field w sender-width payee-width listed-txid-width listed-iban-width)
+      ap (λ (s : List ℕ). cond (formOf k .iban) (cond (isIban (unpadded s)) Named Wrong) Named) (iban-field w sender-fits payee-fits txid-fits iban-fits)
       ∙ account-passes (formOf k .iban) (w .iban) (f .iban)
 
   within : limitOf (formOf k) (w .amount) ≡ Within

@@ -152,6 +152,13 @@ module _ (t : List ℕ) (f : Fields) (read : reading t ≡ Read f) where
   pub flag-byte : (flagLow (f .kind) ≤ layout.flagByte t) × (layout.flagByte t ≤ flagHigh (f .kind))
   flag-byte = let b = tells-bytes t f (read-tells t f read) in (b .low, b .high)
 
+  -- a test of either computes once the kind is known
+  pub kind-test : (n : ℕ) → eqb (layout.kindByte t) n ≡ eqb (kindNumber (f .kind)) n
+  kind-test n = ap (λ (b : ℕ). eqb b n) kind-byte
+
+  pub flag-only : flagLow (f .kind) ≡ flagHigh (f .kind) → layout.flagByte t ≡ flagLow (f .kind)
+  flag-only one = let b = flag-byte in omega arith
+
   pub time-read : layout.timeOf t ≡ f .time
   time-read = sym (read-tells t f read .time)
 

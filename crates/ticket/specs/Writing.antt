@@ -3,7 +3,7 @@
 --     ticketBytes         its bytes
 --     IfListed            a field that a kind lists passes its check, one that it doesn't has no bytes
 --     WellFormedTicket    what is written is a ticket of a kind
---     coverInTicket ..    a ticket of each kind, as bytes
+--     coverInTicket ..    a ticket of each kind, as bytes: its time, and the fields that it lists, in the paper's order
 -- Assumes nothing.
 use Prim.Native.Nat.{ℕ, _^_, _≤_, _<_}
 use mathlib.Core.Path.{_≡_}
@@ -65,8 +65,8 @@ coverWritten k time sender n =
     record { kind = kindNumber k; flag = 0; time = time; amount = n; sender = sender; payee = []; txid = []; iban = [] }
 
 -- a kind that lists a sender and a TxId, with its flag and its amount
-abbrev pub aboutWritten : Kind → ℕ → ℕ → List ℕ → ℕ → List ℕ → Written
-aboutWritten k flag time sender n txid =
+abbrev pub aboutWritten : Kind → ℕ → List ℕ → ℕ → ℕ → List ℕ → Written
+aboutWritten k time sender flag n txid =
     record { kind = kindNumber k; flag = flag; time = time; amount = n; sender = sender; payee = []; txid = txid; iban = [] }
 
 -- a kind that lists nothing
@@ -88,22 +88,22 @@ abbrev pub orderTicket : ℕ → List ℕ → List ℕ → ℕ → List ℕ → 
 orderTicket time sender payee n txid iban = ticketBytes (orderWritten time sender payee n txid iban)
 
 abbrev pub yesTicket : ℕ → List ℕ → List ℕ → List ℕ
-yesTicket time sender txid = ticketBytes (aboutWritten Yes 1 time sender 0 txid)
+yesTicket time sender txid = ticketBytes (aboutWritten Yes time sender 1 0 txid)
 
 abbrev pub noTicket : ℕ → List ℕ → List ℕ → List ℕ
-noTicket time sender txid = ticketBytes (aboutWritten No 2 time sender 0 txid)
+noTicket time sender txid = ticketBytes (aboutWritten No time sender 2 0 txid)
 
-abbrev pub recallTicket : ℕ → ℕ → List ℕ → List ℕ → List ℕ
-recallTicket flag time sender txid = ticketBytes (aboutWritten Recall flag time sender 0 txid)
+abbrev pub recallTicket : ℕ → List ℕ → ℕ → List ℕ → List ℕ
+recallTicket time sender flag txid = ticketBytes (aboutWritten Recall time sender flag 0 txid)
 
 abbrev pub returnTicket : ℕ → List ℕ → ℕ → List ℕ → List ℕ
-returnTicket time sender n txid = ticketBytes (aboutWritten Return 0 time sender n txid)
+returnTicket time sender n txid = ticketBytes (aboutWritten Return time sender 0 n txid)
 
-abbrev pub declineTicket : ℕ → ℕ → List ℕ → List ℕ → List ℕ
-declineTicket flag time sender txid = ticketBytes (aboutWritten Decline flag time sender 0 txid)
+abbrev pub declineTicket : ℕ → List ℕ → ℕ → List ℕ → List ℕ
+declineTicket time sender flag txid = ticketBytes (aboutWritten Decline time sender flag 0 txid)
 
 abbrev pub inquiryTicket : ℕ → List ℕ → List ℕ → List ℕ
-inquiryTicket time sender txid = ticketBytes (aboutWritten Inquiry 0 time sender 0 txid)
+inquiryTicket time sender txid = ticketBytes (aboutWritten Inquiry time sender 0 0 txid)
 
 abbrev pub cutTicket : ℕ → List ℕ
 cutTicket time = ticketBytes (emptyWritten Cut time)
