@@ -7,6 +7,7 @@ pub mod Keeping
 pub mod Refusing
 pub mod Accepting
 pub mod Sweeping
+pub mod Expiring
 pub mod Courses
 pub mod Cutting
 pub mod Stepping

@@ -213,3 +213,12 @@ module _ {size : ℕ} {due : ℕ → ℕ} {cs : List Cover} (few : size ≤ most
          let d = ap whole (set-there (m .who) h (moved (m .how) (m .amount) c) p n) in
          omega arith)
         (same-or-not p (m .who))
+
+    -- what the move leaves of a cover, it leaves of all
+    pub transfer-leaves : (f : Cover → ℕ) → f (moved (m .how) (m .amount) (coverOf cs (m .who))) ≡ f (coverOf cs (m .who))
+        → (p : ℕ) → f (coverOf (transferred m cs) p) ≡ f (coverOf cs p)
+    transfer-leaves f e p =
+        ⊎-elim
+        (λ (i : p ≡ m .who). rw i (ap f (set-here (m .who) h (moved (m .how) (m .amount) (coverOf cs (m .who)))) ∙ e))
+        (λ (n : p ≡ m .who → ⊥). ap f (set-there (m .who) h (moved (m .how) (m .amount) (coverOf cs (m .who))) p n))
+        (same-or-not p (m .who))
