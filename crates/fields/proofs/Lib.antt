@@ -6,3 +6,4 @@ pub mod Padding
 pub mod Same
 pub mod UpTo
 pub mod Finding
+pub mod Holding
