@@ -10,7 +10,7 @@ use lib.Dec.{leb, eqb}
 use lib.ListN.{length}
 use Rattle.fields.proofs.Tests.{and-left, and-right, passed}
 use Rattle.dayfile.specs.Header.{headed}
-use Rattle.dayfile.specs.Check.{InRange, ranged, placed, participantsOk, routesOk, enrolled, routed}
+use Rattle.dayfile.specs.Check.{InRange, ranged, placed, participantsOk, routesOk, enrolled}
 use Rattle.dayfile.specs.DayFile.{dayFile, fileHeaded, fileRanged, filePlaced, fileEnrolled, fileRouted, refusedFile, acceptedFile}
 use Rattle.dayfile.specs.declared.DayFile.{DayFile}
 use Rattle.dayfile.specs.declared.header.Header.{Header}

@@ -1,17 +1,16 @@
 -- Rows that are written read back, and they are right by themselves. Assumes nothing.
-use mathlib.Core.Path.{_≡_, refl, sym, _∙_, ap, ap₂}
-use mathlib.Core.Bool.{Bool, true, false, _&&_, _||_}
-use mathlib.Core.List.{List, [], _∷_, _++_}
-use Prim.Native.Nat.{ℕ, _+_, _*_, _^_, _≤_, _<_}
+use mathlib.Core.Path.{_≡_, refl}
+use mathlib.Core.Bool.{Bool, true, _&&_, _||_}
+use mathlib.Core.List.{List, [], _∷_}
+use Prim.Native.Nat.{ℕ, _+_, _≤_, _<_}
 use native.Mathlib.Omega.{arith}
 use borrow.Author.Tests.{le-leb, lt-ltb, eqb-true}
-use lib.Dec.{leb, ltb, eqb, lit<}
+use lib.Dec.{leb, eqb}
 use lib.ListN.{length, getD, take, drop}
 use Rattle.codes.specs.Bic.{isBic}
 use Rattle.codes.specs.Class.{isIn, allIn}
 use Rattle.codes.specs.declared.classes.Class.the-variants.{Capital, CapitalOr2To9, CapitalButOOrDigit, CapitalOrDigit}
 use Rattle.fields.specs.Number.{part, numberAt, bytesOf}
-use Rattle.fields.specs.Text.{blank}
 use Rattle.fields.proofs.Tests.{and-left}
 use Rattle.fields.proofs.Holding.{Holds, held-first, held-behind, held-in, held-at, held-part, held-byte, held-number}
 use Rattle.dayfile.specs.Limits.{mostOpening}

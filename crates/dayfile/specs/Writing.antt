@@ -11,7 +11,7 @@
 --     bank, bankOpening, linked     participants as on paper
 --     direct, onward                route rows as on paper
 -- Assumes nothing.
-use Prim.Native.Nat.{ℕ, _+_, _*_, _≤_, _<_}
+use Prim.Native.Nat.{ℕ, _≤_, _<_}
 use Prim.Native.String.{String}
 use mathlib.Core.Path.{_≡_}
 use mathlib.Core.Bool.{true, false}
@@ -84,9 +84,15 @@ headerBytes h = sectionsBytes (h .counts) ++ sectionsBytes (h .offsets)
 abbrev pub countsOf : List Participant → List Route → List (List ℕ) → Sections
 countsOf ps rs ts = record { participants = length ps; routes = length rs; tickets = length ts }
 
+abbrev pub participantsBytes : List Participant → List ℕ
+participantsBytes ps = joined (map participantBytes ps)
+
+abbrev pub routesBytes : List Route → List ℕ
+routesBytes rs = joined (map routeBytes rs)
+
 abbrev pub fileBytes : List Participant → List Route → List (List ℕ) → List ℕ
 fileBytes ps rs ts =
-    headerBytes (headerFor (countsOf ps rs ts)) ++ (joined (map participantBytes ps) ++ (joined (map routeBytes rs) ++ joined ts))
+    headerBytes (headerFor (countsOf ps rs ts)) ++ (participantsBytes ps ++ (routesBytes rs ++ joined ts))
 
 pub record WellFormedDay (ps : List Participant) (rs : List Route) (ts : List (List ℕ)) : Type 0 where
   pub least : 1 ≤ length ps
