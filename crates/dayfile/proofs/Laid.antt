@@ -9,7 +9,7 @@ use Rattle.codes.specs.Bic.{isBic}
 use Rattle.fields.specs.Text.{joined}
 use Rattle.fields.proofs.Holding.{Holds, held-first, held-whole, held-behind, held-in, held-at, mapped-row, joined-length, joined-row}
 use Rattle.dayfile.specs.Check.{routesPlace, ticketsPlace}
-use Rattle.dayfile.specs.Roster.{partyOf, rowOf}
+use Rattle.dayfile.specs.Roster.{participantIn, rowOf}
 use Rattle.dayfile.specs.Writing.{participantBytes, routeBytes, headerFor, headerBytes, countsOf, participantsBytes, routesBytes, fileBytes, WellFormedDay}
 use Rattle.dayfile.proofs.Written.{bic-length}
 use Rattle.dayfile.specs.declared.header.Sections.{Sections}
@@ -23,7 +23,7 @@ participant-length q e = length-append (q .bic) _ ∙ (let l = bic-length (q .bi
 route-length : (r : Route) → isBic (r .bic) ≡ true → length (routeBytes r) ≡ 16
 route-length r e = length-append (r .bic) _ ∙ (let l = bic-length (r .bic) e in omega arith)
 
-participant-row : (ps : List Participant) (p : ℕ) → p < length ps → getD (map participantBytes ps) p [] ≡ participantBytes (partyOf ps p)
+participant-row : (ps : List Participant) (p : ℕ) → p < length ps → getD (map participantBytes ps) p [] ≡ participantBytes (participantIn ps p)
 participant-row ps p l = mapped-row participantBytes ps p _ l
 
 route-row : (rs : List Route) (i : ℕ) → i < length rs → getD (map routeBytes rs) i [] ≡ routeBytes (rowOf rs i)
@@ -43,7 +43,7 @@ module _ (ps : List Participant) (rs : List Route) (ts : List (List ℕ)) (w : W
   participants-wide : (p : ℕ) → p < length (map participantBytes ps) → length (getD (map participantBytes ps) p []) ≡ 24
   participants-wide p l =
       let k : p < length ps = rw (length-map ps participantBytes) at l in
-      rw (participant-row ps p k) (participant-length (partyOf ps p) (w .bic p k))
+      rw (participant-row ps p k) (participant-length (participantIn ps p) (w .bic p k))
 
   routes-wide : (i : ℕ) → i < length (map routeBytes rs) → length (getD (map routeBytes rs) i []) ≡ 16
   routes-wide i l =
@@ -78,7 +78,7 @@ module _ (ps : List Participant) (rs : List Route) (ts : List (List ℕ)) (w : W
       (let p = participants-length in let r = routes-length in omega arith)
 
   -- a row of each
-  pub participant-held : (p : ℕ) → p < length ps → Holds file (12 + 24 * p) (participantBytes (partyOf ps p))
+  pub participant-held : (p : ℕ) → p < length ps → Holds file (12 + 24 * p) (participantBytes (participantIn ps p))
   participant-held p l =
       rw (participant-row ps p l) at
       (held-in participants-held (joined-row 24 (map participantBytes ps) p (rw (length-map ps participantBytes) l) participants-wide))

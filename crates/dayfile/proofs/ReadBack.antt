@@ -15,7 +15,7 @@ use Rattle.fields.proofs.Holding.{Holds, held-first, held-whole, held-behind, h
 use Rattle.dayfile.specs.Header.{sectionsAt, headed}
 use Rattle.dayfile.specs.Check.{routesPlace, ticketsPlace, ranged, placed, participantRight, routeRight, participantsOk, routesOk}
 use Rattle.dayfile.specs.Rows.{bicAmong}
-use Rattle.dayfile.specs.Roster.{noParticipant, noRoute, participantAt, routeAt, partyOf, rowOf, participantOf, routeOf}
+use Rattle.dayfile.specs.Roster.{noParticipant, noRoute, participantAt, routeAt, participantIn, rowOf, participantOf, routeOf}
 use Rattle.dayfile.specs.DayFile.{dayFile, acceptedFile}
 use Rattle.dayfile.specs.Guarantee.{LeadsWithin}
 use Rattle.dayfile.specs.Writing.{targetNumber, headerFor, sectionsBytes, headerBytes, countsOf, fileBytes, WellFormedDay, ReadBack, bank, direct}
@@ -59,8 +59,8 @@ module _ (ps : List Participant) (rs : List Route) (ts : List (List ℕ)) (w : W
   file = fileBytes ps rs ts
 
   -- the row reads back
-  participant-is : (p : ℕ) → p < length ps → participantAt (12 + 24 * p) file ≡ partyOf ps p
-  participant-is p l = participant-back file (12 + 24 * p) (partyOf ps p) (participant-held ps rs ts w p l) (w .bic p l) (w .opening p l)
+  participant-is : (p : ℕ) → p < length ps → participantAt (12 + 24 * p) file ≡ participantIn ps p
+  participant-is p l = participant-back file (12 + 24 * p) (participantIn ps p) (participant-held ps rs ts w p l) (w .bic p l) (w .opening p l)
 
   route-small : (i : ℕ) → i < length rs → targetNumber (rowOf rs i .target) < 65536
   route-small i l =
@@ -83,7 +83,7 @@ module _ (ps : List Participant) (rs : List Route) (ts : List (List ℕ)) (w : W
       right : (p : ℕ) → p < length ps → participantRight 12 file p ≡ true
       right p l =
           ap₂ (λ (a b : Bool). a && not b)
-          (participant-written file (12 + 24 * p) (partyOf ps p) (participant-held ps rs ts w p l) (w .bic p l) (w .opening p l))
+          (participant-written file (12 + 24 * p) (participantIn ps p) (participant-held ps rs ts w p l) (w .bic p l) (w .opening p l))
           (other p l)
 
   -- 5

@@ -24,7 +24,7 @@ use Rattle.fields.specs.Text.{same, joined}
 use Rattle.ticket.specs.Layout.{ticketLength}
 use Rattle.dayfile.specs.Limits.{mostParticipants, mostRoutes, mostTickets, headerLength}
 use Rattle.dayfile.specs.Check.{routesPlace, ticketsPlace}
-use Rattle.dayfile.specs.Roster.{partyOf, rowOf, participantOf, routeOf}
+use Rattle.dayfile.specs.Roster.{participantIn, rowOf, participantOf, routeOf}
 use Rattle.dayfile.specs.DayFile.{dayFile, ticketAt}
 use Rattle.dayfile.specs.Guarantee.{OpeningWithin, LeadsWithin}
 use Rattle.dayfile.specs.declared.header.Sections.{Sections}
@@ -99,9 +99,9 @@ pub record WellFormedDay (ps : List Participant) (rs : List Route) (ts : List (L
   pub participants : length ps ≤ mostParticipants
   pub routes : length rs ≤ mostRoutes
   pub tickets : length ts ≤ mostTickets
-  pub bic : (p : ℕ) → p < length ps → isBic (partyOf ps p .bic) ≡ true
-  pub distinct : (p q : ℕ) → p < q → q < length ps → same (partyOf ps p .bic) (partyOf ps q .bic) ≡ false
-  pub opening : (p : ℕ) → p < length ps → OpeningWithin (partyOf ps p .opening)
+  pub bic : (p : ℕ) → p < length ps → isBic (participantIn ps p .bic) ≡ true
+  pub distinct : (p q : ℕ) → p < q → q < length ps → same (participantIn ps p .bic) (participantIn ps q .bic) ≡ false
+  pub opening : (p : ℕ) → p < length ps → OpeningWithin (participantIn ps p .opening)
   pub routeBic : (i : ℕ) → i < length rs → isBic (rowOf rs i .bic) ≡ true
   pub routeDistinct : (i j : ℕ) → i < j → j < length rs → same (rowOf rs i .bic) (rowOf rs j .bic) ≡ false
   pub leads : (i : ℕ) → i < length rs → LeadsWithin (length ps) i (rowOf rs i .target)
@@ -113,7 +113,7 @@ pub record ReadBack (ps : List Participant) (rs : List Route) (ts : List (List �
   pub size : dayFile (fileBytes ps rs ts) .roster .size ≡ length ps
   pub rows : dayFile (fileBytes ps rs ts) .roster .rows ≡ length rs
   pub tickets : dayFile (fileBytes ps rs ts) .tickets ≡ length ts
-  pub participant : (p : ℕ) → p < length ps → participantOf (dayFile (fileBytes ps rs ts) .roster) p ≡ partyOf ps p
+  pub participant : (p : ℕ) → p < length ps → participantOf (dayFile (fileBytes ps rs ts) .roster) p ≡ participantIn ps p
   pub route : (i : ℕ) → i < length rs → routeOf (dayFile (fileBytes ps rs ts) .roster) i ≡ rowOf rs i
   pub ticket : (k : ℕ) → k < length ts → ticketAt (fileBytes ps rs ts) k ≡ getD ts k []
 
