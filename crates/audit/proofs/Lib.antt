@@ -1,1 +1,4 @@
 pub mod Testing
+pub mod Agreeing
+pub mod Fates
+pub mod Events
