@@ -2,3 +2,4 @@ pub mod Testing
 pub mod Agreeing
 pub mod Fates
 pub mod Events
+pub mod Telling

@@ -24,7 +24,7 @@ use Rattle.rules.specs.declared.Order.{Order}
 use Rattle.rules.specs.declared.Cover.{Cover}
 use Rattle.rules.specs.declared.Book.{Book}
 use Rattle.rules.proofs.Same.{same-or-not, below-or-not}
-use Rattle.rules.proofs.Moving.{for-none, transfer-whole, transfer-leaves}
+use Rattle.rules.proofs.Moving.{for-none, fitted, transfer-whole, transfer-leaves}
 use Rattle.rules.proofs.Keeping.{later-sound, backed}
 use Rattle.rules.proofs.Sweeping.{Swept, swept, due-waits, ticked}
 
@@ -106,13 +106,13 @@ module _ (b : Book) (n : ℕ) (w : Step) (h : n < w .book .count) (s : Sound (w 
       let v = w .book in
       let enough = backed v s n h Expired refl waits in
       let payer = s .orders .payer n h in
-      let e = transfer-whole (s .roster .size) (s .covers) (freed o) payer enough p in
+      let e = transfer-whole (fitted (s .roster .size) (s .covers)) (freed o) payer enough p in
       let z = for-none (o .payer) p in
       let before = t .cover p l in
       record {
         whole = let a = before .whole in omega arith;
-        held = transfer-leaves (s .roster .size) (s .covers) (freed o) payer enough (λ (c : Cover). c .held) refl p ∙ before .held;
-        debit = transfer-leaves (s .roster .size) (s .covers) (freed o) payer enough (λ (c : Cover). c .debit) refl p ∙ before .debit;
+        held = transfer-leaves (fitted (s .roster .size) (s .covers)) (freed o) payer (λ (c : Cover). c .held) refl p ∙ before .held;
+        debit = transfer-leaves (fitted (s .roster .size) (s .covers)) (freed o) payer (λ (c : Cover). c .debit) refl p ∙ before .debit;
       }
 
   expire-one : SweptTo b (suc n) (expireTold w n o)

@@ -6,6 +6,7 @@ pub mod Orders
 pub mod Keeping
 pub mod Refusing
 pub mod Accepting
+pub mod Senders
 pub mod Sweeping
 pub mod Expiring
 pub mod Courses
