@@ -6,3 +6,5 @@ pub mod Telling
 pub mod Own
 pub mod Covers
 pub mod Cuts
+pub mod About
+pub mod Answers
