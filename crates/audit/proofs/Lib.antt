@@ -8,3 +8,5 @@ pub mod Covers
 pub mod Cuts
 pub mod About
 pub mod Answers
+pub mod Recalls
+pub mod Inquiries
