@@ -10,3 +10,5 @@ pub mod About
 pub mod Answers
 pub mod Recalls
 pub mod Inquiries
+pub mod Opening
+pub mod Theorem

@@ -89,6 +89,7 @@ cover-goes file h e p c c′ adds told held debit = record { adds = adds; held =
 pub record Taken (file : List ℕ) (h : History) (w : Book) (t : List ℕ) (f : Fields) (rs₀ : List Report) : Type 0 where
   pub midway : Midway file h w
   pub tells : Tells t f
+  pub clock : w .clock ≡ f .time
   pub passed : NoRefusal (finding w f t)
   pub code : AllCode 4 rs₀
 
