@@ -12,3 +12,5 @@ pub mod Recalls
 pub mod Inquiries
 pub mod Opening
 pub mod Theorem
+pub mod Balance
+pub mod Corollaries

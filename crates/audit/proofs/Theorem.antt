@@ -126,13 +126,15 @@ module _ (file : List ℕ) (h : History) (b : Book) (a : Agrees file h b) (t : L
         (must-be-due f tells n (rs₀ ++ []) (rw (lt-leb n 11 low, and-false (leb 6 n)))))
 
     -- an accepted ticket
+    pub the-ticket : NoRefusal (finding w f t) → Taken file h w t f rs₀
+    the-ticket passed = record { midway = midway; tells = tells; clock = swept .clock; passed = passed; code = expires .code }
+
     taken : NoRefusal (finding w f t)
         → Agrees file (happens (accepted (tick b (f .time)) (decisionOf (finding w f t))) ∷ h) (applied w (decisionOf (finding w f t)))
     taken passed =
-        let k : Taken file h w t f rs₀ = record { midway = midway; tells = tells; clock = swept .clock; passed = passed; code = expires .code } in
         agrees-after file h b w (applied w (decisionOf (finding w f t))) t 0 rs₀ (toldBy w (decisionOf (finding w f t))) (dueIn (atTime b (f .time))) a expires
         (own-sound w (swept .sound) (f .amount) (f .time) t (f .kind) tells passed)
-        (own-step (f .kind) k)
+        (own-step (f .kind) (the-ticket passed))
         (must-be-due f tells 0 (rs₀ ++ toldBy w (decisionOf (finding w f t))) refl)
 
   pub step-agrees : (buffer : List ℕ) → Agrees file (happens (handed b t buffer) ∷ h) (handed b t buffer .book)

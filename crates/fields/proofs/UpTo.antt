@@ -97,3 +97,8 @@ sum-prefix f i (suc n) h =
     (λ (q : i ≡ suc n). rw q (omega arith))
     (λ (l : i < suc n). let a = sum-prefix f i n (omega arith) in omega arith)
     (eq-or-lt-of-le h)
+
+-- the sum of two is the two sums
+pub sum-add : (f g : ℕ → ℕ) (n : ℕ) → sumTo (λ i. f i + g i) n ≡ sumTo f n + sumTo g n
+sum-add f g zero = refl
+sum-add f g (suc n) = let e = sum-add f g n in omega arith

@@ -1,0 +1,147 @@
+-- Cover that settles or is returned stays with the participants: what an event takes from one it brings to another. Assumes nothing.
+use mathlib.Core.Path.{_≡_, refl, sym, subst, _∙_}
+use mathlib.Core.Bool.{Bool, true, false, _&&_, cond}
+use mathlib.Core.List.{List, [], _∷_, _++_}
+use Prim.Native.Nat.{ℕ, _<_}
+use native.Mathlib.Omega.{arith}
+use Rattle.fields.specs.UpTo.{sumTo}
+use Rattle.fields.proofs.UpTo.{sum-same, sum-zero, sum-change}
+use Rattle.ticket.specs.Layout.{flagByte}
+use Rattle.ticket.specs.declared.Fields.{Fields}
+use Rattle.ticket.specs.declared.kinds.Kind.{Kind}
+use Rattle.ticket.specs.declared.kinds.Kind.the-variants as kind
+use Rattle.ticket.proofs.Telling.{tells-bytes}
+use Rattle.report.specs.declared.Report.{Report}
+use Rattle.dayfile.specs.declared.roster.Roster.{Roster}
+use Rattle.rules.specs.Tell.{listed}
+use Rattle.rules.specs.Find.{finding}
+use Rattle.rules.specs.Terms.{termsOf, namesOrder}
+use Rattle.rules.specs.Decision.{toPayer, toPayee, decisionOf, toldBy}
+use Rattle.rules.specs.declared.finding.Finding.{Finding}
+use Rattle.rules.specs.declared.decision.Told.the-variants.{One, Two}
+use Rattle.rules.specs.declared.Order.{Order}
+use Rattle.rules.specs.declared.Book.{Book}
+use Rattle.rules.proofs.Moving.{onlyFor, for-who, for-others}
+use Rattle.rules.proofs.Accepting as accepting
+use Rattle.audit.specs.History.{Event, History, size, isKind, isYes}
+use Rattle.audit.specs.Sums.{firstWith, settledTo, settledFrom, returnBy, returnTo}
+use Rattle.audit.proofs.Telling.{first-after}
+use Rattle.audit.proofs.Own.{Taken, event, kind-is, amount-is, sent, sender-known}
+use Rattle.audit.proofs.About.{order-held}
+
+pub record Balanced (file : List ℕ) (e : Event) : Type 0 where
+  pub settled : sumTo (λ p. settledFrom p e) (size file) ≡ sumTo (λ p. settledTo file p e) (size file)
+  pub returned : sumTo (λ p. returnBy file p e) (size file) ≡ sumTo (λ p. returnTo p e) (size file)
+
+-- what counts for one of them alone is the sum
+only-sum : (who n size : ℕ) → who < size → sumTo (λ p. onlyFor who p n) size ≡ n
+only-sum who n size l =
+    let e = sum-change (λ p. 0) (λ p. onlyFor who p n) size who l (λ p b k. sym (for-others who p n k)) in
+    let z = sum-zero (λ p. 0) size (λ p b. refl) in
+    let w = for-who who who n refl in
+    omega arith
+
+-- an event that is no yes and no return
+pub unmoved : (file : List ℕ) (e : Event) → isYes e ≡ false → isKind 6 e ≡ false → Balanced file e
+unmoved file e no-yes no-return =
+    record {
+      settled =
+          sum-zero (λ p. settledFrom p e) (size file) (λ p l. rw no-yes) ∙ sym (sum-zero (λ p. settledTo file p e) (size file) (λ p l. rw no-yes));
+      returned =
+          sum-zero (λ p. returnBy file p e) (size file) (λ p l. rw no-return) ∙ sym (sum-zero (λ p. returnTo p e) (size file) (λ p l. rw no-return));
+    }
+
+module _ {file : List ℕ} {h : History} {w : Book} {t : List ℕ} {f : Fields} {rs₀ : List Report} (k : Taken file h w t f rs₀) (named : namesOrder (termsOf (f .kind) .subject) ≡ true) where
+  -- the parties of the order that a ticket is about
+  payer-known : accepting.theOrder w f t .payer < size file
+  payer-known =
+      subst (λ (r : Roster). accepting.theOrder w f t .payer < r .size) (k .midway .roster)
+      (k .midway .sound .orders .payer (accepting.orderNumber w f t) (order-held k [] named))
+
+  payee-known : accepting.theOrder w f t .payee < size file
+  payee-known =
+      subst (λ (r : Roster). accepting.theOrder w f t .payee < r .size) (k .midway .roster)
+      (k .midway .sound .orders .payee (accepting.orderNumber w f t) (order-held k [] named))
+
+module _ {file : List ℕ} {h : History} {w : Book} {t : List ℕ} {time n : ℕ} {rs₀ : List Report} where
+  -- a yes: from the payer to the payee
+  yes-balanced : Taken file h w t (record { kind = kind.Yes; time = time; amount = n }) rs₀
+      → Balanced file (event t rs₀ (toldBy w (decisionOf (finding w (record { kind = kind.Yes; time = time; amount = n }) t))))
+  yes-balanced k =
+      let flag : flagByte t ≡ 1 = let b = tells-bytes t f (k .tells) in let l = b .low in let m = b .high in omega arith in
+      let first : firstWith 2 (rs₀ ++ rs) ≡ toPayer x 2 ∷ [] = first-after 2 rs₀ rs (k .code) refl ∙ one (x .bank) in
+      let party : accepting.senderNumber w f t ≡ o .payee = accepting.right-party w f t (k .passed .r17) refl in
+      record {
+        settled =
+            sum-same (λ p. settledFrom p (event t rs₀ rs)) (λ p. onlyFor (o .payer) p (o .amount)) (size file) (λ p l. rw (kind-is k, flag, first))
+            ∙ only-sum (o .payer) (o .amount) (size file) (payer-known k refl)
+            ∙ sym
+            (sum-same (λ p. settledTo file p (event t rs₀ rs)) (λ p. onlyFor (o .payee) p (o .amount)) (size file) (λ p l. rw (kind-is k, flag, first, sent k refl p l, party))
+            ∙ only-sum (o .payee) (o .amount) (size file) (payee-known k refl));
+        returned =
+            sum-zero (λ p. returnBy file p (event t rs₀ rs)) (size file) (λ p l. rw (kind-is k))
+            ∙ sym (sum-zero (λ p. returnTo p (event t rs₀ rs)) (size file) (λ p l. rw (kind-is k)));
+      }
+    where
+      f : Fields
+      f = record { kind = kind.Yes; time = time; amount = n }
+
+      x : Finding
+      x = finding w f t
+
+      o : Order
+      o = accepting.theOrder w f t
+
+      rs : List Report
+      rs = toldBy w (decisionOf x)
+
+      one : (z : Bool) → firstWith 2 (listed (cond z (Two (toPayer x 2) (toPayee x 2)) (One (toPayer x 2)))) ≡ toPayer x 2 ∷ []
+      one true = refl
+      one false = refl
+
+  -- a return: from the payee to the payer
+  return-balanced : Taken file h w t (record { kind = kind.Return; time = time; amount = n }) rs₀
+      → Balanced file (event t rs₀ (toldBy w (decisionOf (finding w (record { kind = kind.Return; time = time; amount = n }) t))))
+  return-balanced k =
+      let first : firstWith 6 (rs₀ ++ rs) ≡ rs = first-after 6 rs₀ rs (k .code) refl in
+      record {
+        settled =
+            sum-zero (λ p. settledFrom p (event t rs₀ rs)) (size file) (λ p l. rw (kind-is k))
+            ∙ sym (sum-zero (λ p. settledTo file p (event t rs₀ rs)) (size file) (λ p l. rw (kind-is k)));
+        returned =
+            sum-same (λ p. returnBy file p (event t rs₀ rs)) (λ p. onlyFor (accepting.senderNumber w f t) p n) (size file) (λ p l. rw (kind-is k, sent k refl p l, amount-is k))
+            ∙ only-sum (accepting.senderNumber w f t) n (size file) (sender-known k refl)
+            ∙ sym
+            (sum-same (λ p. returnTo p (event t rs₀ rs)) (λ p. onlyFor (o .payer) p n) (size file) (λ p l. rw (kind-is k, first, amount-is k))
+            ∙ only-sum (o .payer) n (size file) (payer-known k refl));
+      }
+    where
+      f : Fields
+      f = record { kind = kind.Return; time = time; amount = n }
+
+      o : Order
+      o = accepting.theOrder w f t
+
+      rs : List Report
+      rs = toldBy w (decisionOf (finding w f t))
+
+  no-balanced : Taken file h w t (record { kind = kind.No; time = time; amount = n }) rs₀
+      → Balanced file (event t rs₀ (toldBy w (decisionOf (finding w (record { kind = kind.No; time = time; amount = n }) t))))
+  no-balanced k =
+      let flag : flagByte t ≡ 2 = let b = tells-bytes t (record { kind = kind.No; time = time; amount = n }) (k .tells) in let l = b .low in let m = b .high in omega arith in
+      unmoved file (event t rs₀ (toldBy w (decisionOf (finding w (record { kind = kind.No; time = time; amount = n }) t)))) (rw (kind-is k, flag)) (rw (kind-is k))
+
+  pub own-balanced : (j : Kind) → Taken file h w t (record { kind = j; time = time; amount = n }) rs₀
+      → Balanced file (event t rs₀ (toldBy w (decisionOf (finding w (record { kind = j; time = time; amount = n }) t))))
+  own-balanced kind.CoverIn k = unmoved file _ (rw (kind-is k)) (rw (kind-is k))
+  own-balanced kind.CoverOut k = unmoved file _ (rw (kind-is k)) (rw (kind-is k))
+  own-balanced kind.Order k = unmoved file _ (rw (kind-is k)) (rw (kind-is k))
+  own-balanced kind.Yes k = yes-balanced k
+  own-balanced kind.No k = no-balanced k
+  own-balanced kind.Recall k = unmoved file _ (rw (kind-is k)) (rw (kind-is k))
+  own-balanced kind.Return k = return-balanced k
+  own-balanced kind.Decline k = unmoved file _ (rw (kind-is k)) (rw (kind-is k))
+  own-balanced kind.Inquiry k = unmoved file _ (rw (kind-is k)) (rw (kind-is k))
+  own-balanced kind.Cut k = unmoved file _ (rw (kind-is k)) (rw (kind-is k))
+  own-balanced kind.Confirm k = unmoved file _ (rw (kind-is k)) (rw (kind-is k))
+  own-balanced kind.Tick k = unmoved file _ (rw (kind-is k)) (rw (kind-is k))
