@@ -7,14 +7,17 @@ use Rattle.codes.specs.Bic.{isBic}
 use Rattle.codes.specs.Iban.{isIban}
 use Rattle.codes.specs.Txid.{isTxid}
 use Rattle.ticket.specs.Reading.{reading}
+use Rattle.ticket.specs.Kind.{kindNumber}
+use Rattle.ticket.specs.declared.kinds.Kind.the-variants.{Tick}
+use Rattle.ticket.specs.Writing.{ticketBytes, coverInTicket, coverOutTicket, orderTicket, yesTicket, noTicket, recallTicket, returnTicket, declineTicket, inquiryTicket, cutTicket, confirmTicket, tickTicket}
 use Rattle.dayfile.specs.DayFile.{dayFile}
 use Rattle.dayfile.specs.Route.{followed}
 use Rattle.rules.specs.Find.{senderIn, orderIn, routeIn, wayIn, anyOpen}
 use Rattle.rules.specs.Cover.{total}
 use Rattle.rules.specs.Tick.{tick}
 use Rattle.rules.specs.Step.{stepOf, handed}
-use Rattle.rules.proofs.Writing.{file, bank, bankOpening, linked, direct, onward, ticket, coverIn, coverOut, order, yea, nay, recall, return, decline, inquiry, cut, confirm, tickOf}
-use Rattle.rules.proofs.Cases.{twoBanks}
+use Rattle.rules.proofs.Writing.{file, bank, bankOpening, linked, direct, onward}
+use Rattle.rules.proofs.Names.{bicA, bicB, bicC, bicD, bicE, bicL, bicZ, tx1, tx2, tx3, tx4, tx5, tx6, tx7, tx8, ibanD, twoBanks}
 use Rattle.audit.proofs.Testing.{claim-holds}
 use Rattle.audit.proofs.Rows.{Day, IsRight, runOf, eventsOn}
 
@@ -23,10 +26,10 @@ caseD = record {
   shows = "D: a yes at 24 to an order of 5";
   file = twoBanks [];
   tickets =
-      (coverIn 0 "AAAALV22XXX" 1000
-      ∷ order 5 "AAAALV22XXX" "BBBBLV22XXX" 400 "TX1"
-      ∷ yea 24 "BBBBLV22XXX" "TX1"
-      ∷ inquiry 30 "AAAALV22XXX" "TX1"
+      (coverInTicket 0 bicA 1000
+      ∷ orderTicket 5 bicA bicB 400 tx1 ibanD
+      ∷ yesTicket 24 bicB tx1
+      ∷ inquiryTicket 30 bicA tx1
       ∷ []);
   sums = ((1000 ∷ 0 ∷ 0 ∷ 0 ∷ 0 ∷ 400 ∷ 0 ∷ 0 ∷ []) ∷ (0 ∷ 0 ∷ 0 ∷ 0 ∷ 400 ∷ 0 ∷ 0 ∷ 0 ∷ []) ∷ []);
   orders = ((400 ∷ 5 ∷ 1 ∷ 0 ∷ 2 ∷ 2 ∷ 2 ∷ []) ∷ []);
@@ -38,10 +41,10 @@ caseE = record {
   shows = "E: a yes at 25";
   file = twoBanks [];
   tickets =
-      (coverIn 0 "AAAALV22XXX" 1000
-      ∷ order 5 "AAAALV22XXX" "BBBBLV22XXX" 400 "TX1"
-      ∷ yea 25 "BBBBLV22XXX" "TX1"
-      ∷ inquiry 30 "AAAALV22XXX" "TX1"
+      (coverInTicket 0 bicA 1000
+      ∷ orderTicket 5 bicA bicB 400 tx1 ibanD
+      ∷ yesTicket 25 bicB tx1
+      ∷ inquiryTicket 30 bicA tx1
       ∷ []);
   sums = ((1000 ∷ 0 ∷ 0 ∷ 0 ∷ 0 ∷ 0 ∷ 0 ∷ 0 ∷ []) ∷ (0 ∷ 0 ∷ 0 ∷ 0 ∷ 0 ∷ 0 ∷ 0 ∷ 0 ∷ []) ∷ []);
   orders = ((400 ∷ 5 ∷ 1 ∷ 0 ∷ 4 ∷ 4 ∷ 4 ∷ []) ∷ []);
@@ -52,14 +55,19 @@ caseE = record {
 abbrev busyFile : List ℕ
 busyFile =
     file
-    (bankOpening "AAAALV22XXX" 500 ∷ bankOpening "BBBBLV22XXX" 300 ∷ bank "CCCCLV22XXX" ∷ linked "LLLLLV22XXX" ∷ [])
-    (direct "AAAALV22XXX" 0
-    ∷ direct "BBBBLV22XXX" 1
-    ∷ direct "LLLLLV22XXX" 3
-    ∷ onward "DDDDLV22XXX" 1
-    ∷ onward "EEEELV22XXX" 3
+    (bankOpening bicA 500 ∷ bankOpening bicB 300 ∷ bank bicC ∷ linked bicL ∷ [])
+    (direct bicA 0
+    ∷ direct bicB 1
+    ∷ direct bicL 3
+    ∷ onward bicD 1
+    ∷ onward bicE 3
     ∷ [])
     []
+
+-- a tick with a flag, at the last second of all
+abbrev tickWithFlag : List ℕ
+tickWithFlag =
+    ticketBytes (record { kind = kindNumber Tick; flag = 1; time = 4294967295; amount = 0; sender = []; payee = []; txid = []; iban = [] })
 
 -- All eleven kinds, and refusals 7, 11, 12, 13, 18, 19 and 21. At 26 an inquiry, at 29 a yes and at 125 a cover in of no participant come in the very
 -- second of a time-out; a tick with a flag, refused by 7, is late enough for all and lets none expire.
@@ -68,42 +76,42 @@ busyDay = record {
   shows = "a busy day";
   file = busyFile;
   tickets =
-      (coverIn 0 "AAAALV22XXX" 1000
-      ∷ coverIn 1 "BBBBLV22XXX" 200
-      ∷ coverIn 1 "ZZZZLV22XXX" 5
-      ∷ order 5 "AAAALV22XXX" "BBBBLV22XXX" 400 "TX1"
-      ∷ order 5 "AAAALV22XXX" "BBBBLV22XXX" 1 "TX1"
-      ∷ order 6 "AAAALV22XXX" "DDDDLV22XXX" 100 "TX2"
-      ∷ order 7 "AAAALV22XXX" "LLLLLV22XXX" 50 "TX3"
-      ∷ order 8 "BBBBLV22XXX" "AAAALV22XXX" 150 "TX4"
-      ∷ order 9 "AAAALV22XXX" "EEEELV22XXX" 60 "TX5"
-      ∷ cut 3
-      ∷ yea 10 "BBBBLV22XXX" "TX1"
-      ∷ nay 11 "AAAALV22XXX" "TX4"
-      ∷ recall 12 "AAAALV22XXX" "TX1"
+      (coverInTicket 0 bicA 1000
+      ∷ coverInTicket 1 bicB 200
+      ∷ coverInTicket 1 bicZ 5
+      ∷ orderTicket 5 bicA bicB 400 tx1 ibanD
+      ∷ orderTicket 5 bicA bicB 1 tx1 ibanD
+      ∷ orderTicket 6 bicA bicD 100 tx2 ibanD
+      ∷ orderTicket 7 bicA bicL 50 tx3 ibanD
+      ∷ orderTicket 8 bicB bicA 150 tx4 ibanD
+      ∷ orderTicket 9 bicA bicE 60 tx5 ibanD
+      ∷ cutTicket 3
+      ∷ yesTicket 10 bicB tx1
+      ∷ noTicket 11 bicA tx4
+      ∷ recallTicket 12 bicA 1 tx1
       ∷ (1 ∷ 2 ∷ 3 ∷ [])
-      ∷ return 13 "BBBBLV22XXX" 399 "TX1"
-      ∷ return 14 "BBBBLV22XXX" 400 "TX1"
-      ∷ order 14 "AAAALV22XXX" "BBBBLV22XXX" 70 "TX6"
-      ∷ ticket 11 1 4294967295 0 "" "" "" ""
-      ∷ inquiry 26 "AAAALV22XXX" "TX2"
-      ∷ inquiry 27 "AAAALV22XXX" "TX3"
-      ∷ yea 29 "BBBBLV22XXX" "TX5"
-      ∷ yea 33 "BBBBLV22XXX" "TX6"
-      ∷ recall 34 "AAAALV22XXX" "TX6"
-      ∷ decline 35 "BBBBLV22XXX" "TX6"
-      ∷ inquiry 36 "AAAALV22XXX" "TX6"
-      ∷ coverOut 40 "BBBBLV22XXX" 20
-      ∷ yea 100 "LLLLLV22XXX" "TX3"
-      ∷ cut 101
-      ∷ confirm 102 "AAAALV22XXX" 379
-      ∷ confirm 103 "AAAALV22XXX" 380
-      ∷ confirm 104 "BBBBLV22XXX" 40
-      ∷ order 105 "BBBBLV22XXX" "AAAALV22XXX" 90 "TX7"
-      ∷ tickOf 124
-      ∷ coverIn 125 "ZZZZLV22XXX" 5
-      ∷ tickOf 125
-      ∷ order 126 "AAAALV22XXX" "BBBBLV22XXX" 5 "TX8"
+      ∷ returnTicket 13 bicB 399 tx1
+      ∷ returnTicket 14 bicB 400 tx1
+      ∷ orderTicket 14 bicA bicB 70 tx6 ibanD
+      ∷ tickWithFlag
+      ∷ inquiryTicket 26 bicA tx2
+      ∷ inquiryTicket 27 bicA tx3
+      ∷ yesTicket 29 bicB tx5
+      ∷ yesTicket 33 bicB tx6
+      ∷ recallTicket 34 bicA 1 tx6
+      ∷ declineTicket 35 bicB 1 tx6
+      ∷ inquiryTicket 36 bicA tx6
+      ∷ coverOutTicket 40 bicB 20
+      ∷ yesTicket 100 bicL tx3
+      ∷ cutTicket 101
+      ∷ confirmTicket 102 bicA 379
+      ∷ confirmTicket 103 bicA 380
+      ∷ confirmTicket 104 bicB 40
+      ∷ orderTicket 105 bicB bicA 90 tx7 ibanD
+      ∷ tickTicket 124
+      ∷ coverInTicket 125 bicZ 5
+      ∷ tickTicket 125
+      ∷ orderTicket 126 bicA bicB 5 tx8 ibanD
       ∷ []);
   sums = ((1000 ∷ 0 ∷ 0 ∷ 380 ∷ 0 ∷ 520 ∷ 0 ∷ 400 ∷ [])
       ∷ (200 ∷ 20 ∷ 40 ∷ 0 ∷ 470 ∷ 0 ∷ 400 ∷ 0 ∷ [])

@@ -3,10 +3,11 @@
 use mathlib.Core.List.{List, [], _∷_}
 use Prim.Native.Nat.{ℕ}
 use Prim.Native.String.{String}
+use Rattle.ticket.specs.Writing.{coverInTicket, orderTicket, yesTicket, tickTicket}
 use Rattle.rules.specs.declared.Status.{Status}
 use Rattle.rules.specs.declared.Cover.{Cover}
-use Rattle.rules.proofs.Writing.{file, bank, bankOpening, linked, direct, coverIn, order, yea, tickOf}
-use Rattle.rules.proofs.Cases.{twoBanks}
+use Rattle.rules.proofs.Writing.{file, bank, bankOpening, linked, direct}
+use Rattle.rules.proofs.Names.{bicA, bicB, bicL, tx1, tx2, ibanD, twoBanks}
 use Rattle.audit.specs.History.{Event}
 use Rattle.audit.proofs.Rows.{Written, event, report, cover, bookWith}
 
@@ -15,10 +16,10 @@ abbrev pub banks : List ℕ
 banks = twoBanks []
 
 abbrev pub toLinked : List ℕ
-toLinked = file (bank "AAAALV22XXX" ∷ linked "LLLLLV22XXX" ∷ []) (direct "LLLLLV22XXX" 1 ∷ []) []
+toLinked = file (bank bicA ∷ linked bicL ∷ []) (direct bicL 1 ∷ []) []
 
 abbrev pub opening : List ℕ
-opening = file (bankOpening "AAAALV22XXX" 100 ∷ bank "BBBBLV22XXX" ∷ []) (direct "BBBBLV22XXX" 1 ∷ []) []
+opening = file (bankOpening bicA 100 ∷ bank bicB ∷ []) (direct bicB 1 ∷ []) []
 
 -- what it shows, the day file, the events, the book's covers and its orders' statuses, the clauses that fail
 abbrev pub row : String → List ℕ → List Event → List Cover → List Status → String → Written
@@ -27,29 +28,29 @@ row shows file events covers statuses fails =
 
 -- A lodges 1000
 abbrev pub lodged : Event
-lodged = event (coverIn 0 "AAAALV22XXX" 1000) 0 []
+lodged = event (coverInTicket 0 bicA 1000) 0 []
 
 -- and at 5 orders 400 for B, or for L
 abbrev pub ordered : Event
-ordered = event (order 5 "AAAALV22XXX" "BBBBLV22XXX" 400 "TX1") 0 (report 1 1 0 400 ∷ [])
+ordered = event (orderTicket 5 bicA bicB 400 tx1 ibanD) 0 (report 1 1 0 400 ∷ [])
 
 abbrev pub orderedLinked : Event
-orderedLinked = event (order 5 "AAAALV22XXX" "LLLLLV22XXX" 400 "TX1") 0 (report 1 1 0 400 ∷ [])
+orderedLinked = event (orderTicket 5 bicA bicL 400 tx1 ibanD) 0 (report 1 1 0 400 ∷ [])
 
 -- and at 6 orders 500 more
 abbrev pub orderedMore : Event
-orderedMore = event (order 6 "AAAALV22XXX" "BBBBLV22XXX" 500 "TX2") 0 (report 1 1 1 500 ∷ [])
+orderedMore = event (orderTicket 6 bicA bicB 500 tx2 ibanD) 0 (report 1 1 1 500 ∷ [])
 
 -- B says yes, and both are told
 abbrev pub settledAt : ℕ → Event
-settledAt time = event (yea time "BBBBLV22XXX" "TX1") 0 (report 0 2 0 400 ∷ report 1 2 0 400 ∷ [])
+settledAt time = event (yesTicket time bicB tx1) 0 (report 0 2 0 400 ∷ report 1 2 0 400 ∷ [])
 
 -- a tick that tells nothing, and one that lets order 0 expire
 abbrev pub quiet : ℕ → Event
-quiet time = event (tickOf time) 0 []
+quiet time = event (tickTicket time) 0 []
 
 abbrev pub expiredAt : ℕ → Event
-expiredAt time = event (tickOf time) 0 (report 0 4 0 400 ∷ report 1 4 0 400 ∷ [])
+expiredAt time = event (tickTicket time) 0 (report 0 4 0 400 ∷ report 1 4 0 400 ∷ [])
 
 -- the covers while the first order waits, when it is settled, and when its reservation is freed
 abbrev pub atFirst : List Cover

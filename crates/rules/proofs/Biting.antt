@@ -12,10 +12,11 @@ use Rattle.rules.specs.Sound.{Sound}
 use Rattle.rules.specs.declared.decision.Move.the-variants.{Give, Reserve}
 use Rattle.rules.specs.declared.Book.{Book}
 use Rattle.rules.proofs.Writing.{file, bank}
+use Rattle.rules.proofs.Names.{bicA}
 
 -- one participant, a cent reserved and no order
 abbrev centOff : Book
-centOff = let b = bookOf (file (bank "AAAALV22XXX" ∷ []) [] []) in withCovers b (transferred (by 0 Reserve 1) (transferred (by 0 Give 1) (b .covers)))
+centOff = let b = bookOf (file (bank bicA ∷ []) [] []) in withCovers b (transferred (by 0 Reserve 1) (transferred (by 0 Give 1) (b .covers)))
 
 pub cent-off-not-sound : Sound centOff → ⊥
 unfolding isBic dayFile
