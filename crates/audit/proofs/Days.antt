@@ -6,10 +6,10 @@ use Prim.Native.Nat.{ℕ}
 use Rattle.codes.specs.Bic.{isBic}
 use Rattle.codes.specs.Iban.{isIban}
 use Rattle.codes.specs.Txid.{isTxid}
-use Rattle.ticket.specs.Reading.{reading}
 use Rattle.ticket.specs.Kind.{kindNumber}
-use Rattle.ticket.specs.declared.kinds.Kind.the-variants.{Tick}
+use Rattle.ticket.specs.Reading.{reading}
 use Rattle.ticket.specs.Writing.{ticketBytes, coverInTicket, coverOutTicket, orderTicket, yesTicket, noTicket, recallTicket, returnTicket, declineTicket, inquiryTicket, cutTicket, confirmTicket, tickTicket}
+use Rattle.ticket.specs.declared.kinds.Kind.the-variants.{Tick}
 use Rattle.dayfile.specs.DayFile.{dayFile}
 use Rattle.dayfile.specs.Route.{followed}
 use Rattle.rules.specs.Find.{senderIn, orderIn, routeIn, wayIn, anyOpen}
