@@ -4,3 +4,7 @@ pub mod Pieces
 pub mod Days
 pub mod Mistakes
 pub mod Wrong
+pub mod Agreeing
+pub mod Fates
+pub mod Events
+pub mod Telling

@@ -1,31 +1,27 @@
 -- An accepted file has what `GuaranteedFile` says; the roster of a refused one has what `Guaranteed` says too.
 -- Assumes nothing.
 use mathlib.Core.Path.{_≡_, ap}
-use mathlib.Core.Bool.{Bool, true, false, _&&_, _||_, not, cond}
+use mathlib.Core.Bool.{Bool, true, false, _&&_, not}
 use mathlib.Core.List.{List}
 use mathlib.Core.Logic.{⊎-elim}
 use Prim.Native.Nat.{ℕ, _+_, _*_, _≤_, _<_}
 use native.Mathlib.Nat.{not-suc-le-zero}
 use native.Mathlib.Omega.{arith}
-use borrow.Author.Tests.{leb-true, ltb-true, not-true}
-use lib.Dec.{leb, ltb, eqb}
-use lib.ListN.{length, getD, length-replicate, getD-replicate}
-use Rattle.codes.specs.Bic.{isBic}
-use Rattle.fields.specs.Number.{part, numberAt}
-use Rattle.fields.specs.Text.{blank, same}
+use borrow.Author.Tests.{not-true}
+use lib.ListN.{length, length-replicate, getD-replicate}
+use Rattle.fields.specs.Number.{part}
+use Rattle.fields.specs.Text.{same}
 use Rattle.fields.proofs.Tests.{and-left, and-right}
 use Rattle.fields.proofs.UpTo.{all-at, none-at, rows-length, row-at, row-past}
-use Rattle.dayfile.specs.Limits.{mostOpening}
-use Rattle.dayfile.specs.Rows.{participantOk, boundOf, routeOk, bicAmong}
+use Rattle.dayfile.specs.Rows.{participantOk, routeOk, bicAmong}
 use Rattle.dayfile.specs.Check.{participantRight, routeRight, participantsOk, routesOk}
 use Rattle.dayfile.specs.Roster.{participantAt, routeAt, rosterOf, emptyRoster, noParticipant, noRoute, participantOf, routeOf}
 use Rattle.dayfile.specs.DayFile.{dayFile}
-use Rattle.dayfile.specs.Guarantee.{OpeningWithin, LeadsWithin, Guaranteed, GuaranteedFile}
+use Rattle.dayfile.specs.Guarantee.{Guaranteed, GuaranteedFile}
+use Rattle.dayfile.proofs.RowTelling.{participant-bic, participant-opening, route-bic, route-leads}
 use Rattle.dayfile.proofs.Passing.{Accepted, Refused, outcome, accepted}
 use Rattle.dayfile.specs.declared.DayFile.{DayFile}
 use Rattle.dayfile.specs.declared.header.Header.{Header}
-use Rattle.dayfile.specs.declared.roster.Opening.the-variants.{None, Cover}
-use Rattle.dayfile.specs.declared.roster.Target.the-variants.{To, Row}
 
 pub empty-guaranteed : Guaranteed emptyRoster
 empty-guaranteed =
@@ -43,67 +39,6 @@ empty-guaranteed =
       unused = λ p h l. getD-replicate 32 p noParticipant _ l;
       routeUnused = λ i h l. getD-replicate 64 i noRoute _ l;
     }
-
--- what a participant row that is right by itself tells
-module _ (at : ℕ) (f : List ℕ) (ok : participantOk at f ≡ true) where
-  bic : Bool
-  bic = isBic (part 11 at f)
-
-  kind : Bool
-  kind = leb (getD f (at + 11) 0) 1
-
-  wish : Bool
-  wish = leb (getD f (at + 20) 0) 1
-
-  most : Bool
-  most = leb (numberAt 8 (at + 12) f) mostOpening
-
-  wished : Bool
-  wished = eqb (getD f (at + 20) 0) 1 || eqb (numberAt 8 (at + 12) f) 0
-
-  to-most : (bic && kind && wish && most) ≡ true
-  unfolding bic kind wish most wished
-  to-most = and-left (bic && kind && wish && most) wished (and-left (bic && kind && wish && most && wished) (blank (part 3 (at + 21) f)) ok)
-
-  participant-bic : isBic (part 11 at f) ≡ true
-  unfolding bic
-  participant-bic = and-left bic kind (and-left (bic && kind) wish (and-left (bic && kind && wish) most to-most))
-
-  participant-opening : OpeningWithin (participantAt at f .opening)
-  unfolding most
-  participant-opening = go (eqb (getD f (at + 20) 0) 1)
-    where
-      go : (b : Bool) → OpeningWithin (cond b (Cover (numberAt 8 (at + 12) f)) None)
-      go true = leb-true (numberAt 8 (at + 12) f) mostOpening (and-right (bic && kind && wish) most to-most)
-      go false = tt
-
--- what a route row that is right by itself tells
-module _ (size own at : ℕ) (f : List ℕ) (ok : routeOk size own at f ≡ true) where
-  k : ℕ
-  k = numberAt 2 (at + 12) f
-
-  bounded : (isBic (part 11 at f) && leb (getD f (at + 11) 0) 1 && ltb k (boundOf (getD f (at + 11) 0) size own)) ≡ true
-  unfolding k
-  bounded =
-      and-left (isBic (part 11 at f) && leb (getD f (at + 11) 0) 1 && ltb k (boundOf (getD f (at + 11) 0) size own)) (blank (part 2 (at + 14) f)) ok
-
-  route-bic : isBic (part 11 at f) ≡ true
-  route-bic =
-      and-left (isBic (part 11 at f)) (leb (getD f (at + 11) 0) 1)
-      (and-left (isBic (part 11 at f) && leb (getD f (at + 11) 0) 1) (ltb k (boundOf (getD f (at + 11) 0) size own)) bounded)
-
-  route-leads : LeadsWithin size own (routeAt at f .target)
-  unfolding k
-  route-leads = go (eqb (getD f (at + 11) 0) 1) below
-    where
-      below : k < boundOf (getD f (at + 11) 0) size own
-      below =
-          ltb-true k (boundOf (getD f (at + 11) 0) size own)
-          (and-right (isBic (part 11 at f) && leb (getD f (at + 11) 0) 1) (ltb k (boundOf (getD f (at + 11) 0) size own)) bounded)
-
-      go : (b : Bool) → k < cond b own size → LeadsWithin size own (cond b (Row k) (To k))
-      go true h = h
-      go false h = h
 
 -- the roster of rows that are right
 module _ (h : Header) (f : List ℕ) (few : h .counts .participants ≤ 32) (short : h .counts .routes ≤ 64)

@@ -10,7 +10,7 @@ use lib.Dec.{leb, eqb}
 use lib.ListN.{length}
 use Rattle.fields.proofs.Tests.{and-left, and-right, passed}
 use Rattle.dayfile.specs.Header.{headed}
-use Rattle.dayfile.specs.Check.{InRange, ranged, placed, participantsOk, routesOk, enrolled, routed}
+use Rattle.dayfile.specs.Check.{InRange, ranged, placed, participantsOk, routesOk, enrolled}
 use Rattle.dayfile.specs.DayFile.{dayFile, fileHeaded, fileRanged, filePlaced, fileEnrolled, fileRouted, refusedFile, acceptedFile}
 use Rattle.dayfile.specs.declared.DayFile.{DayFile}
 use Rattle.dayfile.specs.declared.header.Header.{Header}
@@ -119,6 +119,13 @@ module _ (f : List ℕ) (h : Header) (head : headed f ≡ As h) where
   pub file-placed : ranged h ≡ Within → placed h (length f) ≡ Right → dayFile f ≡ fileEnrolled h f (enrolled (h .offsets .participants) (h .counts .participants) f)
   file-placed range place = file-ranged range ∙ ap (filePlaced h f) place
 
+  pub file-accepted : ranged h ≡ Within → placed h (length f) ≡ Right → participantsOk (h .offsets .participants) (h .counts .participants) f ≡ true
+      → routesOk (h .counts .participants) (h .offsets .routes) (h .counts .routes) f ≡ true → dayFile f ≡ acceptedFile h f
+  file-accepted range place participants routes =
+      file-placed range place
+      ∙ ap (λ (b : Bool). fileEnrolled h f (cond b participants-are.Right participants-are.Wrong)) participants
+      ∙ ap (λ (b : Bool). fileRouted h f (cond b routes-are.Right routes-are.Wrong)) routes
+
 -- a file that is not refused has passed all five
 pub record Accepted (f : List ℕ) : Type 0 where
   pub header : Header
@@ -153,7 +160,7 @@ outcome f = from-head (headed f) refl
           place = in-place h (length f) e₃;
           participants = e₄;
           routes = e₅;
-          file = file-placed f h e₁ e₂ e₃ ∙ ap (λ (b : Bool). fileEnrolled h f (cond b participants-are.Right participants-are.Wrong)) e₄ ∙ ap (λ (b : Bool). fileRouted h f (cond b routes-are.Right routes-are.Wrong)) e₅;
+          file = file-accepted f h e₁ e₂ e₃ e₄ e₅;
         })
     from-routes h e₁ e₂ e₃ true e₄ false e₅ =
         refused-by f 5 (omega arith)

@@ -7,3 +7,4 @@ pub mod Route
 pub mod Refusal
 pub mod DayFile
 pub mod Guarantee
+pub mod Writing

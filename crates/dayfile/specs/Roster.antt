@@ -5,7 +5,7 @@
 --     RowsWithin                    the counts are in range and the rows lie within the file
 --     rosterOf                      participants and routes, by the counts and offsets of a header
 --     participantOf, routeOf        the rows of a roster, by number
---     rowOf                         the same of the routes alone
+--     participantIn, rowOf          the same of the participants and the routes alone
 --     emptyRoster                   none of either
 -- Assumes nothing.
 use Prim.Native.Nat.{ℕ, _+_, _*_, _≤_}
@@ -84,8 +84,11 @@ rosterOf h f =
 abbrev pub emptyRoster : Roster
 emptyRoster = record { participants = replicate mostParticipants noParticipant; size = 0; routes = replicate mostRoutes noRoute; rows = 0 }
 
+abbrev pub participantIn : List Participant → ℕ → Participant
+participantIn participants p = getD participants p (record { bic = []; kind = Bank; opening = None })
+
 abbrev pub participantOf : Roster → ℕ → Participant
-participantOf r p = getD (r .participants) p (record { bic = []; kind = Bank; opening = None })
+participantOf r p = participantIn (r .participants) p
 
 abbrev pub rowOf : List Route → ℕ → Route
 rowOf routes i = getD routes i (record { bic = []; target = To 0 })

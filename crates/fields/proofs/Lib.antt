@@ -7,3 +7,4 @@ pub mod Same
 pub mod UpTo
 pub mod Finding
 pub mod Rows
+pub mod Holding

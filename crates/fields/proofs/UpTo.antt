@@ -31,6 +31,15 @@ none-at test (suc n) i e h =
     (λ (l : i < n). none-at test n i (or-left (anyTo test n) (test n) e) l)
     (last-or-before h)
 
+-- and what tells that a test up to n is passed, or by none
+pub all-to : (test : ℕ → Bool) (n : ℕ) → ((i : ℕ) → i < n → test i ≡ true) → allTo test n ≡ true
+all-to test zero h = refl
+all-to test (suc n) h = simp (all-to test n (λ i l. h i (omega arith)), h n (omega arith))
+
+pub none-to : (test : ℕ → Bool) (n : ℕ) → ((i : ℕ) → i < n → test i ≡ false) → anyTo test n ≡ false
+none-to test zero h = refl
+none-to test (suc n) h = simp (none-to test n (λ i l. h i (omega arith)), h n (omega arith))
+
 module _ {A : Type 0} (size : ℕ) (none : A) (row : ℕ → A) where
   pub rows-length : (n : ℕ) → length (rowsTo size none row n) ≡ size
   rows-length zero = length-replicate size none

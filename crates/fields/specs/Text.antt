@@ -3,6 +3,7 @@
 --     valueLength   how many bytes stand before the trailing zeros
 --     unpadded      those bytes: the value of a field that is padded with zero bytes
 --     padded        bytes with zero bytes behind them, w in all
+--     joined        rows of bytes, one after the other
 --     blank         all bytes are zero
 --     same          two lists hold the same bytes
 -- Assumes nothing.
@@ -31,6 +32,10 @@ unpadded s = take (valueLength s) s
 
 abbrev pub padded : ℕ → List ℕ → List ℕ
 padded w s = s ++ replicate (w - length s) 0
+
+abbrev pub joined : List (List ℕ) → List ℕ
+joined [] = []
+joined (s ∷ rows) = s ++ joined rows
 
 abbrev pub same : List ℕ → List ℕ → Bool
 same [] [] = true

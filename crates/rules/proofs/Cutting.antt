@@ -19,7 +19,7 @@ use Rattle.rules.specs.Find.{isOpen}
 use Rattle.rules.specs.Cut.{withHeld, withDebit, cutCover, cutTo}
 use Rattle.rules.specs.Sound.{CoversSound}
 use Rattle.rules.specs.declared.Cover.{Cover}
-use Rattle.rules.proofs.Moving.{Either, set-there, set-total, set-keeps}
+use Rattle.rules.proofs.Moving.{Either, fitted, set-there, set-total, set-keeps}
 
 -- nothing held, no open debit
 pub record Closed (c : Cover) : Type 0 where
@@ -75,10 +75,10 @@ module _ (r : Roster) (few : r .size ≤ mostParticipants) {due : ℕ → ℕ} {
           record {
             sound = set-keeps few (c .sound) p h d due (right .reserved ∙ s .reserved p h) (λ q n. refl) (right .either);
             total =
-                let e = set-total few (c .sound) p h d in
+                let e = set-total (fitted few (c .sound)) p h d in
                 let same = ap whole (c .later p (omega arith)) in
                 let w = right .whole in
                 let t = c .total in
                 omega arith;
-            later = λ q l. set-there few (c .sound) p h d q (λ i. omega arith) ∙ c .later q (omega arith);
+            later = λ q l. set-there (fitted few (c .sound)) p h d q (λ i. omega arith) ∙ c .later q (omega arith);
           }

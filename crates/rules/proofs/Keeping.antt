@@ -25,7 +25,7 @@ use Rattle.rules.specs.declared.Status.the-variants.{Waiting}
 use Rattle.rules.specs.declared.Order.{Order}
 use Rattle.rules.specs.declared.Cover.{Cover}
 use Rattle.rules.specs.declared.Book.{Book}
-use Rattle.rules.proofs.Moving.{Enough, bound, unbound, gain, loss, onlyFor, for-none, transfer-keeps, transfer-total}
+use Rattle.rules.proofs.Moving.{Enough, fitted, bound, unbound, gain, loss, onlyFor, for-none, transfer-keeps, transfer-total}
 use Rattle.rules.proofs.Orders.{NewOrder, orders-later, status-keeps, sum-ended, order-keeps, sum-new, sum-holds}
 
 -- a fresh book
@@ -102,7 +102,7 @@ module _ (b : Book) (s : Sound b) where
   moved-sound m h enough same l =
       covers-sound (transferred m (b .covers))
       (transfer-keeps few (s .covers) m h enough due (λ p. ap (λ (n : ℕ). due p + n) (same p)))
-      (let e = transfer-total few (s .covers) m h enough in omega arith)
+      (let e = transfer-total (fitted few (s .covers)) m h enough in omega arith)
 
   module _ (i : ℕ) (h : i < b .count) (t : Status) (ended : isWaiting t ≡ false) where
     o : Order
@@ -156,7 +156,7 @@ module _ (b : Book) (s : Sound b) where
           let p = s .orders .payer i h in
           ended-sound (transferred m (b .covers))
           (transfer-keeps few (s .covers) m p backed due′ less)
-          (let e = transfer-total few (s .covers) m p backed in let most = limit in omega arith)
+          (let e = transfer-total (fitted few (s .covers)) m p backed in let most = limit in omega arith)
 
       -- the payer's reserved falls, the payee's available rises
       pub settled-sound : Sound (Ended (transferred (by (orderOf (b .orders) i .payee) Give (orderOf (b .orders) i .amount)) (transferred (by (orderOf (b .orders) i .payer) Spend (orderOf (b .orders) i .amount)) (b .covers))))
@@ -165,8 +165,8 @@ module _ (b : Book) (s : Sound b) where
           let spend = by (o .payer) Spend (o .amount) in
           let give = by (o .payee) Give (o .amount) in
           let left = transfer-keeps few (s .covers) spend (s .orders .payer i h) backed due′ less in
-          let spent = transfer-total few (s .covers) spend (s .orders .payer i h) backed in
-          let given = transfer-total few left give (s .orders .payee i h) tt in
+          let spent = transfer-total (fitted few (s .covers)) spend (s .orders .payer i h) backed in
+          let given = transfer-total (fitted few left) give (s .orders .payee i h) tt in
           let most = limit in
           ended-sound (transferred give (transferred spend (b .covers))) (transfer-keeps few left give (s .orders .payee i h) tt due′ (λ p. refl)) (omega arith)
 
@@ -194,8 +194,8 @@ module _ (b : Book) (s : Sound b) where
           let draw = by (o .payee) Draw n in
           let give = by (o .payer) Give n in
           let left = transfer-keeps few (s .covers) draw (s .orders .payee i h) l due (λ p. refl) in
-          let drawn = transfer-total few (s .covers) draw (s .orders .payee i h) l in
-          let given = transfer-total few left give (s .orders .payer i h) tt in
+          let drawn = transfer-total (fitted few (s .covers)) draw (s .orders .payee i h) l in
+          let given = transfer-total (fitted few left) give (s .orders .payer i h) tt in
           let most = limit in
           ended-sound (transferred give (transferred draw (b .covers))) (as-due (transfer-keeps few left give (s .orders .payer i h) tt due (λ p. refl))) (omega arith)
 
@@ -217,7 +217,7 @@ module _ (b : Book) (s : Sound b) where
         roster = s .roster;
         orders = order-keeps (b .roster .size) (b .clock) (b .count) (b .orders) (s .orders) o new;
         covers = transfer-keeps few (s .covers) m (new .payer) l (waitingSum (b .count + 1) (set (b .orders) (b .count) o)) more;
-        limited = let e = transfer-total few (s .covers) m (new .payer) l in let most = limit in omega arith;
+        limited = let e = transfer-total (fitted few (s .covers)) m (new .payer) l in let most = limit in omega arith;
       }
     where
       more : (p : ℕ) → waitingSum (b .count + 1) (set (b .orders) (b .count) o) p + onlyFor (o .payer) p 0 ≡ due p + onlyFor (o .payer) p (o .amount)

@@ -9,7 +9,9 @@ pub mod Orders
 pub mod Keeping
 pub mod Refusing
 pub mod Accepting
+pub mod Senders
 pub mod Sweeping
+pub mod Expiring
 pub mod Courses
 pub mod Cutting
 pub mod Stepping

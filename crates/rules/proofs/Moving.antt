@@ -130,11 +130,16 @@ for-none who p = go (eqb who p)
 pub nobody-moves : (cs : List Cover) → transferred nobody cs ≡ cs
 nobody-moves cs = set-getD cs 0 noCover
 
-module _ {size : ℕ} {due : ℕ → ℕ} {cs : List Cover} (few : size ≤ mostParticipants) (s : CoversSound size due cs) where
+-- covers of 32 participants, of which size are in use
+pub record Fitted (size : ℕ) (cs : List Cover) : Type 0 where
+  pub few : size ≤ mostParticipants
+  pub long : length cs ≡ mostParticipants
+
+module _ {size : ℕ} {cs : List Cover} (fit : Fitted size cs) where
   -- a participant's cover is set to c
   module _ (p : ℕ) (h : p < size) (c : Cover) where
     pub set-here : coverOf (set cs p c) p ≡ c
-    set-here = getD-set-same cs p c noCover (rw (s .long) (omega arith))
+    set-here = getD-set-same cs p c noCover (rw (fit .long) (let f = fit .few in omega arith))
 
     pub set-there : (q : ℕ) → (q ≡ p → ⊥) → coverOf (set cs p c) q ≡ coverOf cs q
     set-there q n = getD-set-other cs p q c noCover n
@@ -153,63 +158,79 @@ module _ {size : ℕ} {due : ℕ → ℕ} {cs : List Cover} (few : size ≤ most
         (λ (n : q ≡ p → ⊥). rw (set-there q n) (all q n l))
         (same-or-not q p)
 
-    pub set-keeps : (due′ : ℕ → ℕ) → c .reserved ≡ due′ p → ((q : ℕ) → (q ≡ p → ⊥) → due q ≡ due′ q) → Either c → CoversSound size due′ (set cs p c)
-    set-keeps due′ r others e =
-        record {
-          long = length-set cs p c ∙ s .long;
-          reserved = set-each (λ q (w : Cover). w .reserved ≡ due′ q) r (λ q n l. s .reserved q l ∙ others q n);
-          either = set-each (λ q (w : Cover). Either w) e (λ q n l. s .either q l);
-          outside = λ q l k. set-there q (λ i. omega arith) ∙ s .outside q l k;
-        }
+  module _ (m : Transfer) (h : m .who < size) where
+    abbrev after : Cover
+    after = moved (m .how) (m .amount) (coverOf cs (m .who))
 
-  module _ (m : Transfer) (h : m .who < size) (enough : Enough (m .how) (m .amount) (coverOf cs (m .who))) where
-    c : Cover
-    c = coverOf cs (m .who)
-
-    -- what is due, but for what the move binds and frees
-    pub transfer-keeps : (due′ : ℕ → ℕ)
-        → ((p : ℕ) → due′ p + onlyFor (m .who) p (unbound (m .how) (m .amount)) ≡ due p + onlyFor (m .who) p (bound (m .how) (m .amount)))
-        → CoversSound size due′ (transferred m cs)
-    unfolding c
-    transfer-keeps due′ e =
-        set-keeps (m .who) h (moved (m .how) (m .amount) c) due′
-        (let r = reserved-moved (m .how) (m .amount) c enough in
-         let d = s .reserved (m .who) h in
-         let f = e (m .who) in
-         let u = for-who (m .who) (m .who) (unbound (m .how) (m .amount)) refl in
-         let b = for-who (m .who) (m .who) (bound (m .how) (m .amount)) refl in
-         omega arith)
-        (λ q n.
-         let f = e q in
-         let u = for-others (m .who) q (unbound (m .how) (m .amount)) n in
-         let b = for-others (m .who) q (bound (m .how) (m .amount)) n in
-         omega arith)
-        (either-moved (m .how) (m .amount) c (s .either (m .who) h))
-
-    pub transfer-total : totalOf size (transferred m cs) + loss (m .how) (m .amount) (coverOf cs (m .who)) ≡ totalOf size cs + gain (m .how) (m .amount)
-    unfolding c
-    transfer-total =
-        let e = set-total (m .who) h (moved (m .how) (m .amount) c) in
-        let w = whole-moved (m .how) (m .amount) c enough in
+    pub transfer-total : Enough (m .how) (m .amount) (coverOf cs (m .who))
+        → totalOf size (transferred m cs) + loss (m .how) (m .amount) (coverOf cs (m .who)) ≡ totalOf size cs + gain (m .how) (m .amount)
+    transfer-total enough =
+        let e = set-total (m .who) h after in
+        let w = whole-moved (m .how) (m .amount) (coverOf cs (m .who)) enough in
         omega arith
 
     -- each participant's whole
-    pub transfer-whole : (p : ℕ)
+    pub transfer-whole : Enough (m .how) (m .amount) (coverOf cs (m .who)) → (p : ℕ)
         → whole (coverOf (transferred m cs) p) + onlyFor (m .who) p (loss (m .how) (m .amount) (coverOf cs (m .who)))
         ≡ whole (coverOf cs p) + onlyFor (m .who) p (gain (m .how) (m .amount))
-    unfolding c
-    transfer-whole p =
+    transfer-whole enough p =
         ⊎-elim
         (λ (i : p ≡ m .who).
-         let a = for-who (m .who) p (loss (m .how) (m .amount) c) i in
-         let b = for-who (m .who) p (gain (m .how) (m .amount)) i in
-         let d : whole (coverOf (transferred m cs) p) ≡ whole (moved (m .how) (m .amount) c) = rw i (ap whole (set-here (m .who) h (moved (m .how) (m .amount) c))) in
-         let f : whole (coverOf cs p) ≡ whole c = rw i refl in
-         let w = whole-moved (m .how) (m .amount) c enough in
-         omega arith)
+        let a = for-who (m .who) p (loss (m .how) (m .amount) (coverOf cs (m .who))) i in
+        let b = for-who (m .who) p (gain (m .how) (m .amount)) i in
+        let d : whole (coverOf (transferred m cs) p) ≡ whole after = rw i (ap whole (set-here (m .who) h after)) in
+        let f : whole (coverOf cs p) ≡ whole (coverOf cs (m .who)) = rw i refl in
+        let w = whole-moved (m .how) (m .amount) (coverOf cs (m .who)) enough in
+        omega arith)
         (λ (n : p ≡ m .who → ⊥).
-         let a = for-others (m .who) p (loss (m .how) (m .amount) c) n in
-         let b = for-others (m .who) p (gain (m .how) (m .amount)) n in
-         let d = ap whole (set-there (m .who) h (moved (m .how) (m .amount) c) p n) in
-         omega arith)
+        let a = for-others (m .who) p (loss (m .how) (m .amount) (coverOf cs (m .who))) n in
+        let b = for-others (m .who) p (gain (m .how) (m .amount)) n in
+        let d = ap whole (set-there (m .who) h after p n) in
+        omega arith)
         (same-or-not p (m .who))
+
+    -- what the move leaves of a cover, it leaves of all
+    pub transfer-leaves : (f : Cover → ℕ) → f (moved (m .how) (m .amount) (coverOf cs (m .who))) ≡ f (coverOf cs (m .who))
+        → (p : ℕ) → f (coverOf (transferred m cs) p) ≡ f (coverOf cs p)
+    transfer-leaves f e p =
+        ⊎-elim
+        (λ (i : p ≡ m .who). rw i (ap f (set-here (m .who) h after) ∙ e))
+        (λ (n : p ≡ m .who → ⊥). ap f (set-there (m .who) h after p n))
+        (same-or-not p (m .who))
+
+pub transfer-fitted : {size : ℕ} {cs : List Cover} → Fitted size cs → (m : Transfer) → Fitted size (transferred m cs)
+transfer-fitted {cs = cs} fit m = record { few = fit .few; long = length-set cs (m .who) (moved (m .how) (m .amount) (coverOf cs (m .who))) ∙ fit .long }
+
+pub fitted : {size : ℕ} {due : ℕ → ℕ} {cs : List Cover} → size ≤ mostParticipants → CoversSound size due cs → Fitted size cs
+fitted few s = record { few = few; long = s .long }
+
+module _ {size : ℕ} {due : ℕ → ℕ} {cs : List Cover} (few : size ≤ mostParticipants) (s : CoversSound size due cs) where
+  pub set-keeps : (p : ℕ) → p < size → (c : Cover) (due′ : ℕ → ℕ) → c .reserved ≡ due′ p → ((q : ℕ) → (q ≡ p → ⊥) → due q ≡ due′ q) → Either c
+      → CoversSound size due′ (set cs p c)
+  set-keeps p h c due′ r others e =
+      record {
+        long = length-set cs p c ∙ s .long;
+        reserved = set-each (fitted few s) p h c (λ q (w : Cover). w .reserved ≡ due′ q) r (λ q n l. s .reserved q l ∙ others q n);
+        either = set-each (fitted few s) p h c (λ q (w : Cover). Either w) e (λ q n l. s .either q l);
+        outside = λ q l k. set-there (fitted few s) p h c q (λ i. omega arith) ∙ s .outside q l k;
+      }
+
+  -- what is due, but for what the move binds and frees
+  pub transfer-keeps : (m : Transfer) → m .who < size → Enough (m .how) (m .amount) (coverOf cs (m .who)) → (due′ : ℕ → ℕ)
+      → ((p : ℕ) → due′ p + onlyFor (m .who) p (unbound (m .how) (m .amount)) ≡ due p + onlyFor (m .who) p (bound (m .how) (m .amount)))
+      → CoversSound size due′ (transferred m cs)
+  transfer-keeps m h enough due′ e =
+      let c = coverOf cs (m .who) in
+      set-keeps (m .who) h (moved (m .how) (m .amount) c) due′
+      (let r = reserved-moved (m .how) (m .amount) c enough in
+      let d = s .reserved (m .who) h in
+      let f = e (m .who) in
+      let u = for-who (m .who) (m .who) (unbound (m .how) (m .amount)) refl in
+      let b = for-who (m .who) (m .who) (bound (m .how) (m .amount)) refl in
+      omega arith)
+      (λ q n.
+      let f = e q in
+      let u = for-others (m .who) q (unbound (m .how) (m .amount)) n in
+      let b = for-others (m .who) q (bound (m .how) (m .amount)) n in
+      omega arith)
+      (either-moved (m .how) (m .amount) c (s .either (m .who) h))

@@ -1,0 +1,79 @@
+-- What a participant row and a route row that are right by themselves tell. Assumes nothing.
+use mathlib.Core.Path.{_≡_}
+use mathlib.Core.Bool.{Bool, true, false, _&&_, _||_, cond}
+use mathlib.Core.List.{List}
+use Prim.Native.Nat.{ℕ, _+_, _<_}
+use borrow.Author.Tests.{leb-true, ltb-true}
+use lib.Dec.{leb, ltb, eqb}
+use lib.ListN.{getD}
+use Rattle.codes.specs.Bic.{isBic}
+use Rattle.fields.specs.Number.{part, numberAt}
+use Rattle.fields.specs.Text.{blank}
+use Rattle.fields.proofs.Tests.{and-left, and-right}
+use Rattle.dayfile.specs.Limits.{mostOpening}
+use Rattle.dayfile.specs.Rows.{participantOk, boundOf, routeOk}
+use Rattle.dayfile.specs.Roster.{participantAt, routeAt}
+use Rattle.dayfile.specs.Guarantee.{OpeningWithin, LeadsWithin}
+use Rattle.dayfile.specs.declared.roster.Opening.the-variants.{None, Cover}
+use Rattle.dayfile.specs.declared.roster.Target.the-variants.{To, Row}
+
+-- what a participant row that is right by itself tells
+module _ (at : ℕ) (f : List ℕ) (ok : participantOk at f ≡ true) where
+  bic : Bool
+  bic = isBic (part 11 at f)
+
+  kind : Bool
+  kind = leb (getD f (at + 11) 0) 1
+
+  wish : Bool
+  wish = leb (getD f (at + 20) 0) 1
+
+  most : Bool
+  most = leb (numberAt 8 (at + 12) f) mostOpening
+
+  wished : Bool
+  wished = eqb (getD f (at + 20) 0) 1 || eqb (numberAt 8 (at + 12) f) 0
+
+  to-most : (bic && kind && wish && most) ≡ true
+  unfolding bic kind wish most wished
+  to-most = and-left (bic && kind && wish && most) wished (and-left (bic && kind && wish && most && wished) (blank (part 3 (at + 21) f)) ok)
+
+  pub participant-bic : isBic (part 11 at f) ≡ true
+  unfolding bic
+  participant-bic = and-left bic kind (and-left (bic && kind) wish (and-left (bic && kind && wish) most to-most))
+
+  pub participant-opening : OpeningWithin (participantAt at f .opening)
+  unfolding most
+  participant-opening = go (eqb (getD f (at + 20) 0) 1)
+    where
+      go : (b : Bool) → OpeningWithin (cond b (Cover (numberAt 8 (at + 12) f)) None)
+      go true = leb-true (numberAt 8 (at + 12) f) mostOpening (and-right (bic && kind && wish) most to-most)
+      go false = tt
+
+-- what a route row that is right by itself tells
+module _ (size own at : ℕ) (f : List ℕ) (ok : routeOk size own at f ≡ true) where
+  k : ℕ
+  k = numberAt 2 (at + 12) f
+
+  bounded : (isBic (part 11 at f) && leb (getD f (at + 11) 0) 1 && ltb k (boundOf (getD f (at + 11) 0) size own)) ≡ true
+  unfolding k
+  bounded =
+      and-left (isBic (part 11 at f) && leb (getD f (at + 11) 0) 1 && ltb k (boundOf (getD f (at + 11) 0) size own)) (blank (part 2 (at + 14) f)) ok
+
+  pub route-bic : isBic (part 11 at f) ≡ true
+  route-bic =
+      and-left (isBic (part 11 at f)) (leb (getD f (at + 11) 0) 1)
+      (and-left (isBic (part 11 at f) && leb (getD f (at + 11) 0) 1) (ltb k (boundOf (getD f (at + 11) 0) size own)) bounded)
+
+  pub route-leads : LeadsWithin size own (routeAt at f .target)
+  unfolding k
+  route-leads = go (eqb (getD f (at + 11) 0) 1) below
+    where
+      below : k < boundOf (getD f (at + 11) 0) size own
+      below =
+          ltb-true k (boundOf (getD f (at + 11) 0) size own)
+          (and-right (isBic (part 11 at f) && leb (getD f (at + 11) 0) 1) (ltb k (boundOf (getD f (at + 11) 0) size own)) bounded)
+
+      go : (b : Bool) → k < cond b own size → LeadsWithin size own (cond b (Row k) (To k))
+      go true h = h
+      go false h = h
