@@ -12,11 +12,11 @@ use Rattle.ticket.specs.Writing.{ticketBytes, coverInTicket, coverOutTicket, or
 use Rattle.ticket.specs.declared.kinds.Kind.the-variants.{Tick}
 use Rattle.dayfile.specs.DayFile.{dayFile}
 use Rattle.dayfile.specs.Route.{followed}
+use Rattle.dayfile.specs.Writing.{fileBytes, bank, bankOpening, linked, direct, onward}
 use Rattle.rules.specs.Find.{senderIn, orderIn, routeIn, wayIn, anyOpen}
 use Rattle.rules.specs.Cover.{total}
 use Rattle.rules.specs.Tick.{tick}
 use Rattle.rules.specs.Step.{stepOf, handed}
-use Rattle.rules.proofs.Writing.{file, bank, bankOpening, linked, direct, onward}
 use Rattle.rules.proofs.Names.{bicA, bicB, bicC, bicD, bicE, bicL, bicZ, tx1, tx2, tx3, tx4, tx5, tx6, tx7, tx8, ibanD, twoBanks}
 use Rattle.audit.proofs.Testing.{claim-holds}
 use Rattle.audit.proofs.Rows.{Day, IsRight, runOf, eventsOn}
@@ -54,7 +54,7 @@ caseE = record {
 -- two banks that wish an opening cover, one that doesn't, a linked system; two routes lead on to the second bank's
 abbrev busyFile : List ℕ
 busyFile =
-    file
+    fileBytes
     (bankOpening bicA 500 ∷ bankOpening bicB 300 ∷ bank bicC ∷ linked bicL ∷ [])
     (direct bicA 0
     ∷ direct bicB 1

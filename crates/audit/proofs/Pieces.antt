@@ -4,9 +4,9 @@ use mathlib.Core.List.{List, [], _∷_}
 use Prim.Native.Nat.{ℕ}
 use Prim.Native.String.{String}
 use Rattle.ticket.specs.Writing.{coverInTicket, orderTicket, yesTicket, tickTicket}
+use Rattle.dayfile.specs.Writing.{fileBytes, bank, bankOpening, linked, direct}
 use Rattle.rules.specs.declared.Status.{Status}
 use Rattle.rules.specs.declared.Cover.{Cover}
-use Rattle.rules.proofs.Writing.{file, bank, bankOpening, linked, direct}
 use Rattle.rules.proofs.Names.{bicA, bicB, bicL, tx1, tx2, ibanD, twoBanks}
 use Rattle.audit.specs.History.{Event}
 use Rattle.audit.proofs.Rows.{Written, event, report, cover, bookWith}
@@ -16,10 +16,10 @@ abbrev pub banks : List ℕ
 banks = twoBanks []
 
 abbrev pub toLinked : List ℕ
-toLinked = file (bank bicA ∷ linked bicL ∷ []) (direct bicL 1 ∷ []) []
+toLinked = fileBytes (bank bicA ∷ linked bicL ∷ []) (direct bicL 1 ∷ []) []
 
 abbrev pub opening : List ℕ
-opening = file (bankOpening bicA 100 ∷ bank bicB ∷ []) (direct bicB 1 ∷ []) []
+opening = fileBytes (bankOpening bicA 100 ∷ bank bicB ∷ []) (direct bicB 1 ∷ []) []
 
 -- what it shows, the day file, the events, the book's covers and its orders' statuses, the clauses that fail
 abbrev pub row : String → List ℕ → List Event → List Cover → List Status → String → Written

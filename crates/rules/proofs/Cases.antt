@@ -11,12 +11,12 @@ use Rattle.ticket.specs.Reading.{reading}
 use Rattle.ticket.specs.Writing.{coverInTicket, orderTicket, yesTicket, inquiryTicket, cutTicket, confirmTicket}
 use Rattle.dayfile.specs.DayFile.{dayFile}
 use Rattle.dayfile.specs.Route.{followed}
+use Rattle.dayfile.specs.Writing.{fileBytes, bankOpening}
 use Rattle.rules.specs.Find.{senderIn, orderIn, routeIn, wayIn, anyOpen}
 use Rattle.rules.specs.Cover.{total}
 use Rattle.rules.specs.Tick.{tick}
 use Rattle.rules.specs.Step.{stepOf, handed}
 use Rattle.rules.specs.Program.{output}
-use Rattle.rules.proofs.Writing.{file, bankOpening}
 use Rattle.rules.proofs.Names.{bicA, bicB, tx1, ibanD, twoBanks, day}
 use Rattle.rules.proofs.Edges.{edges}
 use Rattle.rules.proofs.LimitEdges.{limits}
@@ -52,10 +52,10 @@ marked =
     (twoBanks (coverInTicket 0 bicA 1000 ∷ orderTicket 5 bicA bicB 1001 tx1 ibanD ∷ []))
     "T 0 0 0 0\nT 1 20 0 0\nC 0 1000 0 0\nC 1 0 0 0\n"
     ∷ day "confirm 0 of an open debit is accepted"
-    (file (bankOpening bicA 100 ∷ []) [] (coverInTicket 0 bicA 30 ∷ cutTicket 1 ∷ confirmTicket 2 bicA 0 ∷ []))
+    (fileBytes (bankOpening bicA 100 ∷ []) [] (coverInTicket 0 bicA 30 ∷ cutTicket 1 ∷ confirmTicket 2 bicA 0 ∷ []))
     "T 0 0 0 0\nT 1 0 1 0\nR 0 10 65535 70\nT 2 0 0 0\nC 0 30 0 0\n"
     ∷ day "held 50 confirmed by 49 is refused by 21"
-    (file (bankOpening bicA 100 ∷ []) [] (coverInTicket 0 bicA 150 ∷ cutTicket 1 ∷ confirmTicket 2 bicA 49 ∷ []))
+    (fileBytes (bankOpening bicA 100 ∷ []) [] (coverInTicket 0 bicA 150 ∷ cutTicket 1 ∷ confirmTicket 2 bicA 49 ∷ []))
     "T 0 0 0 0\nT 1 0 1 0\nR 0 11 65535 50\nT 2 21 0 0\nC 0 100 0 50\n"
     ∷ day "yes twice, the second refused by 18"
     (twoBanks

@@ -2,7 +2,7 @@
 use mathlib.Core.List.{List, [], _∷_}
 use Rattle.fields.proofs.Rows.{Row}
 use Rattle.ticket.specs.Writing.{coverInTicket, coverOutTicket, orderTicket, yesTicket, noTicket, recallTicket, returnTicket, declineTicket, inquiryTicket, cutTicket, confirmTicket, tickTicket}
-use Rattle.rules.proofs.Writing.{file, bank, bankOpening, linked, direct, onward}
+use Rattle.dayfile.specs.Writing.{fileBytes, bank, bankOpening, linked, direct, onward}
 use Rattle.rules.proofs.Names.{bicA, bicB, bicC, bicL, bicZ, tx1, tx2, tx3, ibanD, twoBanks, day}
 
 abbrev pub edges : List Row
@@ -36,7 +36,7 @@ edges =
     ∷ []))
     "T 0 0 0 0\nT 1 0 1 1\nR 1 1 0 400\nT 2 0 2 0\nR 0 4 0 400\nR 1 4 0 400\nC 0 1000 0 0\nC 1 0 0 0\n"
     ∷ day "a linked system has no time-out and is not told of its own yes"
-    (file
+    (fileBytes
     (bank bicA ∷ linked bicL ∷ [])
     (direct bicL 1 ∷ [])
     (coverInTicket 0 bicA 1000
@@ -87,7 +87,7 @@ edges =
     ∷ []))
     "T 0 0 0 0\nT 1 0 1 1\nR 1 1 0 400\nT 2 0 2 0\nR 0 2 0 400\nR 1 2 0 400\nT 3 0 1 0\nR 1 5 0 400\nT 4 0 1 0\nR 0 7 0 400\nT 5 0 2 0\nR 0 2 0 400\nR 0 7 0 400\nT 6 18 0 0\nC 0 600 0 0\nC 1 400 0 0\n"
     ∷ day "a cut counts no reserved cover"
-    (file
+    (fileBytes
     (bankOpening bicA 100 ∷ bankOpening bicB 0 ∷ [])
     (direct bicB 1 ∷ [])
     (coverInTicket 0 bicA 150
@@ -98,7 +98,7 @@ edges =
     ∷ []))
     "T 0 0 0 0\nT 1 0 1 1\nR 1 1 0 80\nT 2 0 1 0\nR 0 10 65535 30\nT 3 21 0 0\nT 4 0 0 0\nC 0 100 80 0\nC 1 0 0 0\n"
     ∷ day "payer and payee may be the same"
-    (file
+    (fileBytes
     (bank bicA ∷ [])
     (direct bicA 0 ∷ [])
     (coverInTicket 0 bicA 100
@@ -109,7 +109,7 @@ edges =
     ∷ []))
     "T 0 0 0 0\nT 1 0 1 1\nR 0 1 0 60\nT 2 0 2 0\nR 0 2 0 60\nR 0 2 0 60\nT 3 0 1 0\nR 0 5 0 60\nT 4 0 1 0\nR 0 6 0 60\nC 0 100 0 0\n"
     ∷ day "rows followed are counted for an accepted order alone"
-    (file
+    (fileBytes
     (bank bicA ∷ bank bicB ∷ [])
     (direct bicB 1 ∷ onward bicC 0 ∷ onward bicA 1 ∷ [])
     (coverInTicket 0 bicA 100
@@ -133,7 +133,7 @@ edges =
     (twoBanks (coverInTicket 10 bicZ 1 ∷ tickTicket 9 ∷ []))
     "T 0 12 0 0\nT 1 11 0 0\nC 0 0 0 0\nC 1 0 0 0\n"
     ∷ day "a cut moves no reserved cover, and held somewhere refuses the next by 21"
-    (file
+    (fileBytes
     (bankOpening bicA 100 ∷ bankOpening bicB 0 ∷ [])
     (direct bicB 1 ∷ [])
     (coverInTicket 0 bicA 250
@@ -145,12 +145,12 @@ edges =
     ∷ []))
     "T 0 0 0 0\nT 1 0 1 1\nR 1 1 0 80\nT 2 0 1 0\nR 0 11 65535 70\nT 3 21 0 0\nT 4 0 0 0\nT 5 0 0 0\nC 0 100 80 0\nC 1 0 0 0\n"
     ∷ day "an open debit is confirmed by all of it, and one cent more is refused by 21"
-    (file
+    (fileBytes
     (bankOpening bicA 100 ∷ [])
     []
     (coverInTicket 0 bicA 30 ∷ cutTicket 1 ∷ confirmTicket 2 bicA 71 ∷ confirmTicket 3 bicA 70 ∷ []))
     "T 0 0 0 0\nT 1 0 1 0\nR 0 10 65535 70\nT 2 21 0 0\nT 3 0 0 0\nC 0 100 0 0\n"
     ∷ day "a confirm with neither held nor open debit is refused by 21"
-    (file (bankOpening bicA 100 ∷ []) [] (confirmTicket 0 bicA 0 ∷ []))
+    (fileBytes (bankOpening bicA 100 ∷ []) [] (confirmTicket 0 bicA 0 ∷ []))
     "T 0 21 0 0\nC 0 0 0 0\n"
     ∷ []

@@ -1,4 +1,3 @@
-pub mod Writing
 pub mod Names
 pub mod Edges
 pub mod LimitEdges

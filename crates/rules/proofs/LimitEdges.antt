@@ -9,6 +9,7 @@ use lib.ListN.{replicate}
 use Rattle.fields.specs.Text.{text, padded}
 use Rattle.fields.proofs.Rows.{Row}
 use Rattle.ticket.specs.Writing.{coverInTicket, orderTicket, cutTicket, confirmTicket, tickTicket}
+use Rattle.dayfile.specs.Writing.{fileBytes, bank, bankOpening}
 use Rattle.rules.specs.Book.{unusedOrder, noCover, bookOf}
 use Rattle.rules.specs.Step.{stepOf, outcome}
 use Rattle.rules.specs.Program.{decimal}
@@ -17,7 +18,6 @@ use Rattle.rules.specs.declared.Status.the-variants.{Settled}
 use Rattle.rules.specs.declared.Order.{Order}
 use Rattle.rules.specs.declared.Cover.{Cover}
 use Rattle.rules.specs.declared.Book.{Book}
-use Rattle.rules.proofs.Writing.{file, bank, bankOpening}
 use Rattle.rules.proofs.Names.{bicA, bicB, tx1, tx2, ibanD, twoBanks, day}
 
 abbrev pub lent : String → ℕ → ℕ → Row
@@ -86,7 +86,7 @@ limits =
     ∷ []))
     "T 0 0 0 0\nT 1 0 1 1\nR 1 1 0 400\nT 2 22 0 0\nT 3 0 0 0\nT 4 22 0 0\nC 0 999999999999999599 400 0\nC 1 1 0 0\n"
     ∷ day "10^18 in all by a confirmed debit: all of it, and one cent more refused by 22"
-    (file
+    (fileBytes
     (bankOpening bicA 100 ∷ bank bicB ∷ [])
     []
     (coverInTicket 0 bicA 30

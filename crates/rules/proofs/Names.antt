@@ -4,8 +4,8 @@ use Prim.Native.String.{String}
 use mathlib.Core.List.{List, [], _∷_}
 use Rattle.fields.specs.Text.{text}
 use Rattle.fields.proofs.Rows.{Row}
+use Rattle.dayfile.specs.Writing.{fileBytes, bank, direct}
 use Rattle.rules.specs.Program.{output}
-use Rattle.rules.proofs.Writing.{file, bank, direct}
 
 abbrev pub bicA : List ℕ
 bicA = text "AAAALV22XXX"
@@ -60,7 +60,7 @@ ibanD = text "LV80BANK0000435195001"
 
 -- two banks with no opening cover, a direct route each: cases D and E and most others
 abbrev pub twoBanks : List (List ℕ) → List ℕ
-twoBanks tickets = file (bank bicA ∷ bank bicB ∷ []) (direct bicA 0 ∷ direct bicB 1 ∷ []) tickets
+twoBanks tickets = fileBytes (bank bicA ∷ bank bicB ∷ []) (direct bicA 0 ∷ direct bicB 1 ∷ []) tickets
 
 -- a day's file, and the program's lines for it
 abbrev pub day : String → List ℕ → String → Row
