@@ -120,14 +120,14 @@ withCommas (s ∷ []) = s
 withCommas (s ∷ (t ∷ rest)) = s ++ text ", " ++ withCommas (t ∷ rest)
 
 -- the clauses' names, in the claim's order
-abbrev pub names : List String
-names = "cover" ∷ "reserved" ∷ "held" ∷ "waiting" ∷ "expiry" ∷ "known" ∷ "once" ∷ "alike" ∷ []
+abbrev pub clauseNames : List String
+clauseNames = "cover" ∷ "reserved" ∷ "held" ∷ "waiting" ∷ "expiry" ∷ "known" ∷ "once" ∷ "alike" ∷ []
 
 abbrev pub clausesOf : Written → List Bool
 clausesOf w = clauses (w .file) (historyOf w) (w .book)
 
 abbrev pub failsOf : Written → List ℕ
-failsOf w = withCommas (failing (clausesOf w) names)
+failsOf w = withCommas (failing (clausesOf w) clauseNames)
 
 abbrev pub AllFalse : List Written → Type 0
 AllFalse [] = Unit {0}
