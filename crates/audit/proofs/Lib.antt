@@ -8,3 +8,12 @@ pub mod Agreeing
 pub mod Fates
 pub mod Events
 pub mod Telling
+pub mod Own
+pub mod Covers
+pub mod Cuts
+pub mod About
+pub mod Answers
+pub mod Recalls
+pub mod Inquiries
+pub mod Opening
+pub mod Theorem

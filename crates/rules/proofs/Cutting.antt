@@ -2,23 +2,27 @@
 use mathlib.Core.Path.{_≡_, refl, sym, _∙_, ap}
 use mathlib.Core.Bool.{Bool, true, false, not, cond}
 use mathlib.Core.List.{List}
-use mathlib.Core.Logic.{inl, inr}
+use mathlib.Core.Logic.{_⊎_, inl, inr, ⊎-elim}
 use Prim.Native.Nat.{ℕ, zero, suc, _+_, _-_, _≤_, _<_}
+use native.Mathlib.Nat.{not-suc-le-zero}
 use native.Mathlib.Omega.{arith}
 use borrow.Author.Tests.{ltb-true, eqb-true, not-false}
 use lib.Dec.{ltb, eqb}
+use lib.ListN.{length, length-set}
+use lib.Seq.{getD-set-same, getD-set-other}
 use Rattle.fields.proofs.Tests.{or-left, or-right}
 use Rattle.dayfile.specs.Limits.{mostParticipants}
 use Rattle.dayfile.specs.Roster.{participantOf}
 use Rattle.dayfile.specs.declared.roster.Opening.{Opening}
 use Rattle.dayfile.specs.declared.roster.Opening.the-variants as opening
 use Rattle.dayfile.specs.declared.roster.Roster.{Roster}
-use Rattle.rules.specs.Book.{coverOf}
+use Rattle.rules.specs.Book.{noCover, coverOf}
 use Rattle.rules.specs.Cover.{whole, totalOf}
 use Rattle.rules.specs.Find.{isOpen}
 use Rattle.rules.specs.Cut.{withHeld, withDebit, cutCover, cutTo}
 use Rattle.rules.specs.Sound.{CoversSound}
 use Rattle.rules.specs.declared.Cover.{Cover}
+use Rattle.rules.proofs.Same.{same-or-not, below-or-not}
 use Rattle.rules.proofs.Moving.{Either, fitted, set-there, set-total, set-keeps}
 
 -- nothing held, no open debit
@@ -82,3 +86,21 @@ module _ (r : Roster) (few : r .size ≤ mostParticipants) {due : ℕ → ℕ} {
                 omega arith;
             later = λ q l. set-there (fitted few (c .sound)) p h d q (λ i. omega arith) ∙ c .later q (omega arith);
           }
+
+-- each participant's cover when all are cut
+pub cut-long : (r : Roster) (cs : List Cover) (n : ℕ) → length (cutTo r cs n) ≡ length cs
+cut-long r cs zero = refl
+cut-long r cs (suc p) = length-set (cutTo r cs p) p (cutCover (participantOf r p .opening) (coverOf cs p)) ∙ cut-long r cs p
+
+pub cut-each : (r : Roster) (cs : List Cover) (n : ℕ) → n ≤ length cs → (p : ℕ) → p < n → coverOf (cutTo r cs n) p ≡ cutCover (participantOf r p .opening) (coverOf cs p)
+cut-each r cs zero h p l = absurd (not-suc-le-zero l)
+cut-each r cs (suc n) h p l =
+    ⊎-elim
+    (λ (e : p ≡ n). rw e (getD-set-same (cutTo r cs n) n (cutCover (participantOf r n .opening) (coverOf cs n)) noCover (rw (cut-long r cs n) h)))
+    (λ (k : p ≡ n → ⊥).
+    getD-set-other (cutTo r cs n) n p (cutCover (participantOf r n .opening) (coverOf cs n)) noCover k ∙ cut-each r cs n (omega arith) p (below k (below-or-not p n)))
+    (same-or-not p n)
+  where
+    below : (p ≡ n → ⊥) → (p < n) ⊎ (n ≤ p) → p < n
+    below k (inl b) = b
+    below k (inr b) = absurd (k (omega arith))

@@ -1,0 +1,136 @@
+-- The own steps of a recall, a return and a decline: how the order ended stays as it was told. Assumes nothing.
+use mathlib.Core.Path.{_≡_, refl, sym, _∙_, ap}
+use mathlib.Core.Bool.{Bool, true, false, _&&_, cond, and-false}
+use mathlib.Core.List.{List, [], _∷_, _++_}
+use Prim.Native.Nat.{ℕ, _+_, _≤_, _<_}
+use native.Mathlib.Omega.{arith}
+use lib.Dec.{eqb}
+use Rattle.ticket.specs.declared.Fields.{Fields}
+use Rattle.ticket.specs.declared.kinds.Kind.the-variants as kind
+use Rattle.report.specs.Ending.{isEnding, endingsIn}
+use Rattle.report.specs.declared.Report.{Report}
+use Rattle.rules.specs.Book.{coverOf}
+use Rattle.rules.specs.Status.{isWaiting, isUnmarked, isAsked, withStatus}
+use Rattle.rules.specs.Cover.{transferred}
+use Rattle.rules.specs.Find.{finding}
+use Rattle.rules.specs.Terms.{termsOf, namesSender, namesOrder}
+use Rattle.rules.specs.Decision.{by, nobody, toPayer, toPayee}
+use Rattle.rules.specs.declared.decision.Move.the-variants.{Give, Draw}
+use Rattle.rules.specs.declared.Recall.the-variants as mark
+use Rattle.rules.specs.declared.Status.{Status}
+use Rattle.rules.specs.declared.Status.the-variants as status
+use Rattle.rules.specs.declared.Order.{Order}
+use Rattle.rules.specs.declared.Book.{Book}
+use Rattle.rules.proofs.Moving.{for-none}
+use Rattle.rules.proofs.Accepting as accepting
+use Rattle.rules.proofs.Stepping.{unmarked-not-waiting, asked-not-waiting}
+use Rattle.audit.specs.History.{History, size}
+use Rattle.audit.specs.Sums.{firstWith, goesOut, comesIn}
+use Rattle.audit.specs.Orders.{isOrder}
+use Rattle.audit.proofs.Agreeing.{endCode}
+use Rattle.audit.proofs.Fates.{Fate}
+use Rattle.audit.proofs.Events.{OwnOrder, OwnCover, OwnStep}
+use Rattle.audit.proofs.Telling.{isCut, first-after}
+use Rattle.audit.proofs.Own.{Taken, event, OwnStepOf, kind-is, amount-is, sent, sender-below}
+use Rattle.audit.proofs.About.{AllAbout, status-same, order-held, about-own, two-covers}
+
+-- a settled order was told 2
+unmarked-code : (s : Status) → isUnmarked s ≡ true → endCode s ≡ 2
+unmarked-code status.Waiting e = let z : _≡_ {A = ℕ} 0 1 = cc in absurd (omega arith)
+unmarked-code status.Refused e = let z : _≡_ {A = ℕ} 0 1 = cc in absurd (omega arith)
+unmarked-code status.Expired e = let z : _≡_ {A = ℕ} 0 1 = cc in absurd (omega arith)
+unmarked-code status.Returned e = refl
+unmarked-code (status.Settled m) e = refl
+
+asked-code : (s : Status) → isAsked s ≡ true → endCode s ≡ 2
+asked-code status.Waiting e = let z : _≡_ {A = ℕ} 0 1 = cc in absurd (omega arith)
+asked-code status.Refused e = let z : _≡_ {A = ℕ} 0 1 = cc in absurd (omega arith)
+asked-code status.Expired e = let z : _≡_ {A = ℕ} 0 1 = cc in absurd (omega arith)
+asked-code status.Returned e = refl
+asked-code (status.Settled m) e = refl
+
+-- one report that is no ending, and a status with the same end
+marked-order : (asks : Bool) (i : ℕ) (o : Order) (s : Status) (r : Report) → isEnding i r ≡ false → isWaiting s ≡ false → isWaiting (o .status) ≡ false → endCode s ≡ endCode (o .status)
+    → OwnOrder asks i o (withStatus o s) (r ∷ [])
+marked-order asks i o s r isnt w′ w c =
+    record { fate = Fate.kept (rw isnt) (w′ ∙ sym w) c; same = status-same o s; quiet = rw (isnt, w) }
+
+module _ {file : List ℕ} {h : History} {w : Book} {t : List ℕ} {f : Fields} {rs₀ : List Report} (k : Taken file h w t f rs₀) where
+  -- no cover moves
+  pub still : (r : Report) → isCut r ≡ false → namesSender (termsOf (f .kind) .subject) ≡ true → (p : ℕ)
+      → goesOut file p (event t rs₀ (r ∷ [])) h ≡ 0 → comesIn file p (event t rs₀ (r ∷ [])) h ≡ 0
+      → OwnCover file h (event t rs₀ (r ∷ [])) p (coverOf (w .covers) p) (coverOf (transferred nobody (transferred nobody (w .covers))) p)
+  still r quiet named p out in′ =
+      let someone : 0 < w .roster .size = let b = sender-below k named in omega arith in
+      let z = for-none 0 p in
+      two-covers k (r ∷ []) (quiet, tt) nobody nobody someone someone tt tt refl refl refl refl p (omega arith) (omega arith)
+
+module _ {file : List ℕ} {h : History} {w : Book} {t : List ℕ} {time n : ℕ} {rs₀ : List Report} where
+  pub recall-own : Taken file h w t (record { kind = kind.Recall; time = time; amount = n }) rs₀
+      → OwnStepOf file h w t (record { kind = kind.Recall; time = time; amount = n }) rs₀
+  recall-own k =
+      let right = accepting.status-meets w f t (k .passed .r18) in
+      about-own k (r ∷ []) (withStatus o (status.Settled mark.Asked)) (transferred nobody (transferred nobody (w .covers))) refl (rw (kind-is k)) (refl, tt)
+      (marked-order _ j o (status.Settled mark.Asked) r (and-false (eqb j j)) refl (unmarked-not-waiting (o .status) right) (sym (unmarked-code (o .status) right)))
+      (λ p l. still k r refl refl p (rw (kind-is k)) (rw (kind-is k)))
+    where
+      f : Fields
+      f = record { kind = kind.Recall; time = time; amount = n }
+
+      j : ℕ
+      j = accepting.orderNumber w f t
+
+      o : Order
+      o = accepting.theOrder w f t
+
+      r : Report
+      r = toPayee (finding w f t) 5
+
+  pub decline-own : Taken file h w t (record { kind = kind.Decline; time = time; amount = n }) rs₀
+      → OwnStepOf file h w t (record { kind = kind.Decline; time = time; amount = n }) rs₀
+  decline-own k =
+      let right = accepting.status-meets w f t (k .passed .r18) in
+      about-own k (r ∷ []) (withStatus o (status.Settled mark.Declined)) (transferred nobody (transferred nobody (w .covers))) refl (rw (kind-is k)) (refl, tt)
+      (marked-order _ j o (status.Settled mark.Declined) r (and-false (eqb j j)) refl (asked-not-waiting (o .status) right) (sym (asked-code (o .status) right)))
+      (λ p l. still k r refl refl p (rw (kind-is k)) (rw (kind-is k)))
+    where
+      f : Fields
+      f = record { kind = kind.Decline; time = time; amount = n }
+
+      j : ℕ
+      j = accepting.orderNumber w f t
+
+      o : Order
+      o = accepting.theOrder w f t
+
+      r : Report
+      r = toPayer (finding w f t) 7
+
+  -- the payee's available falls, the payer's rises, as told by report 6
+  pub return-own : Taken file h w t (record { kind = kind.Return; time = time; amount = n }) rs₀
+      → OwnStepOf file h w t (record { kind = kind.Return; time = time; amount = n }) rs₀
+  return-own k =
+      let right = accepting.status-meets w f t (k .passed .r18) in
+      let party : accepting.senderNumber w f t ≡ o .payee = accepting.right-party w f t (k .passed .r17) refl in
+      let enough : n ≤ coverOf (w .covers) (o .payee) .available = rw (← party) (accepting.cover-there w f t (k .passed .r20) refl) in
+      let s = k .midway .sound in
+      let held = order-held k (r ∷ []) refl in
+      let first : firstWith 6 (rs₀ ++ (r ∷ [])) ≡ r ∷ [] = first-after 6 rs₀ (r ∷ []) (k .code) refl in
+      about-own k (r ∷ []) (withStatus o status.Returned) (transferred (by (o .payer) Give n) (transferred (by (o .payee) Draw n) (w .covers))) refl (rw (kind-is k)) (refl, tt)
+      (marked-order _ j o status.Returned r (and-false (eqb j j)) refl (asked-not-waiting (o .status) right) (sym (asked-code (o .status) right)))
+      (λ p l.
+      two-covers k (r ∷ []) (refl, tt) (by (o .payee) Draw n) (by (o .payer) Give n) (s .orders .payee j held) (s .orders .payer j held) enough tt refl refl refl refl p
+      (rw (kind-is k, sent k refl p l, party, amount-is k) (let z = for-none (o .payer) p in omega arith))
+      (rw (kind-is k, first, amount-is k) (let z = for-none (o .payee) p in omega arith)))
+    where
+      f : Fields
+      f = record { kind = kind.Return; time = time; amount = n }
+
+      j : ℕ
+      j = accepting.orderNumber w f t
+
+      o : Order
+      o = accepting.theOrder w f t
+
+      r : Report
+      r = record { to = o .payer; code = 6; order = j; amount = n }
