@@ -55,7 +55,7 @@ module _ {file : List ℕ} {h : History} {w : Book} {t : List ℕ} {f : Fields} 
       → OwnOrder (asksAbout (accepting.orderNumber w f t) (event t rs₀ rs) h) (accepting.orderNumber w f t) (accepting.theOrder w f t) o′ rs
       → ((p : ℕ) → p < size file → OwnCover file h (event t rs₀ rs) p (coverOf (w .covers) p) (coverOf cs p))
       → OwnStep file h (event t rs₀ rs) w
-        (record { clock = w .clock; covers = cs; orders = set (w .orders) (accepting.orderNumber w f t) o′; count = w .count; roster = w .roster }) rs
+      (record { clock = w .clock; covers = cs; orders = set (w .orders) (accepting.orderNumber w f t) o′; count = w .count; roster = w .roster }) rs
   about-own o′ cs named isnt about this covers =
       record {
         roster = refl;

@@ -84,7 +84,7 @@ module _ {file : List ℕ} {h : History} {w : Book} {t : List ℕ} {time n : ℕ
 
       yes-cover : (p : ℕ) → p < size file
           → OwnCover file h (event t rs₀ rs) p (coverOf (w .covers) p)
-            (coverOf (transferred (by (o .payee) Give (o .amount)) (transferred (by (o .payer) Spend (o .amount)) (w .covers))) p)
+          (coverOf (transferred (by (o .payee) Give (o .amount)) (transferred (by (o .payer) Spend (o .amount)) (w .covers))) p)
       yes-cover p l =
           let s = k .midway .sound in
           let held = order-held k rs refl in

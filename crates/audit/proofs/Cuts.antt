@@ -115,9 +115,9 @@ module _ {file : List ℕ} {h : History} {w : Book} {t : List ℕ} {time n : ℕ
       let z = all-closed w (k .passed .r21) p l in
       let m = marked p (lastCut p h) o c z in
       let told : lastCut p (event t rs₀ rs ∷ h) ≡ lastCutIn p (lastCut p h) (cutReport p o c) =
-          cuts-append p (lastCut p h) rs₀ rs
-          ∙ ap (λ (x : ℕ). lastCutIn p x rs) (no-cuts p (lastCut p h) rs₀ (fours-no-cuts rs₀ (k .code)))
-          ∙ all-told (w .roster) (w .covers) p (lastCut p h) (w .roster .size) l in
+      cuts-append p (lastCut p h) rs₀ rs
+      ∙ ap (λ (x : ℕ). lastCutIn p x rs) (no-cuts p (lastCut p h) rs₀ (fours-no-cuts rs₀ (k .code)))
+      ∙ all-told (w .roster) (w .covers) p (lastCut p h) (w .roster .size) l in
       rw (cut-each (w .roster) (w .covers) (w .roster .size) (rw (k .midway .sound .covers .long) (k .midway .sound .roster .size)) p l)
       (record {
         adds = rw (kind-is k) (ap (λ (x : ℕ). x + 0) (cut-right o c z .whole));

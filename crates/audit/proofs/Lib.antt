@@ -1,4 +1,9 @@
 pub mod Testing
+pub mod Rows
+pub mod Pieces
+pub mod Days
+pub mod Mistakes
+pub mod Wrong
 pub mod Agreeing
 pub mod Fates
 pub mod Events

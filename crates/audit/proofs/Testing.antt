@@ -234,16 +234,29 @@ module _ (file : List ℕ) (h : History) (b : Book) where
   pub clauses-pass : Claim file h b → allPass (clauses file h b) ≡ true
   unfolding Known
   clauses-pass c =
-      all-passing (clauses file h b)
-      (all-of (coverAt file h b) (size file) (λ p l. eq-eqb _ _ (c .cover p l)),
-      (all-of (reservedAt file h b) (size file) (λ p l. eq-eqb _ _ (c .reserved p l)),
-      (eq-eqb _ _ (c .held),
-      (all-of (waitingAt file h b) (orderCount h) (λ i l. true-agree _ _ (c .waiting i l)),
-      (true-each (expiryIn file (orderCount h)) (λ e before. (i : ℕ) → letsExpire i e before ≡ mustExpire file i e before)
-      (λ e before t. all-of (expiryAt file e before) (orderCount before + orderCount h) (λ i l. true-agree _ _ (t i))) h (c .expiry),
-      (true-each knownIn (λ e before. Known (orderCount before) (e .reports)) (λ e before. known-below (orderCount before) (e .reports)) h (c .known),
-      (all-of (onceAt h) (orderCount h) (λ i l. eq-eqb _ _ (c .once i l)),
-      (all-of (alikeAt h) (orderCount h) (λ i l. true-carry (codeOf (allEndings i h)) (orderAmount i h) (allEndings i h) (c .alike i l)), tt))))))))
+      all-passing (clauses file h b) (
+        all-of (coverAt file h b) (size file) (λ p l. eq-eqb _ _ (c .cover p l)),
+        (
+          all-of (reservedAt file h b) (size file) (λ p l. eq-eqb _ _ (c .reserved p l)),
+          (
+            eq-eqb _ _ (c .held),
+            (
+              all-of (waitingAt file h b) (orderCount h) (λ i l. true-agree _ _ (c .waiting i l)),
+              (
+                true-each (expiryIn file (orderCount h)) (λ e before. (i : ℕ) → letsExpire i e before ≡ mustExpire file i e before)
+                    (λ e before t. all-of (expiryAt file e before) (orderCount before + orderCount h) (λ i l. true-agree _ _ (t i))) h (c .expiry),
+                (
+                  true-each knownIn (λ e before. Known (orderCount before) (e .reports)) (λ e before. known-below (orderCount before) (e .reports)) h (c .known),
+                  (
+                    all-of (onceAt h) (orderCount h) (λ i l. eq-eqb _ _ (c .once i l)),
+                    (all-of (alikeAt h) (orderCount h) (λ i l. true-carry (codeOf (allEndings i h)) (orderAmount i h) (allEndings i h) (c .alike i l)), tt),
+                  ),
+                ),
+              ),
+            ),
+          ),
+        ),
+      )
 
   -- a clause fails: the claim is false
   pub claim-fails : allPass (clauses file h b) ≡ false → Claim file h b → ⊥

@@ -76,7 +76,7 @@ module _ (file : List ℕ) (h : History) (b : Book) (a : Agrees file h b) (t : L
   must-be-due f tells n rs sets i l =
       let o = a .order i l in
       let bank : isForBank file i h ≡ isBank (b .roster) (orderOf (b .orders) i .payee) =
-          o .bank ∙ ap (λ (r : Roster). isBank r (orderOf (b .orders) i .payee)) (sym (a .roster)) in
+      o .bank ∙ ap (λ (r : Roster). isBank r (orderOf (b .orders) i .payee)) (sym (a .roster)) in
       rw (sets, waits-in-book file h b a i l, bank, o .time, sym (tells .time))
 
   -- a ticket turned back by 6 to 11 changes nothing

@@ -29,7 +29,7 @@ module _ (b : Book) (t : List ℕ) (P : Step → Type 0)
     (turned : (n : ℕ) → 6 ≤ n → n ≤ 11 → P (untouched b n))
     (refused : (f : Fields) → Tells t f → b .clock ≤ f .time → (n : ℕ) → 12 ≤ n → n ≤ 22 → P (ticked (tick b (f .time)) n))
     (taken : (f : Fields) → Tells t f → b .clock ≤ f .time → NoRefusal (finding (tick b (f .time) .book) f t)
-        → P (accepted (tick b (f .time)) (decisionOf (finding (tick b (f .time) .book) f t)))) where
+    → P (accepted (tick b (f .time)) (decisionOf (finding (tick b (f .time) .book) f t)))) where
   -- after the expiries
   decided-goes : (f : Fields) → Tells t f → b .clock ≤ f .time → (n : ℕ) → firstRefusal (finding (tick b (f .time) .book) f t) ≡ n → Late n
       → P (refusedOr n (tick b (f .time)) (finding (tick b (f .time) .book) f t))

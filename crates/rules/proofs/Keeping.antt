@@ -203,13 +203,13 @@ module _ (b : Book) (s : Sound b) where
   pub opened-sound : (o : Order) → NewOrder (b .roster .size) (b .clock) (b .count) (b .orders) o → o .amount ≤ coverOf (b .covers) (o .payer) .available
       → isWaiting (o .status) ≡ true
       → Sound
-        (record {
-          clock = b .clock;
-          covers = transferred (by (o .payer) Reserve (o .amount)) (b .covers);
-          orders = set (b .orders) (b .count) o;
-          count = b .count + 1;
-          roster = b .roster;
-        })
+      (record {
+        clock = b .clock;
+        covers = transferred (by (o .payer) Reserve (o .amount)) (b .covers);
+        orders = set (b .orders) (b .count) o;
+        count = b .count + 1;
+        roster = b .roster;
+      })
   unfolding total due
   opened-sound o new l w =
       let m = by (o .payer) Reserve (o .amount) in

@@ -1,4 +1,6 @@
-pub mod Writing
+pub mod Names
+pub mod Edges
+pub mod LimitEdges
 pub mod Cases
 pub mod Same
 pub mod Moving

@@ -22,7 +22,7 @@ module _ (r : Roster) (g : Guaranteed r) (s : List ℕ) (q : ℕ) (found : Found
       ⊎-elim (λ (i : p ≡ q). i)
       (λ (n : p ≡ q → ⊥).
       let bics : participantOf r p .bic ≡ participantOf r q .bic =
-          same-true (participantOf r p .bic) s e ∙ sym (same-true (participantOf r q .bic) s (found .passes)) in
+      same-true (participantOf r p .bic) s e ∙ sym (same-true (participantOf r q .bic) s (found .passes)) in
       ⊎-elim
       (λ (below : p < q).
       let differ = g .distinct p q below (found .below) in

@@ -1,0 +1,82 @@
+-- What 01's reviewer will try and what its clerk would do wrong, as histories written down by hand. The claim is false of those in
+-- `reviewers` and `mistakes`; of those in `unseen` it holds, and demand 2 shuts them out. A row count is no part of an event, so that an
+-- invented one is for demand 2 also.
+-- Assumes nothing.
+use mathlib.Core.Path.{refl}
+use mathlib.Core.List.{List, [], _∷_}
+use Rattle.codes.specs.Bic.{isBic}
+use Rattle.ticket.specs.Writing.{coverInTicket, orderTicket, yesTicket, noTicket, recallTicket, returnTicket, cutTicket, tickTicket}
+use Rattle.dayfile.specs.DayFile.{dayFile}
+use Rattle.rules.specs.declared.Status.the-variants.{Waiting, Refused, Expired, Returned, Settled}
+use Rattle.rules.specs.declared.Recall.the-variants.{None}
+use Rattle.rules.proofs.Names.{bicA, bicB, tx1, ibanD}
+use Rattle.audit.proofs.Rows.{Written, AllFalse, AllTrue, all-false, all-true, event, report, cover}
+use Rattle.audit.proofs.Pieces.{banks, toLinked, opening, row, lodged, ordered, orderedLinked, orderedMore, settledAt, quiet, expiredAt, moved, freed}
+
+-- 01 'A reviewer will try'
+abbrev pub reviewers : List Written
+reviewers =
+    row "2: accepts and moves no cover" banks (lodged ∷ ordered ∷ settledAt 24 ∷ []) freed (Settled None ∷ []) "cover"
+    ∷ row "2: sends report 2 always, at a time-out too" banks
+    (lodged ∷ ordered ∷ event (tickTicket 25) 0 (report 0 2 0 400 ∷ report 1 2 0 400 ∷ []) ∷ [])
+    freed (Expired ∷ []) "expiry"
+    ∷ row "3: expires everything at the first tick and reports later" banks
+    (lodged ∷ ordered ∷ quiet 6 ∷ [])
+    freed (Expired ∷ []) "reserved, waiting"
+    ∷ []
+
+-- 01 'Mistakes a clerk would make'
+abbrev pub mistakes : List Written
+mistakes =
+    row "expiring at more than 20 seconds: a yes at 20 settles" banks
+    (lodged ∷ ordered ∷ settledAt 25 ∷ [])
+    moved (Settled None ∷ []) "expiry"
+    ∷ row "adding 20 to a time near the top of 32 bits: the sum wraps, and after 15 seconds the order expires" banks
+    (lodged
+    ∷ event (orderTicket 4294967280 bicA bicB 400 tx1 ibanD) 0 (report 1 1 0 400 ∷ [])
+    ∷ expiredAt 4294967295
+    ∷ [])
+    freed (Expired ∷ []) "expiry"
+    ∷ row "timing out an order for a linked system" toLinked (lodged ∷ orderedLinked ∷ expiredAt 25 ∷ []) freed (Expired ∷ []) "expiry"
+    ∷ row "letting a refusal 18 stop the clock: the second order's time-out at 26 is not seen" banks
+    (lodged ∷ ordered ∷ orderedMore ∷ settledAt 7 ∷ event (yesTicket 26 bicB tx1) 18 [] ∷ [])
+    (cover 100 500 0 ∷ cover 400 0 0 ∷ []) (Settled None ∷ Waiting ∷ []) "expiry"
+    ∷ row "moving reserved cover at a cut" opening
+    (lodged ∷ ordered ∷ event (cutTicket 6) 0 (report 0 11 65535 900 ∷ []) ∷ [])
+    (cover 100 0 900 ∷ cover 0 0 0 ∷ []) (Waiting ∷ []) "reserved"
+    ∷ row "freeing a returned order's reservation again" banks
+    (lodged
+    ∷ ordered
+    ∷ orderedMore
+    ∷ settledAt 7
+    ∷ event (recallTicket 8 bicA 1 tx1) 0 (report 1 5 0 400 ∷ [])
+    ∷ event (returnTicket 9 bicB 400 tx1) 0 (report 0 6 0 400 ∷ [])
+    ∷ [])
+    (cover 900 100 0 ∷ cover 0 0 0 ∷ []) (Returned ∷ Waiting ∷ []) "reserved"
+    ∷ []
+
+pub reviewers-false : AllFalse reviewers
+unfolding isBic dayFile
+reviewers-false = all-false reviewers refl
+
+pub mistakes-false : AllFalse mistakes
+unfolding isBic dayFile
+mistakes-false = all-false mistakes refl
+
+-- the claim holds: these are for demand 2
+abbrev pub unseen : List Written
+unseen =
+    row "1: every ticket is turned back" banks
+    (event (coverInTicket 0 bicA 1000) 15 [] ∷ event (tickTicket 1) 7 [] ∷ [])
+    (cover 0 0 0 ∷ cover 0 0 0 ∷ []) [] ""
+    ∷ row "2: report 2 is sent for a no" banks
+    (lodged ∷ ordered ∷ event (noTicket 6 bicB tx1) 0 (report 0 2 0 400 ∷ []) ∷ [])
+    freed (Refused ∷ []) ""
+    ∷ row "telling the payee of its own no" banks
+    (lodged ∷ ordered ∷ event (noTicket 6 bicB tx1) 0 (report 0 3 0 400 ∷ report 1 3 0 400 ∷ []) ∷ [])
+    freed (Refused ∷ []) ""
+    ∷ []
+
+pub unseen-true : AllTrue unseen
+unfolding isBic dayFile
+unseen-true = all-true unseen refl
