@@ -45,11 +45,12 @@ run-balanced : (file : List ℕ) (inputs : List Input) → Each (λ e before. Ba
 run-balanced file [] = tt
 run-balanced file (x ∷ before) =
     let a = run-agrees file before in
-    let b = run file before .book in
-    (subst (λ (rs : List Report). Balanced file (record { ticket = x .ticket; refusal = outcome b (x .ticket) (x .buffer) .refusal; reports = rs }))
-    (sym (buffer-reads-back b (a .sound) (x .ticket) (x .buffer)))
-    (step-balanced file (eventsOf (run file before .seen)) b a (x .ticket) (x .buffer)),
-    run-balanced file before)
+    let b = run file before .book in (
+      subst (λ (rs : List Report). Balanced file (record { ticket = x .ticket; refusal = outcome b (x .ticket) (x .buffer) .refusal; reports = rs }))
+          (sym (buffer-reads-back b (a .sound) (x .ticket) (x .buffer)))
+          (step-balanced file (eventsOf (run file before .seen)) b a (x .ticket) (x .buffer)),
+      run-balanced file before,
+    )
 
 -- what comes from outside and goes outside, and what stays among the participants
 abbrev pub fromOutside : List ℕ → ℕ → History → ℕ

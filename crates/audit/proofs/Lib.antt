@@ -19,3 +19,4 @@ pub mod Opening
 pub mod Theorem
 pub mod Balance
 pub mod Corollaries
+pub mod Worked
