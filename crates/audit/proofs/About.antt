@@ -1,20 +1,19 @@
 -- The own step of a ticket about an order that is held: that order has another status, the others are as they were. Assumes nothing.
-use mathlib.Core.Path.{_≡_, refl, sym, _∙_, ap}
-use mathlib.Core.Bool.{Bool, true, false, _&&_, cond, and-false}
-use mathlib.Core.List.{List, [], _∷_, _++_}
-use mathlib.Core.Logic.{_⊎_, inl, inr, ⊎-elim}
-use Prim.Native.Nat.{ℕ, _+_, _≤_, _<_}
+use mathlib.Core.Path.{_≡_, refl, sym, _∙_}
+use mathlib.Core.Bool.{true, false}
+use mathlib.Core.List.{List, [], _∷_}
+use mathlib.Core.Logic.{_⊎_, inr, ⊎-elim}
+use Prim.Native.Nat.{ℕ, _+_, _<_}
 use native.Mathlib.Omega.{arith}
-use borrow.Author.Tests.{eq-eqb, ne-eqb}
 use lib.ListN.{set}
 use lib.Seq.{getD-set-same, getD-set-other}
 use Rattle.ticket.specs.declared.Fields.{Fields}
-use Rattle.report.specs.Ending.{isEnding, endingsIn}
+use Rattle.report.specs.Ending.{endingsIn}
 use Rattle.report.specs.declared.Report.{Report}
 use Rattle.report.proofs.Ending.{ending-other-order, endings-without}
 use Rattle.rules.specs.Book.{noOrder, orderOf, coverOf}
 use Rattle.rules.specs.Status.{withStatus}
-use Rattle.rules.specs.Cover.{moved, transferred, whole}
+use Rattle.rules.specs.Cover.{moved, transferred}
 use Rattle.rules.specs.Terms.{termsOf, namesOrder}
 use Rattle.rules.specs.declared.decision.Transfer.{Transfer}
 use Rattle.rules.specs.declared.Status.{Status}

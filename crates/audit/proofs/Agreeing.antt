@@ -1,12 +1,11 @@
 -- How a history and a book agree: what is carried along a list of tickets, and that the claim follows from it. Assumes nothing.
 use mathlib.Core.Path.{_≡_, refl, sym, subst, _∙_, ap}
-use mathlib.Core.Bool.{Bool, true, false, _&&_, cond}
+use mathlib.Core.Bool.{Bool, _&&_, cond}
 use mathlib.Core.List.{List, [], _∷_}
 use mathlib.Core.Logic.{_⊎_}
 use Prim.Native.Nat.{ℕ, _+_, _≤_, _<_}
-use native.Mathlib.Omega.{arith}
 use borrow.Author.Tests.{lt-ltb}
-use lib.Dec.{eqb, ltb}
+use lib.Dec.{eqb}
 use Rattle.fields.specs.Text.{unpadded}
 use Rattle.fields.specs.UpTo.{sumTo}
 use Rattle.fields.proofs.UpTo.{sum-same}
@@ -16,7 +15,7 @@ use Rattle.dayfile.specs.DayFile.{dayFile}
 use Rattle.rules.specs.Book.{orderOf, coverOf, isBank}
 use Rattle.rules.specs.Status.{isWaiting}
 use Rattle.rules.specs.Cover.{whole}
-use Rattle.rules.specs.Sound.{waitingAmount, waitingSum, Sound}
+use Rattle.rules.specs.Sound.{waitingAmount, Sound}
 use Rattle.rules.specs.declared.Status.{Status}
 use Rattle.rules.specs.declared.Status.the-variants.{Waiting, Refused, Expired, Returned, Settled}
 use Rattle.rules.specs.declared.Order.{Order}

@@ -1,12 +1,10 @@
 -- The own steps of a yes and a no: the order stops waiting, and all are told the same. Assumes nothing.
-use mathlib.Core.Path.{_≡_, refl, sym, _∙_, ap}
-use mathlib.Core.Bool.{Bool, true, false, _&&_, cond, and-false}
+use mathlib.Core.Path.{_≡_, refl}
+use mathlib.Core.Bool.{Bool, true, false, cond, and-false}
 use mathlib.Core.List.{List, [], _∷_, _++_}
-use Prim.Native.Nat.{ℕ, _+_, _≤_, _<_}
+use Prim.Native.Nat.{ℕ, _+_, _<_}
 use native.Mathlib.Omega.{arith}
 use borrow.Author.Tests.{eq-eqb}
-use lib.Dec.{eqb}
-use lib.ListN.{length}
 use Rattle.ticket.specs.Layout.{flagByte}
 use Rattle.ticket.specs.declared.Fields.{Fields}
 use Rattle.ticket.specs.declared.kinds.Kind.the-variants as kind
@@ -27,12 +25,12 @@ use Rattle.rules.specs.declared.Recall.the-variants as mark
 use Rattle.rules.specs.declared.Status.the-variants as status
 use Rattle.rules.specs.declared.Order.{Order}
 use Rattle.rules.specs.declared.Book.{Book}
-use Rattle.rules.proofs.Moving.{onlyFor, for-none}
+use Rattle.rules.proofs.Moving.{for-none}
 use Rattle.rules.proofs.Keeping.{backed}
 use Rattle.rules.proofs.Accepting as accepting
 use Rattle.audit.specs.History.{History, size}
-use Rattle.audit.specs.Sums.{firstWith, goesOut, comesIn}
-use Rattle.audit.specs.Orders.{isFirst4, asksAbout}
+use Rattle.audit.specs.Sums.{firstWith}
+use Rattle.audit.specs.Orders.{asksAbout}
 use Rattle.audit.specs.Claim.{AllCarry}
 use Rattle.audit.proofs.Fates.{Fate}
 use Rattle.audit.proofs.Events.{OwnOrder, OwnCover, OwnStep}

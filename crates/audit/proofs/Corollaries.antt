@@ -4,7 +4,7 @@
 --     ended-once            no more than one ticket ends an order's wait
 --     ended-as-told         an order that waits no longer has the status that all were told
 --     beginnings            what was seen of a list begins with what was seen of each of its beginnings
-use mathlib.Core.Path.{_≡_, refl, sym, subst, _∙_, ap}
+use mathlib.Core.Path.{_≡_, refl, sym, subst, _∙_}
 use mathlib.Core.Bool.{Bool, true, false, cond}
 use mathlib.Core.List.{List, [], _∷_, _++_}
 use Prim.Native.Nat.{ℕ, _+_, _≤_, _<_}
@@ -12,7 +12,7 @@ use native.Mathlib.Omega.{arith}
 use borrow.Author.Tests.{ne-eqb}
 use lib.ListN.{length, drop}
 use Rattle.fields.specs.UpTo.{sumTo}
-use Rattle.fields.proofs.UpTo.{sum-same, sum-add, sum-zero}
+use Rattle.fields.proofs.UpTo.{sum-same, sum-add}
 use Rattle.report.specs.declared.Report.{Report}
 use Rattle.rules.specs.Book.{orderOf, coverOf}
 use Rattle.rules.specs.Status.{isWaiting}
@@ -22,11 +22,11 @@ use Rattle.rules.specs.Step.{handed, outcome}
 use Rattle.rules.specs.declared.Book.{Book}
 use Rattle.rules.proofs.Courses.{handed-goes}
 use Rattle.rules.proofs.Reporting.{buffer-reads-back}
-use Rattle.audit.specs.History.{Event, History, Each, sumOver, size}
-use Rattle.audit.specs.Sums.{coverIn, coverOut, debit, credit, settledTo, settledFrom, returnBy, returnTo, goesOut, comesIn, outgoing, incoming}
+use Rattle.audit.specs.History.{History, Each, sumOver, size}
+use Rattle.audit.specs.Sums.{coverIn, coverOut, debit, credit, settledTo, settledFrom, returnBy, returnTo, outgoing, incoming}
 use Rattle.audit.specs.Orders.{orderCount, isNone, waits, endingTickets, allEndings}
 use Rattle.audit.specs.Claim.{AllCarry, codeOf}
-use Rattle.audit.specs.Run.{Input, Seen, eventsOf, run}
+use Rattle.audit.specs.Run.{Input, eventsOf, run}
 use Rattle.audit.proofs.Agreeing.{endCode, Agrees}
 use Rattle.audit.proofs.Balance.{Balanced, unmoved, own-balanced}
 use Rattle.audit.proofs.Theorem.{the-ticket, run-agrees, demand3}

@@ -1,33 +1,27 @@
 -- The own steps of a cover in, a cover out, a confirm and a tick; and a refused ticket, which has none. Assumes nothing.
 use mathlib.Core.Path.{_≡_, refl, sym, _∙_, ap}
-use mathlib.Core.Bool.{Bool, true, false, _&&_, not, cond, and-false}
-use mathlib.Core.List.{List, [], _∷_, _++_}
+use mathlib.Core.Bool.{Bool, true, false, _&&_, not, cond}
+use mathlib.Core.List.{List, [], _++_}
 use mathlib.Core.Logic.{_⊎_, inl, inr, ⊎-elim}
-use Prim.Native.Nat.{ℕ, _+_, _≤_, _<_}
+use Prim.Native.Nat.{ℕ, _+_, _<_}
 use native.Mathlib.Omega.{arith}
 use borrow.Author.Tests.{eqb-true, eqb-false, not-true, not-false, eq-eqb, ne-eqb}
 use lib.Dec.{leb, eqb}
 use Rattle.fields.proofs.Tests.{and-left}
-use Rattle.ticket.specs.Layout.{amountOf}
-use Rattle.ticket.specs.declared.Fields.{Fields}
 use Rattle.ticket.specs.declared.kinds.Kind.the-variants as kind
-use Rattle.ticket.proofs.Telling.{Tells}
-use Rattle.report.specs.Ending.{endingsIn}
 use Rattle.report.specs.declared.Report.{Report}
 use Rattle.rules.specs.Book.{orderOf, coverOf}
 use Rattle.rules.specs.Cover.{transferred}
 use Rattle.rules.specs.Find.{finding}
 use Rattle.rules.specs.Refusal.{confirms}
-use Rattle.rules.specs.Decision.{by, nobody, orderKept, decisionOf, applied}
+use Rattle.rules.specs.Decision.{by, nobody, orderKept, applied}
 use Rattle.rules.specs.declared.decision.Move.the-variants.{Give, Draw, Credit, Debit}
 use Rattle.rules.specs.declared.decision.Told.{Told}
 use Rattle.rules.specs.declared.Cover.{Cover}
 use Rattle.rules.specs.declared.Book.{Book}
 use Rattle.rules.proofs.Same.{same-or-not}
 use Rattle.rules.proofs.Moving.{onlyFor, for-none, nobody-moves}
-use Rattle.rules.proofs.Refusing.{NoRefusal}
 use Rattle.rules.proofs.Accepting as accepting
-use Rattle.rules.proofs.Stepping.{same-applied}
 use Rattle.rules.proofs.Expiring.{AllCode}
 use Rattle.audit.specs.History.{Event, History, size}
 use Rattle.audit.specs.Sums.{lastCut, goesOut, comesIn}

@@ -1,18 +1,17 @@
 -- The own step of a cut: it tells no ending, and what is held or open after it is what it told. Assumes nothing.
-use mathlib.Core.Path.{_≡_, refl, sym, _∙_, ap, ap₂}
-use mathlib.Core.Bool.{Bool, true, false, _&&_, cond, and-false}
+use mathlib.Core.Path.{_≡_, refl, _∙_, ap, ap₂}
+use mathlib.Core.Bool.{Bool, true, false, cond, and-false}
 use mathlib.Core.List.{List, [], _∷_, _++_}
 use mathlib.Core.Logic.{_⊎_, inl, inr, ⊎-elim}
 use Prim.Native.Nat.{ℕ, zero, suc, _+_, _-_, _≤_, _<_}
 use native.Mathlib.Nat.{not-suc-le-zero}
 use native.Mathlib.Omega.{arith}
 use borrow.Author.Tests.{eq-eqb, ne-eqb}
-use lib.Dec.{ltb, eqb}
+use lib.Dec.{ltb}
 use Rattle.ticket.specs.declared.kinds.Kind.the-variants as kind
 use Rattle.report.specs.Ending.{endingsIn}
 use Rattle.report.specs.declared.Report.{Report}
 use Rattle.report.proofs.Ending.{endings-append}
-use Rattle.dayfile.specs.DayFile.{dayFile}
 use Rattle.dayfile.specs.Roster.{participantOf}
 use Rattle.dayfile.specs.declared.roster.Opening.{Opening}
 use Rattle.dayfile.specs.declared.roster.Opening.the-variants as opening

@@ -1,13 +1,12 @@
 -- One event: first the expiries, then the ticket's own step. Where history and book agreed before, they agree after. Assumes nothing.
-use mathlib.Core.Path.{_≡_, refl, sym, subst, _∙_, ap, ap₂}
+use mathlib.Core.Path.{_≡_, refl, sym, _∙_, ap, ap₂}
 use mathlib.Core.Bool.{Bool, true, false, _&&_, cond, and-false}
 use mathlib.Core.List.{List, [], _∷_, _++_}
-use mathlib.Core.Logic.{_⊎_, inl, inr, ⊎-elim}
+use mathlib.Core.Logic.{_⊎_, ⊎-elim}
 use Prim.Native.Nat.{ℕ, _+_, _≤_, _<_}
 use native.Mathlib.Omega.{arith}
 use borrow.Author.Tests.{eq-eqb, ne-eqb, le-ltb}
 use lib.Dec.{eqb}
-use lib.ListN.{length}
 use Rattle.fields.specs.Text.{unpadded}
 use Rattle.ticket.specs.Layout.{timeOf, amountOf, txidOf}
 use Rattle.report.specs.Ending.{endingsIn}
@@ -22,12 +21,11 @@ use Rattle.rules.specs.declared.Order.{Order}
 use Rattle.rules.specs.declared.Cover.{Cover}
 use Rattle.rules.specs.declared.Book.{Book}
 use Rattle.rules.proofs.Same.{same-or-not, below-or-not}
-use Rattle.rules.proofs.Expiring.{expiredIf, fours, Apart, Expires}
+use Rattle.rules.proofs.Expiring.{expiredIf, fours, Expires}
 use Rattle.audit.specs.History.{Event, History, size, isSentBy}
-use Rattle.audit.specs.Sums.{firstWith, lastCut, goesOut, comesIn, outgoing, incoming}
-use Rattle.audit.specs.Orders.{isOrder, orderCount, opens, toBank, isNone, isFirst4, waits, letsExpire, mustExpire, asksAbout, endingTickets, allEndings}
-use Rattle.audit.specs.Claim.{AllCarry}
-use Rattle.audit.proofs.Agreeing.{endCode, OrderAgrees, CoverAgrees, Agrees}
+use Rattle.audit.specs.Sums.{firstWith, lastCut, goesOut, comesIn}
+use Rattle.audit.specs.Orders.{isOrder, orderCount, opens, toBank, isNone, isFirst4, letsExpire, mustExpire, asksAbout, allEndings}
+use Rattle.audit.proofs.Agreeing.{OrderAgrees, CoverAgrees, Agrees}
 use Rattle.audit.proofs.Fates.{Fate, SameOrder, no-tickets, order-goes}
 
 -- order i, before and after the ticket's own step

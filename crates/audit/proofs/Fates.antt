@@ -1,25 +1,22 @@
 -- What an event does to one order: nothing, a repeat of how it ended, or its end; and that an order that agreed before agrees after.
 -- Assumes nothing.
-use mathlib.Core.Path.{_≡_, refl, sym, subst, _∙_, ap, ap₂}
-use mathlib.Core.Bool.{Bool, true, false, _&&_, cond, and-false}
+use mathlib.Core.Path.{_≡_, refl, sym, subst, _∙_, ap}
+use mathlib.Core.Bool.{Bool, true, false, cond}
 use mathlib.Core.List.{List, [], _∷_, _++_}
-use Prim.Native.Nat.{ℕ, suc, _+_, _-_, _≤_, _<_}
+use Prim.Native.Nat.{ℕ, suc, _+_, _-_, _≤_}
 use native.Mathlib.Omega.{arith}
 use borrow.Author.Tests.{ne-eqb}
 use lib.Dec.{eqb}
 use lib.ListN.{length}
 use Rattle.report.specs.Ending.{endingsIn}
 use Rattle.report.specs.declared.Report.{Report}
-use Rattle.report.proofs.Ending.{endings-append}
 use Rattle.fields.specs.Text.{unpadded}
 use Rattle.dayfile.specs.DayFile.{dayFile}
 use Rattle.rules.specs.Book.{isBank}
-use Rattle.rules.specs.Status.{isWaiting, withStatus}
-use Rattle.rules.specs.declared.Status.the-variants.{Expired}
+use Rattle.rules.specs.Status.{isWaiting}
 use Rattle.rules.specs.declared.Order.{Order}
-use Rattle.rules.proofs.Expiring.{expiredIf, fours}
 use Rattle.audit.specs.History.{Event, History}
-use Rattle.audit.specs.Orders.{opens, ofOrder, isNone, isFirst4, asksAbout, ownEndings, endingTickets, allEndings}
+use Rattle.audit.specs.Orders.{opens, ofOrder, isNone, asksAbout, ownEndings, endingTickets, allEndings}
 use Rattle.audit.specs.Claim.{AllCarry}
 use Rattle.audit.proofs.Agreeing.{endCode, OrderAgrees}
 

@@ -1,11 +1,10 @@
 -- The own step of an inquiry: it repeats how the order ended, if it did, and changes nothing. Assumes nothing.
 use mathlib.Core.Path.{_≡_, refl, sym, _∙_, ap}
-use mathlib.Core.Bool.{Bool, true, false, _&&_, cond, and-false}
-use mathlib.Core.List.{List, [], _∷_, _++_}
-use Prim.Native.Nat.{ℕ, _+_, _≤_, _<_}
+use mathlib.Core.Bool.{Bool, true, false, cond, and-false}
+use mathlib.Core.List.{List, [], _∷_}
+use Prim.Native.Nat.{ℕ, _<_}
 use native.Mathlib.Omega.{arith}
 use borrow.Author.Tests.{eq-eqb, lt-ltb}
-use lib.Dec.{eqb, ltb}
 use Rattle.fields.specs.Text.{same, unpadded}
 use Rattle.fields.proofs.Same.{same-refl, same-true}
 use Rattle.ticket.specs.Layout.{txidField}
@@ -13,7 +12,6 @@ use Rattle.ticket.specs.declared.Fields.{Fields}
 use Rattle.ticket.specs.declared.kinds.Kind.the-variants as kind
 use Rattle.report.specs.Ending.{endingsIn}
 use Rattle.report.specs.declared.Report.{Report}
-use Rattle.rules.specs.Book.{coverOf}
 use Rattle.rules.specs.Status.{isWaiting}
 use Rattle.rules.specs.Cover.{transferred}
 use Rattle.rules.specs.Tell.{listed}
@@ -31,13 +29,12 @@ use Rattle.rules.proofs.Moving.{for-none}
 use Rattle.rules.proofs.Accepting as accepting
 use Rattle.audit.specs.History.{History, size}
 use Rattle.audit.specs.Orders.{orderCount, orderTxid, asksAbout}
-use Rattle.audit.specs.Claim.{AllCarry}
 use Rattle.audit.proofs.Agreeing.{endCode}
 use Rattle.audit.proofs.Fates.{Fate, SameOrder}
 use Rattle.audit.proofs.Events.{OwnOrder, OwnStep}
 use Rattle.audit.proofs.Telling.{NoCuts}
 use Rattle.audit.proofs.Own.{Taken, event, OwnStepOf, kind-is, sender-below}
-use Rattle.audit.proofs.About.{AllAbout, order-held, about-own, two-covers}
+use Rattle.audit.proofs.About.{AllAbout, about-own, two-covers}
 
 module _ {file : List ℕ} {h : History} {w : Book} {t : List ℕ} {time n : ℕ} {rs₀ : List Report} (k : Taken file h w t (record { kind = kind.Inquiry; time = time; amount = n }) rs₀) where
   abbrev f : Fields

@@ -1,11 +1,10 @@
 -- The own step of an order: one order more, which waits. Assumes nothing.
 use mathlib.Core.Path.{_≡_, refl, sym, subst, _∙_, ap}
-use mathlib.Core.Bool.{Bool, true, false, _&&_, and-false}
-use mathlib.Core.List.{List, [], _∷_, _++_}
-use Prim.Native.Nat.{ℕ, _+_, _≤_, _<_}
+use mathlib.Core.Bool.{Bool, _&&_, and-false}
+use mathlib.Core.List.{List, [], _∷_}
+use Prim.Native.Nat.{ℕ, _<_}
 use native.Mathlib.Omega.{arith}
 use borrow.Author.Tests.{lt-ltb}
-use lib.Dec.{eqb, ltb}
 use lib.ListN.{set}
 use lib.Seq.{getD-set-same, getD-set-other}
 use Rattle.ticket.specs.declared.Fields.{Fields}
@@ -24,9 +23,8 @@ use Rattle.rules.specs.declared.Book.{Book}
 use Rattle.rules.proofs.Moving.{for-none}
 use Rattle.rules.proofs.Accepting as accepting
 use Rattle.audit.specs.History.{History, size}
-use Rattle.audit.specs.Sums.{firstWith}
 use Rattle.audit.specs.Orders.{toBank, asksAbout}
-use Rattle.audit.proofs.Events.{Opened, Growth, OwnStep}
+use Rattle.audit.proofs.Events.{Opened, Growth}
 use Rattle.audit.proofs.Telling.{first-after}
 use Rattle.audit.proofs.Own.{Taken, event, OwnStepOf, order-left, kind-is, amount-is, sent, sender-below}
 use Rattle.audit.proofs.About.{two-covers}

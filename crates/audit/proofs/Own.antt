@@ -1,12 +1,11 @@
 -- What the own step of an accepted ticket starts from, and the steps that touch no order: cover in, cover out, confirm, cut, tick; and
 -- that of a refused ticket, which does nothing. Assumes nothing.
-use mathlib.Core.Path.{_≡_, refl, sym, subst, _∙_, ap, ap₂}
-use mathlib.Core.Bool.{Bool, true, false, _&&_, _||_, cond, and-false}
+use mathlib.Core.Path.{_≡_, refl, sym, subst, _∙_, ap}
+use mathlib.Core.Bool.{Bool, true, false, and-false}
 use mathlib.Core.List.{List, [], _∷_, _++_}
 use mathlib.Core.Logic.{_⊎_, inl, inr, ⊎-elim}
-use Prim.Native.Nat.{ℕ, _+_, _≤_, _<_}
+use Prim.Native.Nat.{ℕ, _+_, _<_}
 use native.Mathlib.Omega.{arith}
-use borrow.Author.Tests.{eqb-true}
 use lib.Dec.{eqb}
 use lib.ListN.{set}
 use lib.Seq.{set-getD}
@@ -14,7 +13,6 @@ use Rattle.fields.specs.Text.{same, unpadded}
 use Rattle.ticket.specs.Layout.{kindByte, amountOf, senderOf}
 use Rattle.ticket.specs.Kind.{kindNumber}
 use Rattle.ticket.specs.declared.Fields.{Fields}
-use Rattle.ticket.specs.declared.kinds.Kind.{Kind}
 use Rattle.ticket.specs.declared.kinds.Kind.the-variants as kind
 use Rattle.ticket.proofs.Telling.{Tells, tells-bytes}
 use Rattle.report.specs.Ending.{endingsIn}
@@ -27,15 +25,14 @@ use Rattle.rules.specs.Status.{isWaiting}
 use Rattle.rules.specs.Cover.{moved, transferred, whole}
 use Rattle.rules.specs.Find.{finding}
 use Rattle.rules.specs.Terms.{termsOf, namesSender}
-use Rattle.rules.specs.Decision.{by, nobody, orderKept, decisionOf, applied, toldBy}
+use Rattle.rules.specs.Decision.{orderKept, decisionOf, applied, toldBy}
 use Rattle.rules.specs.Sound.{Sound}
-use Rattle.rules.specs.declared.decision.Move.the-variants.{Give, Draw, Credit, Debit}
 use Rattle.rules.specs.declared.decision.Transfer.{Transfer}
 use Rattle.rules.specs.declared.decision.Told.{Told}
 use Rattle.rules.specs.declared.Order.{Order}
 use Rattle.rules.specs.declared.Cover.{Cover}
 use Rattle.rules.specs.declared.Book.{Book}
-use Rattle.rules.proofs.Moving.{Enough, gain, loss, onlyFor, for-none, Fitted, fitted, set-here, set-there, nobody-moves, transfer-whole, transfer-leaves}
+use Rattle.rules.proofs.Moving.{Enough, gain, loss, onlyFor, Fitted, fitted, set-here, set-there, nobody-moves, transfer-whole, transfer-leaves}
 use Rattle.rules.proofs.Same.{same-or-not}
 use Rattle.rules.proofs.Refusing.{NoRefusal}
 use Rattle.rules.proofs.Accepting as accepting
@@ -45,7 +42,7 @@ use Rattle.audit.specs.History.{Event, History, size}
 use Rattle.audit.specs.Sums.{lastCut, goesOut, comesIn}
 use Rattle.audit.specs.Orders.{isOrder, orderCount, orderTxid, asksAbout}
 use Rattle.audit.proofs.Agreeing.{endCode}
-use Rattle.audit.proofs.Fates.{Fate, SameOrder}
+use Rattle.audit.proofs.Fates.{Fate}
 use Rattle.audit.proofs.Events.{OwnOrder, OwnCover, Growth, OwnStep}
 use Rattle.audit.proofs.Telling.{NoCuts, cut-after}
 

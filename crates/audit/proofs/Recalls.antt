@@ -1,21 +1,22 @@
 -- The own steps of a recall, a return and a decline: how the order ended stays as it was told. Assumes nothing.
-use mathlib.Core.Path.{_≡_, refl, sym, _∙_, ap}
-use mathlib.Core.Bool.{Bool, true, false, _&&_, cond, and-false}
+use mathlib.Core.Path.{_≡_, refl, sym, _∙_}
+use mathlib.Core.Bool.{Bool, true, false, and-false}
 use mathlib.Core.List.{List, [], _∷_, _++_}
 use Prim.Native.Nat.{ℕ, _+_, _≤_, _<_}
 use native.Mathlib.Omega.{arith}
 use lib.Dec.{eqb}
 use Rattle.ticket.specs.declared.Fields.{Fields}
 use Rattle.ticket.specs.declared.kinds.Kind.the-variants as kind
-use Rattle.report.specs.Ending.{isEnding, endingsIn}
+use Rattle.report.specs.Ending.{isEnding}
 use Rattle.report.specs.declared.Report.{Report}
 use Rattle.rules.specs.Book.{coverOf}
 use Rattle.rules.specs.Status.{isWaiting, isUnmarked, isAsked, withStatus}
 use Rattle.rules.specs.Cover.{transferred}
 use Rattle.rules.specs.Find.{finding}
 use Rattle.rules.specs.Terms.{termsOf, namesSender, namesOrder}
-use Rattle.rules.specs.Decision.{by, nobody, toPayer, toPayee}
+use Rattle.rules.specs.Decision.{by, nobody, toPayer, toPayee, orderBecomes, applied}
 use Rattle.rules.specs.declared.decision.Move.the-variants.{Give, Draw}
+use Rattle.rules.specs.declared.decision.Told.the-variants.{One}
 use Rattle.rules.specs.declared.Recall.the-variants as mark
 use Rattle.rules.specs.declared.Status.{Status}
 use Rattle.rules.specs.declared.Status.the-variants as status
@@ -26,13 +27,13 @@ use Rattle.rules.proofs.Accepting as accepting
 use Rattle.rules.proofs.Stepping.{unmarked-not-waiting, asked-not-waiting}
 use Rattle.audit.specs.History.{History, size}
 use Rattle.audit.specs.Sums.{firstWith, goesOut, comesIn}
-use Rattle.audit.specs.Orders.{isOrder}
+use Rattle.audit.specs.Orders.{isOrder, asksAbout}
 use Rattle.audit.proofs.Agreeing.{endCode}
 use Rattle.audit.proofs.Fates.{Fate}
-use Rattle.audit.proofs.Events.{OwnOrder, OwnCover, OwnStep}
+use Rattle.audit.proofs.Events.{OwnOrder, OwnStep}
 use Rattle.audit.proofs.Telling.{isCut, first-after}
 use Rattle.audit.proofs.Own.{Taken, event, OwnStepOf, kind-is, amount-is, sent, sender-below}
-use Rattle.audit.proofs.About.{AllAbout, status-same, order-held, about-own, two-covers}
+use Rattle.audit.proofs.About.{status-same, order-held, about-own, two-covers}
 
 -- a settled order was told 2
 unmarked-code : (s : Status) → isUnmarked s ≡ true → endCode s ≡ 2
@@ -50,61 +51,49 @@ asked-code status.Returned e = refl
 asked-code (status.Settled m) e = refl
 
 -- one report that is no ending, and a status with the same end
-marked-order : (asks : Bool) (i : ℕ) (o : Order) (s : Status) (r : Report) → isEnding i r ≡ false → isWaiting s ≡ false → isWaiting (o .status) ≡ false → endCode s ≡ endCode (o .status)
-    → OwnOrder asks i o (withStatus o s) (r ∷ [])
+marked-order : (asks : Bool) (i : ℕ) (o : Order) (s : Status) (r : Report) → isEnding i r ≡ false → isWaiting s ≡ false → isWaiting (o .status) ≡ false
+    → endCode s ≡ endCode (o .status) → OwnOrder asks i o (withStatus o s) (r ∷ [])
 marked-order asks i o s r isnt w′ w c =
     record { fate = Fate.kept (rw isnt) (w′ ∙ sym w) c; same = status-same o s; quiet = rw (isnt, w) }
 
-module _ {file : List ℕ} {h : History} {w : Book} {t : List ℕ} {f : Fields} {rs₀ : List Report} (k : Taken file h w t f rs₀) where
-  -- no cover moves
-  pub still : (r : Report) → isCut r ≡ false → namesSender (termsOf (f .kind) .subject) ≡ true → (p : ℕ)
-      → goesOut file p (event t rs₀ (r ∷ [])) h ≡ 0 → comesIn file p (event t rs₀ (r ∷ [])) h ≡ 0
-      → OwnCover file h (event t rs₀ (r ∷ [])) p (coverOf (w .covers) p) (coverOf (transferred nobody (transferred nobody (w .covers))) p)
-  still r quiet named p out in′ =
-      let someone : 0 < w .roster .size = let b = sender-below k named in omega arith in
-      let z = for-none 0 p in
-      two-covers k (r ∷ []) (quiet, tt) nobody nobody someone someone tt tt refl refl refl refl p (omega arith) (omega arith)
+module _ {file : List ℕ} {h : History} {w : Book} {t : List ℕ} {f : Fields} {rs₀ : List Report} (k : Taken file h w t f rs₀)
+    (named : namesOrder (termsOf (f .kind) .subject) ≡ true) (sends : namesSender (termsOf (f .kind) .subject) ≡ true) where
+  -- the order's mark changes, one report that is no ending is told, and no cover moves
+  mark-own : (s : Status) (r : Report) → r .order ≡ accepting.orderNumber w f t → isEnding (accepting.orderNumber w f t) r ≡ false → isCut r ≡ false
+      → isWaiting s ≡ false → isWaiting (accepting.theOrder w f t .status) ≡ false → endCode s ≡ endCode (accepting.theOrder w f t .status)
+      → isOrder (event t rs₀ (r ∷ [])) ≡ false
+      → ((p : ℕ) → goesOut file p (event t rs₀ (r ∷ [])) h ≡ 0) → ((p : ℕ) → comesIn file p (event t rs₀ (r ∷ [])) h ≡ 0)
+      → OwnStep file h (event t rs₀ (r ∷ [])) w (applied w (orderBecomes (finding w f t) s nobody nobody (One r))) (r ∷ [])
+  mark-own s r about isnt quiet w′ ended same no-order out in′ =
+      let o = accepting.theOrder w f t in
+      let j = accepting.orderNumber w f t in
+      let someone : 0 < w .roster .size = let b = sender-below k sends in omega arith in
+      about-own k (r ∷ []) (withStatus o s) (transferred nobody (transferred nobody (w .covers))) named no-order (about, tt)
+      (marked-order (asksAbout j (event t rs₀ (r ∷ [])) h) j o s r isnt w′ ended same)
+      (λ p l.
+      two-covers k (r ∷ []) (quiet, tt) nobody nobody someone someone tt tt refl refl refl refl p
+      (let z = for-none 0 p in let a = out p in omega arith) (let z = for-none 0 p in let a = in′ p in omega arith))
 
 module _ {file : List ℕ} {h : History} {w : Book} {t : List ℕ} {time n : ℕ} {rs₀ : List Report} where
   pub recall-own : Taken file h w t (record { kind = kind.Recall; time = time; amount = n }) rs₀
       → OwnStepOf file h w t (record { kind = kind.Recall; time = time; amount = n }) rs₀
   recall-own k =
+      let f : Fields = record { kind = kind.Recall; time = time; amount = n } in
+      let j = accepting.orderNumber w f t in
+      let o = accepting.theOrder w f t in
       let right = accepting.status-meets w f t (k .passed .r18) in
-      about-own k (r ∷ []) (withStatus o (status.Settled mark.Asked)) (transferred nobody (transferred nobody (w .covers))) refl (rw (kind-is k)) (refl, tt)
-      (marked-order _ j o (status.Settled mark.Asked) r (and-false (eqb j j)) refl (unmarked-not-waiting (o .status) right) (sym (unmarked-code (o .status) right)))
-      (λ p l. still k r refl refl p (rw (kind-is k)) (rw (kind-is k)))
-    where
-      f : Fields
-      f = record { kind = kind.Recall; time = time; amount = n }
-
-      j : ℕ
-      j = accepting.orderNumber w f t
-
-      o : Order
-      o = accepting.theOrder w f t
-
-      r : Report
-      r = toPayee (finding w f t) 5
+      mark-own k refl refl (status.Settled mark.Asked) (toPayee (finding w f t) 5) refl (and-false (eqb j j)) refl refl
+      (unmarked-not-waiting (o .status) right) (sym (unmarked-code (o .status) right)) (rw (kind-is k)) (λ p. rw (kind-is k)) (λ p. rw (kind-is k))
 
   pub decline-own : Taken file h w t (record { kind = kind.Decline; time = time; amount = n }) rs₀
       → OwnStepOf file h w t (record { kind = kind.Decline; time = time; amount = n }) rs₀
   decline-own k =
+      let f : Fields = record { kind = kind.Decline; time = time; amount = n } in
+      let j = accepting.orderNumber w f t in
+      let o = accepting.theOrder w f t in
       let right = accepting.status-meets w f t (k .passed .r18) in
-      about-own k (r ∷ []) (withStatus o (status.Settled mark.Declined)) (transferred nobody (transferred nobody (w .covers))) refl (rw (kind-is k)) (refl, tt)
-      (marked-order _ j o (status.Settled mark.Declined) r (and-false (eqb j j)) refl (asked-not-waiting (o .status) right) (sym (asked-code (o .status) right)))
-      (λ p l. still k r refl refl p (rw (kind-is k)) (rw (kind-is k)))
-    where
-      f : Fields
-      f = record { kind = kind.Decline; time = time; amount = n }
-
-      j : ℕ
-      j = accepting.orderNumber w f t
-
-      o : Order
-      o = accepting.theOrder w f t
-
-      r : Report
-      r = toPayer (finding w f t) 7
+      mark-own k refl refl (status.Settled mark.Declined) (toPayer (finding w f t) 7) refl (and-false (eqb j j)) refl refl
+      (asked-not-waiting (o .status) right) (sym (asked-code (o .status) right)) (rw (kind-is k)) (λ p. rw (kind-is k)) (λ p. rw (kind-is k))
 
   -- the payee's available falls, the payer's rises, as told by report 6
   pub return-own : Taken file h w t (record { kind = kind.Return; time = time; amount = n }) rs₀

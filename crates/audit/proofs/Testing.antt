@@ -1,5 +1,5 @@
 -- The claim as a test that the checker computes, clause by clause: it passes exactly where the claim holds. Assumes nothing.
-use mathlib.Core.Path.{_≡_, refl, sym, _∙_, ap}
+use mathlib.Core.Path.{_≡_, refl, sym}
 use mathlib.Core.Bool.{Bool, true, false, _&&_, _||_, not, cond, and-false}
 use mathlib.Core.List.{List, [], _∷_}
 use mathlib.Core.Logic.{_⊎_, ⊎-elim}
@@ -19,7 +19,7 @@ use Rattle.rules.specs.declared.Book.{Book}
 use Rattle.rules.proofs.Same.{below-or-not}
 use Rattle.audit.specs.History.{Event, History, Each, size}
 use Rattle.audit.specs.Sums.{outgoing, incoming}
-use Rattle.audit.specs.Orders.{orderCount, orderAmount, isNone, isFirst4, waits, waitingTotal, letsExpire, mustExpire, endingTickets, allEndings}
+use Rattle.audit.specs.Orders.{orderCount, orderAmount, waits, waitingTotal, letsExpire, mustExpire, endingTickets, allEndings}
 use Rattle.audit.specs.Claim.{AllCarry, codeOf, Claim}
 
 -- two truth values are the same

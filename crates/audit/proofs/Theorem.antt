@@ -1,28 +1,24 @@
 -- Demand 3, proved: history and book agree after every list of inputs, and the claim follows. Assumes nothing.
 use mathlib.Core.Path.{_≡_, refl, sym, subst, _∙_, ap}
-use mathlib.Core.Bool.{Bool, true, false, _&&_, not, cond, and-false}
+use mathlib.Core.Bool.{Bool, true, false, and-false}
 use mathlib.Core.List.{List, [], _∷_, _++_, append-nil}
-use mathlib.Core.Logic.{_⊎_, inl}
+use mathlib.Core.Logic.{inl}
 use Prim.Native.Nat.{ℕ, _≤_, _<_}
 use native.Mathlib.Nat.{not-suc-le-zero}
 use native.Mathlib.Omega.{arith}
 use borrow.Author.Tests.{le-leb, lt-leb, ne-eqb}
-use lib.Dec.{leb, eqb}
+use lib.Dec.{leb}
 use lib.ListN.{getD-replicate}
 use Rattle.fields.specs.Text.{unpadded}
-use Rattle.ticket.specs.Layout.{timeOf}
 use Rattle.ticket.specs.declared.Fields.{Fields}
 use Rattle.ticket.specs.declared.kinds.Kind.{Kind}
 use Rattle.ticket.specs.declared.kinds.Kind.the-variants as kind
 use Rattle.ticket.proofs.Telling.{Tells}
-use Rattle.report.specs.Layout.{reportsOf}
 use Rattle.report.specs.declared.Report.{Report}
 use Rattle.dayfile.specs.Limits.{mostParticipants}
-use Rattle.dayfile.specs.DayFile.{dayFile}
 use Rattle.dayfile.specs.declared.roster.Roster.{Roster}
-use Rattle.rules.specs.Book.{noCover, orderOf, coverOf, isBank, bookOf}
-use Rattle.rules.specs.Status.{isWaiting}
-use Rattle.rules.specs.Tick.{Step, due, atTime, tick}
+use Rattle.rules.specs.Book.{noCover, orderOf, isBank, bookOf}
+use Rattle.rules.specs.Tick.{Step, atTime, tick}
 use Rattle.rules.specs.Find.{finding}
 use Rattle.rules.specs.Decision.{decisionOf, applied, toldBy}
 use Rattle.rules.specs.Step.{untouched, ticked, accepted, handed, outcome}
@@ -32,15 +28,14 @@ use Rattle.rules.proofs.Refusing.{NoRefusal}
 use Rattle.rules.proofs.Sweeping as sweeping
 use Rattle.rules.proofs.Expiring.{dueIn, expiredIf, Expires, tick-expires, nothing-expires}
 use Rattle.rules.proofs.Courses.{handed-goes}
-use Rattle.rules.proofs.Stepping.{own-sound, handed-sound, file-sound}
+use Rattle.rules.proofs.Stepping.{own-sound, file-sound}
 use Rattle.rules.proofs.Reporting.{buffer-reads-back}
 use Rattle.audit.specs.History.{Event, History, size}
-use Rattle.audit.specs.Sums.{lastCut}
-use Rattle.audit.specs.Orders.{orderCount, orderTxid, setsClock, waits, isForBank, orderTime, mustExpire}
+use Rattle.audit.specs.Orders.{setsClock, isForBank, mustExpire}
 use Rattle.audit.specs.Run.{Input, eventsOf, run}
 use Rattle.audit.specs.Demand3.{Demand3}
-use Rattle.audit.proofs.Agreeing.{Agrees, CoverAgrees, waits-in-book, claim-follows}
-use Rattle.audit.proofs.Events.{OwnStep, agrees-after}
+use Rattle.audit.proofs.Agreeing.{Agrees, waits-in-book, claim-follows}
+use Rattle.audit.proofs.Events.{agrees-after}
 use Rattle.audit.proofs.Own.{Midway, Taken, OwnStepOf}
 use Rattle.audit.proofs.Covers.{nothing-own, cover-in-own, cover-out-own, confirm-own, tick-own}
 use Rattle.audit.proofs.Cuts.{cut-own}

@@ -3,7 +3,7 @@
 --     statementOf   the participant's lines, oldest first
 --     statement-adds    they are all that went out and all that came in
 --     position-explained    so what is there now is what the lines leave
-use mathlib.Core.Path.{_≡_, refl, _∙_, ap}
+use mathlib.Core.Path.{_≡_, refl, ap}
 use mathlib.Core.Bool.{Bool, true, false, _&&_, cond}
 use mathlib.Core.List.{List, [], _∷_, _++_}
 use Prim.Native.Nat.{ℕ, _+_, _<_}
@@ -26,7 +26,7 @@ use Rattle.rules.specs.Step.{stepOf, handed}
 use Rattle.audit.specs.History.{History, size}
 use Rattle.audit.specs.Sums.{goesOut, comesIn, outgoing, incoming}
 use Rattle.audit.specs.Run.{Input, eventsOf, run}
-use Rattle.audit.proofs.Rows.{Day, inputs, eventsOn}
+use Rattle.audit.proofs.Rows.{inputs, eventsOn}
 use Rattle.audit.proofs.Days.{busyDay}
 use Rattle.audit.proofs.Theorem.{demand3}
 

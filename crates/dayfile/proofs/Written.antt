@@ -1,6 +1,6 @@
 -- Rows that are written read back, and they are right by themselves. Assumes nothing.
 use mathlib.Core.Path.{_≡_, refl}
-use mathlib.Core.Bool.{Bool, true, _&&_, _||_}
+use mathlib.Core.Bool.{true, _||_}
 use mathlib.Core.List.{List, [], _∷_}
 use Prim.Native.Nat.{ℕ, _+_, _≤_, _<_}
 use native.Mathlib.Omega.{arith}
@@ -10,7 +10,6 @@ use lib.ListN.{length, getD}
 use Rattle.codes.specs.Bic.{isBic}
 use Rattle.codes.proofs.Whole.{bic-length}
 use Rattle.fields.specs.Number.{part, numberAt, bytesOf}
-use Rattle.fields.proofs.Tests.{and-left}
 use Rattle.fields.proofs.Holding.{Holds, held-first, held-behind, held-in, held-at, held-part, held-byte, held-number}
 use Rattle.dayfile.specs.Limits.{mostOpening}
 use Rattle.dayfile.specs.Rows.{participantOk, boundOf, routeOk}

@@ -1,6 +1,6 @@
 -- The fresh book is sound, and what happens to a book keeps it so: the clock, a move of cover, an order's status with the cover that
 -- moves with it, one order more. Assumes nothing.
-use mathlib.Core.Path.{_≡_, refl, sym, _∙_, ap}
+use mathlib.Core.Path.{_≡_, refl, _∙_, ap}
 use mathlib.Core.Bool.{true, false}
 use mathlib.Core.List.{List}
 use mathlib.Core.Logic.{inl}
@@ -18,14 +18,13 @@ use Rattle.rules.specs.Cover.{transferred, whole, totalOf, total, mostTo
 use Rattle.rules.specs.Tick.{atTime, freed}
 use Rattle.rules.specs.Decision.{by}
 use Rattle.rules.specs.Sound.{waitingAmount, waitingSum, CoversSound, Sound}
-use Rattle.rules.specs.declared.decision.Move.the-variants.{Give, Draw, Reserve, Release, Spend}
+use Rattle.rules.specs.declared.decision.Move.the-variants.{Give, Draw, Reserve, Spend}
 use Rattle.rules.specs.declared.decision.Transfer.{Transfer}
 use Rattle.rules.specs.declared.Status.{Status}
-use Rattle.rules.specs.declared.Status.the-variants.{Waiting}
 use Rattle.rules.specs.declared.Order.{Order}
 use Rattle.rules.specs.declared.Cover.{Cover}
 use Rattle.rules.specs.declared.Book.{Book}
-use Rattle.rules.proofs.Moving.{Enough, fitted, bound, unbound, gain, loss, onlyFor, for-none, transfer-keeps, transfer-total}
+use Rattle.rules.proofs.Moving.{Enough, fitted, bound, unbound, gain, onlyFor, for-none, transfer-keeps, transfer-total}
 use Rattle.rules.proofs.Orders.{NewOrder, orders-later, status-keeps, sum-ended, order-keeps, sum-new, sum-holds}
 
 -- a fresh book

@@ -1,5 +1,5 @@
 -- The reports of a step: each fits its 12 bytes, there are at most 544, and they read back from the buffer. Assumes nothing.
-use mathlib.Core.Path.{_≡_, refl, _∙_}
+use mathlib.Core.Path.{_≡_, refl}
 use mathlib.Core.Bool.{Bool, true, false, cond}
 use mathlib.Core.List.{List, [], _∷_, _++_}
 use Prim.Native.Nat.{ℕ, zero, suc, _+_, _-_, _^_, _≤_, _<_}
@@ -28,8 +28,7 @@ use Rattle.rules.specs.Decision.{toPayer, toPayee, settledTold, settledA
 use Rattle.rules.specs.Step.{handed, outcome}
 use Rattle.rules.specs.Sound.{Sound}
 use Rattle.rules.specs.declared.finding.Finding.{Finding}
-use Rattle.rules.specs.declared.decision.Told.{Told}
-use Rattle.rules.specs.declared.decision.Told.the-variants.{Nobody, One, Two}
+use Rattle.rules.specs.declared.decision.Told.the-variants.{One, Two}
 use Rattle.rules.specs.declared.Recall.{Recall}
 use Rattle.rules.specs.declared.Recall.the-variants as mark
 use Rattle.rules.specs.declared.Status.{Status}

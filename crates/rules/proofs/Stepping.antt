@@ -14,16 +14,15 @@ use Rattle.ticket.specs.declared.kinds.Kind.the-variants as kind
 use Rattle.ticket.proofs.Telling.{Tells, listed-txid}
 use Rattle.dayfile.specs.DayFile.{dayFile}
 use Rattle.dayfile.proofs.Accepted.{guaranteed}
-use Rattle.rules.specs.Book.{noOrder, orderOf, coverOf, withCovers, bookOf}
+use Rattle.rules.specs.Book.{noOrder, coverOf, withCovers, bookOf}
 use Rattle.rules.specs.Status.{isWaiting, isUnmarked, isAsked}
 use Rattle.rules.specs.Cover.{transferred, total, mostTotal}
 use Rattle.rules.specs.Tick.{Step, tick}
-use Rattle.rules.specs.Find.{orderIn, isOpen, anyOpen, finding}
+use Rattle.rules.specs.Find.{isOpen, anyOpen, finding}
 use Rattle.rules.specs.Cut.{cutTo}
 use Rattle.rules.specs.Decision.{by, nobody, orderKept, newOrder, confirmMove, decisionOf, applied}
 use Rattle.rules.specs.Step.{handed}
 use Rattle.rules.specs.Sound.{Sound}
-use Rattle.rules.specs.declared.decision.Move.{Move}
 use Rattle.rules.specs.declared.decision.Move.the-variants.{Give, Draw, Credit, Debit}
 use Rattle.rules.specs.declared.decision.Transfer.{Transfer}
 use Rattle.rules.specs.declared.decision.Told.{Told}

@@ -11,10 +11,6 @@ use Rattle.report.proofs.Laws.{field-by-field}
 use borrow.Author.Needs.{needs}
 use Rattle.report.proofs.put_report.Statement.{statement}
 use Rattle.report.proofs.put_report.Tie as tie
-use Rattle.report.proofs.put_report.Reads as reads
-use Rattle.report.proofs.put_report.Lts as lts
-use Rattle.fields.proofs.put_u16.Reads as put-u16-reads
-use Rattle.fields.proofs.put_u64.Reads as put-u64-reads
 
 pub put-report-spec : {M : Type 1} → statement M
 put-report-spec =
