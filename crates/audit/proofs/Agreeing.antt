@@ -1,6 +1,6 @@
 -- How a history and a book agree: what is carried along a list of tickets, and that the claim follows from it. Assumes nothing.
 use mathlib.Core.Path.{_≡_, refl, sym, subst, _∙_, ap}
-use mathlib.Core.Bool.{Bool, _&&_, cond}
+use mathlib.Core.Bool.{Bool, true, _&&_, cond}
 use mathlib.Core.List.{List, [], _∷_}
 use mathlib.Core.Logic.{_⊎_}
 use Prim.Native.Nat.{ℕ, _+_, _≤_, _<_}
@@ -23,7 +23,7 @@ use Rattle.rules.specs.declared.Cover.{Cover}
 use Rattle.rules.specs.declared.Book.{Book}
 use Rattle.audit.specs.History.{History, Each, size}
 use Rattle.audit.specs.Sums.{lastCut, outgoing, incoming}
-use Rattle.audit.specs.Orders.{orderCount, orderAmount, orderTime, orderTxid, isPaidBy, isForBank, isNone, waits, waitingPart, waitingTotal, letsExpire, mustExpire, endingTickets, allEndings}
+use Rattle.audit.specs.Orders.{orderCount, orderAmount, orderTime, orderTxid, isPaidBy, isForBank, isNone, waits, waitingPart, waitingTotal, letsExpire, mustExpire, endingTickets, allEndings, tellsParties}
 use Rattle.audit.specs.Claim.{AllCarry, codeOf, Claim}
 
 -- the code that tells how an order's wait ended
@@ -83,9 +83,10 @@ module _ (file : List ℕ) (h : History) (b : Book) (a : Agrees file h b) where
       ∙ sum-same (λ i. waitingAmount p (orderOf (b .orders) i)) (waitingPart file p h) (b .count) (part-in-book p k)
       ∙ ap (λ (n : ℕ). sumTo (waitingPart file p h) n) (a .count)
 
-  pub claim-follows : Claim file h b
-  claim-follows =
+  pub claim-follows : Each (λ e before. tellsParties file e ≡ true) h → Claim file h b
+  claim-follows told =
       record {
+        told = told;
         cover = λ p k. a .cover p k .adds;
         reserved = reserved-seen;
         held = a .count;

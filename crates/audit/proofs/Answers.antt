@@ -1,5 +1,5 @@
 -- The own steps of a yes and a no: the order stops waiting, and all are told the same. Assumes nothing.
-use mathlib.Core.Path.{_≡_, refl}
+use mathlib.Core.Path.{_≡_, refl, _∙_}
 use mathlib.Core.Bool.{Bool, true, false, cond, and-false}
 use mathlib.Core.List.{List, [], _∷_, _++_}
 use Prim.Native.Nat.{ℕ, _+_, _<_}
@@ -17,7 +17,7 @@ use Rattle.rules.specs.Cover.{transferred}
 use Rattle.rules.specs.Tell.{listed}
 use Rattle.rules.specs.Tick.{freed}
 use Rattle.rules.specs.Find.{finding}
-use Rattle.rules.specs.Decision.{by, nobody, toPayer, toPayee, decisionOf, applied}
+use Rattle.rules.specs.Decision.{by, nobody, toPayer, toPayee, decisionOf, applied, toldBy}
 use Rattle.rules.specs.declared.finding.Finding.{Finding}
 use Rattle.rules.specs.declared.decision.Move.the-variants.{Give, Spend}
 use Rattle.rules.specs.declared.decision.Told.the-variants.{One, Two}
@@ -53,7 +53,7 @@ module _ {file : List ℕ} {h : History} {w : Book} {t : List ℕ} {time n : ℕ
     abbrev o : Order
     o = accepting.theOrder w f t
 
-    yes-flag : flagByte t ≡ 1
+    pub yes-flag : flagByte t ≡ 1
     yes-flag = let b = tells-bytes t f (k .tells) in let l = b .low in let m = b .high in omega arith
 
     yes-waits : isWaiting (o .status) ≡ true
@@ -96,6 +96,14 @@ module _ {file : List ℕ} {h : History} {w : Book} {t : List ℕ} {time n : ℕ
           about-own k rs (withStatus o (status.Settled mark.None)) (transferred (by (o .payee) Give (o .amount)) (transferred (by (o .payer) Spend (o .amount)) (w .covers)))
           refl (rw (kind-is k)) (refl, about) yes-order yes-cover
 
+    -- the first report 2 goes to the payer, whether or not the payee is told
+    pub yes-told : firstWith 2 (rs₀ ++ toldBy w (decisionOf x)) ≡ toPayer x 2 ∷ []
+    yes-told = first-after 2 rs₀ (toldBy w (decisionOf x)) (k .code) refl ∙ go (x .bank)
+      where
+        go : (z : Bool) → firstWith 2 (listed (cond z (Two (toPayer x 2) (toPayee x 2)) (One (toPayer x 2)))) ≡ toPayer x 2 ∷ []
+        go true = refl
+        go false = refl
+
     -- the payee is told too if it is a bank
     pub yes-own : OwnStepOf file h w t (record { kind = kind.Yes; time = time; amount = n }) rs₀
     yes-own = go (x .bank)
@@ -118,7 +126,7 @@ module _ {file : List ℕ} {h : History} {w : Book} {t : List ℕ} {time n : ℕ
     abbrev q : Order
     q = accepting.theOrder w g t
 
-    no-flag : flagByte t ≡ 2
+    pub no-flag : flagByte t ≡ 2
     no-flag = let b = tells-bytes t g (k .tells) in let l = b .low in let m = b .high in omega arith
 
     no-waits : isWaiting (q .status) ≡ true

@@ -1,24 +1,20 @@
 -- Cover that settles or is returned stays with the participants: what an event takes from one it brings to another. Assumes nothing.
 use mathlib.Core.Path.{_≡_, refl, sym, subst, _∙_}
-use mathlib.Core.Bool.{Bool, true, false, cond}
-use mathlib.Core.List.{List, [], _∷_, _++_}
+use mathlib.Core.Bool.{true, false}
+use mathlib.Core.List.{List, [], _++_}
 use Prim.Native.Nat.{ℕ, _<_}
 use native.Mathlib.Omega.{arith}
 use Rattle.fields.specs.UpTo.{sumTo}
 use Rattle.fields.proofs.UpTo.{sum-same, sum-zero, sum-change}
-use Rattle.ticket.specs.Layout.{flagByte}
 use Rattle.ticket.specs.declared.Fields.{Fields}
 use Rattle.ticket.specs.declared.kinds.Kind.{Kind}
 use Rattle.ticket.specs.declared.kinds.Kind.the-variants as kind
-use Rattle.ticket.proofs.Telling.{tells-bytes}
 use Rattle.report.specs.declared.Report.{Report}
 use Rattle.dayfile.specs.declared.roster.Roster.{Roster}
-use Rattle.rules.specs.Tell.{listed}
 use Rattle.rules.specs.Find.{finding}
 use Rattle.rules.specs.Terms.{termsOf, namesOrder}
-use Rattle.rules.specs.Decision.{toPayer, toPayee, decisionOf, toldBy}
+use Rattle.rules.specs.Decision.{decisionOf, toldBy}
 use Rattle.rules.specs.declared.finding.Finding.{Finding}
-use Rattle.rules.specs.declared.decision.Told.the-variants.{One, Two}
 use Rattle.rules.specs.declared.Order.{Order}
 use Rattle.rules.specs.declared.Book.{Book}
 use Rattle.rules.proofs.Moving.{onlyFor, for-who, for-others}
@@ -28,6 +24,7 @@ use Rattle.audit.specs.Sums.{firstWith, settledTo, settledFrom, returnBy
 use Rattle.audit.proofs.Telling.{first-after}
 use Rattle.audit.proofs.Own.{Taken, event, kind-is, amount-is, sent, sender-known}
 use Rattle.audit.proofs.About.{order-held}
+use Rattle.audit.proofs.Answers.{yes-flag, yes-told, no-flag}
 
 pub record Balanced (file : List ℕ) (e : Event) : Type 0 where
   pub settled : sumTo (λ p. settledFrom p e) (size file) ≡ sumTo (λ p. settledTo file p e) (size file)
@@ -53,7 +50,7 @@ unmoved file e no-yes no-return =
 
 module _ {file : List ℕ} {h : History} {w : Book} {t : List ℕ} {f : Fields} {rs₀ : List Report} (k : Taken file h w t f rs₀) (named : namesOrder (termsOf (f .kind) .subject) ≡ true) where
   -- the parties of the order that a ticket is about
-  payer-known : accepting.theOrder w f t .payer < size file
+  pub payer-known : accepting.theOrder w f t .payer < size file
   payer-known =
       subst (λ (r : Roster). accepting.theOrder w f t .payer < r .size) (k .midway .roster)
       (k .midway .sound .orders .payer (accepting.orderNumber w f t) (order-held k [] named))
@@ -68,15 +65,13 @@ module _ {file : List ℕ} {h : History} {w : Book} {t : List ℕ} {time n : ℕ
   yes-balanced : Taken file h w t (record { kind = kind.Yes; time = time; amount = n }) rs₀
       → Balanced file (event t rs₀ (toldBy w (decisionOf (finding w (record { kind = kind.Yes; time = time; amount = n }) t))))
   yes-balanced k =
-      let flag : flagByte t ≡ 1 = let b = tells-bytes t f (k .tells) in let l = b .low in let m = b .high in omega arith in
-      let first : firstWith 2 (rs₀ ++ rs) ≡ toPayer x 2 ∷ [] = first-after 2 rs₀ rs (k .code) refl ∙ one (x .bank) in
       let party : accepting.senderNumber w f t ≡ o .payee = accepting.right-party w f t (k .passed .r17) refl in
       record {
         settled =
-            sum-same (λ p. settledFrom p (event t rs₀ rs)) (λ p. onlyFor (o .payer) p (o .amount)) (size file) (λ p l. rw (kind-is k, flag, first))
+            sum-same (λ p. settledFrom p (event t rs₀ rs)) (λ p. onlyFor (o .payer) p (o .amount)) (size file) (λ p l. rw (kind-is k, yes-flag k, yes-told k))
             ∙ only-sum (o .payer) (o .amount) (size file) (payer-known k refl)
             ∙ sym
-            (sum-same (λ p. settledTo file p (event t rs₀ rs)) (λ p. onlyFor (o .payee) p (o .amount)) (size file) (λ p l. rw (kind-is k, flag, first, sent k refl p l, party))
+            (sum-same (λ p. settledTo file p (event t rs₀ rs)) (λ p. onlyFor (o .payee) p (o .amount)) (size file) (λ p l. rw (kind-is k, yes-flag k, yes-told k, sent k refl p l, party))
             ∙ only-sum (o .payee) (o .amount) (size file) (payee-known k refl));
         returned =
             sum-zero (λ p. returnBy file p (event t rs₀ rs)) (size file) (λ p l. rw (kind-is k))
@@ -94,10 +89,6 @@ module _ {file : List ℕ} {h : History} {w : Book} {t : List ℕ} {time n : ℕ
 
       rs : List Report
       rs = toldBy w (decisionOf x)
-
-      one : (z : Bool) → firstWith 2 (listed (cond z (Two (toPayer x 2) (toPayee x 2)) (One (toPayer x 2)))) ≡ toPayer x 2 ∷ []
-      one true = refl
-      one false = refl
 
   -- a return: from the payee to the payer
   return-balanced : Taken file h w t (record { kind = kind.Return; time = time; amount = n }) rs₀
@@ -128,8 +119,7 @@ module _ {file : List ℕ} {h : History} {w : Book} {t : List ℕ} {time n : ℕ
   no-balanced : Taken file h w t (record { kind = kind.No; time = time; amount = n }) rs₀
       → Balanced file (event t rs₀ (toldBy w (decisionOf (finding w (record { kind = kind.No; time = time; amount = n }) t))))
   no-balanced k =
-      let flag : flagByte t ≡ 2 = let b = tells-bytes t (record { kind = kind.No; time = time; amount = n }) (k .tells) in let l = b .low in let m = b .high in omega arith in
-      unmoved file (event t rs₀ (toldBy w (decisionOf (finding w (record { kind = kind.No; time = time; amount = n }) t)))) (rw (kind-is k, flag)) (rw (kind-is k))
+      unmoved file (event t rs₀ (toldBy w (decisionOf (finding w (record { kind = kind.No; time = time; amount = n }) t)))) (rw (kind-is k, no-flag k)) (rw (kind-is k))
 
   pub own-balanced : (j : Kind) → Taken file h w t (record { kind = j; time = time; amount = n }) rs₀
       → Balanced file (event t rs₀ (toldBy w (decisionOf (finding w (record { kind = j; time = time; amount = n }) t))))

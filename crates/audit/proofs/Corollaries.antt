@@ -4,7 +4,7 @@
 --     ended-once            no more than one ticket ends an order's wait
 --     ended-as-told         an order that waits no longer has the status that all were told
 --     beginnings            what was seen of a list begins with what was seen of each of its beginnings
-use mathlib.Core.Path.{_≡_, refl, sym, subst, _∙_}
+use mathlib.Core.Path.{_≡_, refl, _∙_}
 use mathlib.Core.Bool.{Bool, true, false, cond}
 use mathlib.Core.List.{List, [], _∷_, _++_}
 use Prim.Native.Nat.{ℕ, _+_, _≤_, _<_}
@@ -18,10 +18,9 @@ use Rattle.rules.specs.Book.{orderOf, coverOf}
 use Rattle.rules.specs.Status.{isWaiting}
 use Rattle.rules.specs.Cover.{whole}
 use Rattle.rules.specs.Tick.{Step}
-use Rattle.rules.specs.Step.{handed, outcome}
+use Rattle.rules.specs.Step.{handed}
 use Rattle.rules.specs.declared.Book.{Book}
 use Rattle.rules.proofs.Courses.{handed-goes}
-use Rattle.rules.proofs.Reporting.{buffer-reads-back}
 use Rattle.audit.specs.History.{History, Each, sumOver, size}
 use Rattle.audit.specs.Sums.{coverIn, coverOut, debit, credit, settledTo, settledFrom, returnBy, returnTo, outgoing, incoming}
 use Rattle.audit.specs.Orders.{orderCount, isNone, waits, endingTickets, allEndings}
@@ -29,7 +28,8 @@ use Rattle.audit.specs.Claim.{AllCarry, codeOf}
 use Rattle.audit.specs.Run.{Input, eventsOf, run}
 use Rattle.audit.proofs.Agreeing.{endCode, Agrees}
 use Rattle.audit.proofs.Balance.{Balanced, unmoved, own-balanced}
-use Rattle.audit.proofs.Theorem.{the-ticket, run-agrees, demand3}
+use Rattle.audit.proofs.Running.{the-ticket, run-agrees, run-each}
+use Rattle.audit.proofs.Theorem.{demand3}
 
 -- each event of a run is balanced
 step-balanced : (file : List ℕ) (h : History) (b : Book) → Agrees file h b → (t buffer : List ℕ)
@@ -42,15 +42,7 @@ step-balanced file h b a t buffer =
     buffer
 
 run-balanced : (file : List ℕ) (inputs : List Input) → Each (λ e before. Balanced file e) (eventsOf (run file inputs .seen))
-run-balanced file [] = tt
-run-balanced file (x ∷ before) =
-    let a = run-agrees file before in
-    let b = run file before .book in (
-      subst (λ (rs : List Report). Balanced file (record { ticket = x .ticket; refusal = outcome b (x .ticket) (x .buffer) .refusal; reports = rs }))
-          (sym (buffer-reads-back b (a .sound) (x .ticket) (x .buffer)))
-          (step-balanced file (eventsOf (run file before .seen)) b a (x .ticket) (x .buffer)),
-      run-balanced file before,
-    )
+run-balanced file inputs = run-each file (Balanced file) (step-balanced file) inputs
 
 -- what comes from outside and goes outside, and what stays among the participants
 abbrev pub fromOutside : List ℕ → ℕ → History → ℕ

@@ -16,7 +16,9 @@ pub mod Answers
 pub mod Recalls
 pub mod Inquiries
 pub mod Opening
-pub mod Theorem
+pub mod Running
 pub mod Balance
+pub mod Parties
+pub mod Theorem
 pub mod Corollaries
 pub mod Worked

@@ -46,8 +46,8 @@ module _ {file : List ℕ} {h : History} {w : Book} {t : List ℕ} {time n : ℕ
   last : orderOf (set (w .orders) (w .count) o) (w .count) ≡ o
   last = getD-set-same (w .orders) (w .count) o noOrder (rw (k .midway .sound .orders .long) (accepting.room-left w f t (k .passed .r15) refl))
 
-  payee-known : o .payee < size file
-  payee-known = subst (λ (r : Roster). o .payee < r .size) (k .midway .roster) (accepting.payee-known w f t (k .midway .sound .roster) (k .passed .r14) refl)
+  pub order-payee : o .payee < size file
+  order-payee = subst (λ (r : Roster). o .payee < r .size) (k .midway .roster) (accepting.payee-known w f t (k .midway .sound .roster) (k .passed .r14) refl)
 
   opened : Opened file (event t rs₀ rs) o
   opened =
@@ -57,7 +57,7 @@ module _ {file : List ℕ} {h : History} {w : Book} {t : List ℕ} {time n : ℕ
         txid = refl;
         bank =
             ap (toBank file) (first-after 1 rs₀ rs (k .code) refl)
-            ∙ ap (λ (x : Bool). x && isBank (dayFile file .roster) (o .payee)) (lt-ltb (o .payee) (size file) payee-known);
+            ∙ ap (λ (x : Bool). x && isBank (dayFile file .roster) (o .payee)) (lt-ltb (o .payee) (size file) order-payee);
         payer = λ p l. sent k refl p l;
         waiting = refl;
       }

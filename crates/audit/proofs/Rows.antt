@@ -121,7 +121,7 @@ withCommas (s ∷ (t ∷ rest)) = s ++ text ", " ++ withCommas (t ∷ rest)
 
 -- the clauses' names, in the claim's order
 abbrev pub clauseNames : List String
-clauseNames = "cover" ∷ "reserved" ∷ "held" ∷ "waiting" ∷ "expiry" ∷ "known" ∷ "once" ∷ "alike" ∷ []
+clauseNames = "told" ∷ "cover" ∷ "reserved" ∷ "held" ∷ "waiting" ∷ "expiry" ∷ "known" ∷ "once" ∷ "alike" ∷ []
 
 abbrev pub clausesOf : Written → List Bool
 clausesOf w = clauses (w .file) (historyOf w) (w .book)

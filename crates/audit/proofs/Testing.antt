@@ -19,7 +19,7 @@ use Rattle.rules.specs.declared.Book.{Book}
 use Rattle.rules.proofs.Same.{below-or-not}
 use Rattle.audit.specs.History.{Event, History, Each, size}
 use Rattle.audit.specs.Sums.{outgoing, incoming}
-use Rattle.audit.specs.Orders.{orderCount, orderAmount, waits, waitingTotal, letsExpire, mustExpire, endingTickets, allEndings}
+use Rattle.audit.specs.Orders.{orderCount, orderAmount, waits, waitingTotal, letsExpire, mustExpire, endingTickets, allEndings, tellsParties}
 use Rattle.audit.specs.Claim.{AllCarry, codeOf, Claim}
 
 -- two truth values are the same
@@ -179,7 +179,8 @@ true-carry code amount (r ∷ rs) c =
 -- the clauses in the claim's order
 abbrev pub clauses : List ℕ → History → Book → List Bool
 clauses file h b =
-    allTo (coverAt file h b) (size file)
+    eachOf (λ e before. tellsParties file e) h
+    ∷ allTo (coverAt file h b) (size file)
     ∷ allTo (reservedAt file h b) (size file)
     ∷ eqb (b .count) (orderCount h)
     ∷ allTo (waitingAt file h b) (orderCount h)
@@ -212,10 +213,12 @@ module _ (file : List ℕ) (h : History) (b : Book) where
   pub claim-holds : allPass (clauses file h b) ≡ true → Claim file h b
   unfolding Known
   claim-holds t =
-      let c = passing (clauses file h b) t in
+      let all = passing (clauses file h b) t in
+      let c = all .1 in
       let expiry = c .1 .1 .1 .1 .0 in
       let known = each-true knownIn (λ e before. Known (orderCount before) (e .reports)) (λ e before. below-known (orderCount before) (e .reports)) h (c .1 .1 .1 .1 .1 .0) in
       record {
+        told = each-true (λ e before. tellsParties file e) (λ e before. tellsParties file e ≡ true) (λ e before q. q) h (all .0);
         cover = λ p l. eqb-true _ _ (all-at (coverAt file h b) (size file) p (c .0) l);
         reserved = λ p l. eqb-true _ _ (all-at (reservedAt file h b) (size file) p (c .1 .0) l);
         held = eqb-true _ _ (c .1 .1 .0);
@@ -235,21 +238,24 @@ module _ (file : List ℕ) (h : History) (b : Book) where
   unfolding Known
   clauses-pass c =
       all-passing (clauses file h b) (
-        all-of (coverAt file h b) (size file) (λ p l. eq-eqb _ _ (c .cover p l)),
+        true-each (λ e before. tellsParties file e) (λ e before. tellsParties file e ≡ true) (λ e before q. q) h (c .told),
         (
-          all-of (reservedAt file h b) (size file) (λ p l. eq-eqb _ _ (c .reserved p l)),
+          all-of (coverAt file h b) (size file) (λ p l. eq-eqb _ _ (c .cover p l)),
           (
-            eq-eqb _ _ (c .held),
+            all-of (reservedAt file h b) (size file) (λ p l. eq-eqb _ _ (c .reserved p l)),
             (
-              all-of (waitingAt file h b) (orderCount h) (λ i l. true-agree _ _ (c .waiting i l)),
+              eq-eqb _ _ (c .held),
               (
-                true-each (expiryIn file (orderCount h)) (λ e before. (i : ℕ) → letsExpire i e before ≡ mustExpire file i e before)
-                    (λ e before t. all-of (expiryAt file e before) (orderCount before + orderCount h) (λ i l. true-agree _ _ (t i))) h (c .expiry),
+                all-of (waitingAt file h b) (orderCount h) (λ i l. true-agree _ _ (c .waiting i l)),
                 (
-                  true-each knownIn (λ e before. Known (orderCount before) (e .reports)) (λ e before. known-below (orderCount before) (e .reports)) h (c .known),
+                  true-each (expiryIn file (orderCount h)) (λ e before. (i : ℕ) → letsExpire i e before ≡ mustExpire file i e before)
+                      (λ e before t. all-of (expiryAt file e before) (orderCount before + orderCount h) (λ i l. true-agree _ _ (t i))) h (c .expiry),
                   (
-                    all-of (onceAt h) (orderCount h) (λ i l. eq-eqb _ _ (c .once i l)),
-                    (all-of (alikeAt h) (orderCount h) (λ i l. true-carry (codeOf (allEndings i h)) (orderAmount i h) (allEndings i h) (c .alike i l)), tt),
+                    true-each knownIn (λ e before. Known (orderCount before) (e .reports)) (λ e before. known-below (orderCount before) (e .reports)) h (c .known),
+                    (
+                      all-of (onceAt h) (orderCount h) (λ i l. eq-eqb _ _ (c .once i l)),
+                      (all-of (alikeAt h) (orderCount h) (λ i l. true-carry (codeOf (allEndings i h)) (orderAmount i h) (allEndings i h) (c .alike i l)), tt),
+                    ),
                   ),
                 ),
               ),

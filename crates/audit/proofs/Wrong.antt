@@ -2,9 +2,9 @@
 use mathlib.Core.Path.{refl}
 use mathlib.Core.List.{List, [], _∷_}
 use Rattle.codes.specs.Bic.{isBic}
-use Rattle.ticket.specs.Writing.{coverOutTicket, orderTicket, yesTicket, inquiryTicket, cutTicket, confirmTicket, tickTicket}
+use Rattle.ticket.specs.Writing.{coverOutTicket, orderTicket, yesTicket, inquiryTicket, recallTicket, returnTicket, cutTicket, confirmTicket, tickTicket}
 use Rattle.dayfile.specs.DayFile.{dayFile}
-use Rattle.rules.specs.declared.Status.the-variants.{Waiting, Refused, Expired, Settled}
+use Rattle.rules.specs.declared.Status.the-variants.{Waiting, Refused, Expired, Returned, Settled}
 use Rattle.rules.specs.declared.Recall.the-variants.{None}
 use Rattle.rules.proofs.Names.{bicA, bicB, tx1, tx2, ibanD}
 use Rattle.audit.proofs.Rows.{Written, AllFalse, AllTrue, all-false, all-true, event, report, cover}
@@ -14,7 +14,7 @@ abbrev pub ofCover : List Written
 ofCover =
     row "cover moved and not told" banks
     (lodged ∷ ordered ∷ event (yesTicket 24 bicB tx1) 0 [] ∷ [])
-    moved (Settled None ∷ []) "cover, reserved, waiting"
+    moved (Settled None ∷ []) "told, cover, reserved, waiting"
     ∷ row "told and not moved" banks (lodged ∷ ordered ∷ settledAt 24 ∷ []) atFirst (Settled None ∷ []) "cover, reserved"
     ∷ row "a confirm counted as a debit after a report 11" opening
     (lodged ∷ event (cutTicket 1) 0 (report 0 11 65535 900 ∷ []) ∷ event (confirmTicket 2 bicA 900) 0 [] ∷ [])
@@ -23,6 +23,33 @@ ofCover =
     (lodged ∷ event (coverOutTicket 1 bicA 1001) 0 [] ∷ [])
     (cover 0 0 0 ∷ cover 0 0 0 ∷ []) [] "cover"
     ∷ row "reserved one cent off" banks (lodged ∷ ordered ∷ []) (cover 601 399 0 ∷ cover 0 0 0 ∷ []) (Waiting ∷ []) "reserved"
+    ∷ []
+
+-- the reports that sums and orders go by are not there
+abbrev pub ofParties : List Written
+ofParties =
+    row "a return that tells nobody: the cover is gone" banks
+    (lodged
+    ∷ ordered
+    ∷ settledAt 7
+    ∷ event (recallTicket 8 bicA 1 tx1) 0 (report 1 5 0 400 ∷ [])
+    ∷ event (returnTicket 9 bicB 400 tx1) 0 []
+    ∷ [])
+    (cover 600 0 0 ∷ cover 0 0 0 ∷ []) (Returned ∷ []) "told"
+    ∷ row "a return told to one who is no participant" banks
+    (lodged
+    ∷ ordered
+    ∷ settledAt 7
+    ∷ event (recallTicket 8 bicA 1 tx1) 0 (report 1 5 0 400 ∷ [])
+    ∷ event (returnTicket 9 bicB 400 tx1) 0 (report 2 6 0 400 ∷ [])
+    ∷ [])
+    (cover 600 0 0 ∷ cover 0 0 0 ∷ []) (Returned ∷ []) "told"
+    ∷ row "an order that tells nobody, and never expires" banks
+    (lodged ∷ event (orderTicket 5 bicA bicB 400 tx1 ibanD) 0 [] ∷ quiet 4294967295 ∷ [])
+    atFirst (Waiting ∷ []) "told"
+    ∷ row "a yes that tells nobody and does nothing" banks
+    (lodged ∷ ordered ∷ event (yesTicket 24 bicB tx1) 0 [] ∷ [])
+    atFirst (Waiting ∷ []) "told"
     ∷ []
 
 abbrev pub ofOrders : List Written
@@ -88,6 +115,10 @@ ofEndings =
     (lodged ∷ ordered ∷ event (yesTicket 24 bicB tx1) 0 (report 0 2 0 401 ∷ report 1 2 0 401 ∷ []) ∷ [])
     moved (Settled None ∷ []) "cover, alike"
     ∷ []
+
+pub parties-false : AllFalse ofParties
+unfolding isBic dayFile
+parties-false = all-false ofParties refl
 
 pub cover-false : AllFalse ofCover
 unfolding isBic dayFile

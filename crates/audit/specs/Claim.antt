@@ -6,7 +6,7 @@
 -- Assumes nothing.
 use Prim.Native.Nat.{ℕ, _+_, _≤_, _<_}
 use mathlib.Core.Path.{_≡_}
-use mathlib.Core.Bool.{cond}
+use mathlib.Core.Bool.{true, cond}
 use mathlib.Core.List.{List, [], _∷_}
 use Rattle.report.specs.Ending.{endingsIn}
 use Rattle.report.specs.declared.Report.{Report}
@@ -16,7 +16,7 @@ use Rattle.rules.specs.Cover.{whole}
 use Rattle.rules.specs.declared.Book.{Book}
 use Rattle.audit.specs.History.{History, Each, size}
 use Rattle.audit.specs.Sums.{outgoing, incoming}
-use Rattle.audit.specs.Orders.{orderCount, orderAmount, waits, waitingTotal, letsExpire, mustExpire, endingTickets, allEndings}
+use Rattle.audit.specs.Orders.{orderCount, orderAmount, waits, waitingTotal, letsExpire, mustExpire, endingTickets, allEndings, tellsParties}
 
 -- each report carries the code and the amount
 abbrev pub AllCarry : ℕ → ℕ → List Report → Type 0
@@ -29,6 +29,8 @@ codeOf [] = 0
 codeOf (r ∷ rs) = r .code
 
 pub record Claim (file : List ℕ) (h : History) (b : Book) : Type 0 where
+  -- the reports that the sums and the orders go by are there: 1 of an order, 2 of a yes, 6 of a return, each to a participant
+  pub told : Each (λ e before. tellsParties file e ≡ true) h
   -- each participant's cover adds up line by line from what was seen: available, reserved and held
   pub cover : (p : ℕ) → p < size file → whole (coverOf (b .covers) p) + outgoing file p h ≡ incoming file p h
   -- reserved is the sum of its waiting orders' amounts

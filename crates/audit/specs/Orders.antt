@@ -8,9 +8,10 @@
 --     letsExpire       the ticket lets order i expire
 --     mustExpire       when it does
 --     endingTickets    how many tickets have endings of order i that are no repeats
+--     tellsParties     an order, a yes and a return tell a participant
 -- Assumes nothing.
 use Prim.Native.Nat.{ℕ, _+_, _-_}
-use mathlib.Core.Bool.{Bool, true, false, _&&_, not, cond}
+use mathlib.Core.Bool.{Bool, true, false, _&&_, _||_, not, cond}
 use mathlib.Core.List.{List, [], _∷_, _++_}
 use lib.Dec.{leb, ltb, eqb}
 use lib.ListN.{length}
@@ -19,7 +20,7 @@ use Rattle.fields.specs.UpTo.{sumTo}
 use Rattle.ticket.specs.Layout.{timeOf, amountOf, txidOf}
 use Rattle.report.specs.Ending.{endingsIn}
 use Rattle.report.specs.declared.Report.{Report}
-use Rattle.audit.specs.History.{Event, History, sumOver, isKind, isSentBy, isBankOf}
+use Rattle.audit.specs.History.{Event, History, sumOver, isKind, isYes, size, isSentBy, isBankOf}
 use Rattle.audit.specs.Sums.{firstWith}
 
 -- an order is an accepted ticket of kind 3
@@ -108,3 +109,16 @@ ownEndings i e before = length (endingsIn i (e .reports)) - cond (asksAbout i e 
 
 abbrev pub endingTickets : ℕ → History → ℕ
 endingTickets i h = sumOver (λ e before. cond (eqb (ownEndings i e before) 0) 0 1) h
+
+-- the first report with a code is there, and goes to a participant
+abbrev pub toParticipant : List ℕ → List Report → Bool
+toParticipant file [] = false
+toParticipant file (r ∷ rs) = ltb (r .to) (size file)
+
+abbrev pub reaches : List ℕ → ℕ → Event → Bool
+reaches file code e = toParticipant file (firstWith code (e .reports))
+
+-- an order has its report 1, an accepted yes its first report 2, an accepted return its report 6
+abbrev pub tellsParties : List ℕ → Event → Bool
+tellsParties file e =
+    (not (isOrder e) || reaches file 1 e) && (not (isYes e) || reaches file 2 e) && (not (isKind 6 e) || reaches file 6 e)

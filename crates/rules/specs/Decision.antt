@@ -105,7 +105,7 @@ orderOpened x o =
 abbrev pub settledTold : Finding → Told
 settledTold x = cond (x .bank) (Two (toPayer x 2) (toPayee x 2)) (One (toPayer x 2))
 
--- Return: report 6 to payer, with the returned amount
+-- Return: report 6 to payer, with the amount that the ticket states: by 19 the order's
 abbrev pub returnTold : Finding → Told
 returnTold x = One (record { to = x .about .payer; code = 6; order = numberOf (x .order); amount = x .amount })
 

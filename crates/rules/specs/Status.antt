@@ -1,7 +1,7 @@
 -- An order's status and recall mark.
 --     isWaiting      Waiting
---     isUnmarked     Settled with mark none
---     isAsked        Settled, asked
+--     isUnmarked     Settled with mark none; isNone: of the mark
+--     isAsked        Settled, asked; wasAsked: of the mark
 --     withStatus     the order with another status
 -- Assumes nothing.
 use mathlib.Core.Bool.{Bool, true, false}

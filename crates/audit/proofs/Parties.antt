@@ -1,0 +1,63 @@
+-- An accepted order, yes and return tells a participant: the reports that sums and orders go by are there. Assumes nothing.
+use mathlib.Core.Path.{_≡_, refl}
+use mathlib.Core.Bool.{true}
+use mathlib.Core.List.{List, [], _∷_}
+use Prim.Native.Nat.{ℕ}
+use native.Mathlib.Omega.{arith}
+use borrow.Author.Tests.{lt-ltb, ne-eqb}
+use Rattle.ticket.specs.declared.kinds.Kind.{Kind}
+use Rattle.ticket.specs.declared.kinds.Kind.the-variants as kind
+use Rattle.report.specs.declared.Report.{Report}
+use Rattle.rules.specs.Tick.{Step}
+use Rattle.rules.specs.Tell.{tellOrder}
+use Rattle.rules.specs.Find.{finding}
+use Rattle.rules.specs.Decision.{newOrder, decisionOf, toldBy}
+use Rattle.rules.specs.Step.{handed}
+use Rattle.rules.specs.declared.Book.{Book}
+use Rattle.rules.proofs.Accepting as accepting
+use Rattle.rules.proofs.Courses.{handed-goes}
+use Rattle.audit.specs.History.{History, Each, size}
+use Rattle.audit.specs.Orders.{tellsParties}
+use Rattle.audit.specs.Run.{Input, eventsOf, run}
+use Rattle.audit.proofs.Agreeing.{Agrees}
+use Rattle.audit.proofs.Telling.{first-after}
+use Rattle.audit.proofs.Own.{Taken, event, kind-is}
+use Rattle.audit.proofs.Opening.{order-payee}
+use Rattle.audit.proofs.Answers.{yes-flag, yes-told, no-flag}
+use Rattle.audit.proofs.Balance.{payer-known}
+use Rattle.audit.proofs.Running.{the-ticket, run-each}
+
+module _ {file : List ℕ} {h : History} {w : Book} {t : List ℕ} {time n : ℕ} {rs₀ : List Report} where
+  own-parties : (j : Kind) → Taken file h w t (record { kind = j; time = time; amount = n }) rs₀
+      → tellsParties file (event t rs₀ (toldBy w (decisionOf (finding w (record { kind = j; time = time; amount = n }) t)))) ≡ true
+  own-parties kind.CoverIn k = rw (kind-is k)
+  own-parties kind.CoverOut k = rw (kind-is k)
+  own-parties kind.Order k =
+      let o = newOrder (finding w (record { kind = kind.Order; time = time; amount = n }) t) in
+      rw (kind-is k, first-after 1 rs₀ (tellOrder (o .payee) 1 (w .count) o ∷ []) (k .code) refl, lt-ltb (o .payee) (size file) (order-payee k))
+  own-parties kind.Yes k =
+      let o = accepting.theOrder w (record { kind = kind.Yes; time = time; amount = n }) t in
+      rw (kind-is k, yes-flag k, yes-told k, lt-ltb (o .payer) (size file) (payer-known k refl))
+  own-parties kind.No k = rw (kind-is k, no-flag k)
+  own-parties kind.Recall k = rw (kind-is k)
+  own-parties kind.Return k =
+      let o = accepting.theOrder w (record { kind = kind.Return; time = time; amount = n }) t in
+      let rs = toldBy w (decisionOf (finding w (record { kind = kind.Return; time = time; amount = n }) t)) in
+      rw (kind-is k, first-after 6 rs₀ rs (k .code) refl, lt-ltb (o .payer) (size file) (payer-known k refl))
+  own-parties kind.Decline k = rw (kind-is k)
+  own-parties kind.Inquiry k = rw (kind-is k)
+  own-parties kind.Cut k = rw (kind-is k)
+  own-parties kind.Confirm k = rw (kind-is k)
+  own-parties kind.Tick k = rw (kind-is k)
+
+step-parties : (file : List ℕ) (h : History) (b : Book) → Agrees file h b → (t buffer : List ℕ)
+    → tellsParties file (record { ticket = t; refusal = handed b t buffer .refusal; reports = handed b t buffer .reports }) ≡ true
+step-parties file h b a t buffer =
+    handed-goes b t (λ (s : Step). tellsParties file (record { ticket = t; refusal = s .refusal; reports = s .reports }) ≡ true)
+    (λ n low high. rw (ne-eqb n 0 (λ e. omega arith)))
+    (λ f tells l n low high. rw (ne-eqb n 0 (λ e. omega arith)))
+    (λ f tells l passed. own-parties (f .kind) (the-ticket file h b a t f tells l passed))
+    buffer
+
+pub run-parties : (file : List ℕ) (inputs : List Input) → Each (λ e before. tellsParties file e ≡ true) (eventsOf (run file inputs .seen))
+run-parties file inputs = run-each file (λ e. tellsParties file e ≡ true) (step-parties file) inputs
