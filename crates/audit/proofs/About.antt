@@ -29,7 +29,7 @@ use Rattle.audit.specs.Orders.{isOrder, asksAbout}
 use Rattle.audit.proofs.Fates.{SameOrder}
 use Rattle.audit.proofs.Events.{OwnOrder, OwnCover, Growth, OwnStep}
 use Rattle.audit.proofs.Telling.{NoCuts}
-use Rattle.audit.proofs.Own.{Taken, event, order-left, cover-goes, uncut}
+use Rattle.audit.proofs.Own.{Taken, takenEvent, order-left, cover-goes, uncut}
 
 -- all reports are about order j
 abbrev pub AllAbout : ℕ → List Report → Type 0
@@ -49,11 +49,11 @@ module _ {file : List ℕ} {h : History} {w : Book} {t : List ℕ} {f : Fields} 
   pub order-held : namesOrder (termsOf (f .kind) .subject) ≡ true → accepting.orderNumber w f t < w .count
   order-held named = accepting.order-found w f t (k .passed .r16) named .below
 
-  pub about-own : (o′ : Order) (cs : List Cover) → namesOrder (termsOf (f .kind) .subject) ≡ true → isOrder (event t rs₀ rs) ≡ false
+  pub about-own : (o′ : Order) (cs : List Cover) → namesOrder (termsOf (f .kind) .subject) ≡ true → isOrder (takenEvent t rs₀ rs) ≡ false
       → AllAbout (accepting.orderNumber w f t) rs
-      → OwnOrder (asksAbout (accepting.orderNumber w f t) (event t rs₀ rs) h) (accepting.orderNumber w f t) (accepting.theOrder w f t) o′ rs
-      → ((p : ℕ) → p < size file → OwnCover file h (event t rs₀ rs) p (coverOf (w .covers) p) (coverOf cs p))
-      → OwnStep file h (event t rs₀ rs) w
+      → OwnOrder (asksAbout (accepting.orderNumber w f t) (takenEvent t rs₀ rs) h) (accepting.orderNumber w f t) (accepting.theOrder w f t) o′ rs
+      → ((p : ℕ) → p < size file → OwnCover file h (takenEvent t rs₀ rs) p (coverOf (w .covers) p) (coverOf cs p))
+      → OwnStep file h (takenEvent t rs₀ rs) w
       (record { clock = w .clock; covers = cs; orders = set (w .orders) (accepting.orderNumber w f t) o′; count = w .count; roster = w .roster }) rs
   about-own o′ cs named isnt about this covers =
       record {
@@ -64,7 +64,7 @@ module _ {file : List ℕ} {h : History} {w : Book} {t : List ℕ} {f : Fields} 
             ⊎-elim
             (λ (e : i ≡ j). rw (e, here) this)
             (λ (differs : i ≡ j → ⊥).
-            order-left (asksAbout i (event t rs₀ rs) h) i (orderOf (w .orders) i) (orderOf (set (w .orders) j o′) i) rs
+            order-left (asksAbout i (takenEvent t rs₀ rs) h) i (orderOf (w .orders) i) (orderOf (set (w .orders) j o′) i) rs
             (getD-set-other (w .orders) j i o′ noOrder differs) (others-quiet i j rs about differs))
             (same-or-not i j);
         none = λ i l. others-quiet i j rs about (λ e. let b = order-held named in omega arith);
@@ -87,11 +87,11 @@ module _ {file : List ℕ} {h : History} {w : Book} {t : List ℕ} {f : Fields} 
       → moved (u .how) (u .amount) (coverOf (transferred v (w .covers)) (u .who)) .held ≡ coverOf (transferred v (w .covers)) (u .who) .held
       → moved (u .how) (u .amount) (coverOf (transferred v (w .covers)) (u .who)) .debit ≡ coverOf (transferred v (w .covers)) (u .who) .debit
       → (p : ℕ)
-      → goesOut file p (event t rs₀ rs) h ≡ onlyFor (v .who) p (loss (v .how) (v .amount) (coverOf (w .covers) (v .who))) + onlyFor (u .who) p (loss (u .how) (u .amount) (coverOf (transferred v (w .covers)) (u .who)))
-      → comesIn file p (event t rs₀ rs) h ≡ onlyFor (v .who) p (gain (v .how) (v .amount)) + onlyFor (u .who) p (gain (u .how) (u .amount))
-      → OwnCover file h (event t rs₀ rs) p (coverOf (w .covers) p) (coverOf (transferred u (transferred v (w .covers))) p)
+      → goesOut file p (takenEvent t rs₀ rs) h ≡ onlyFor (v .who) p (loss (v .how) (v .amount) (coverOf (w .covers) (v .who))) + onlyFor (u .who) p (loss (u .how) (u .amount) (coverOf (transferred v (w .covers)) (u .who)))
+      → comesIn file p (takenEvent t rs₀ rs) h ≡ onlyFor (v .who) p (gain (v .how) (v .amount)) + onlyFor (u .who) p (gain (u .how) (u .amount))
+      → OwnCover file h (takenEvent t rs₀ rs) p (coverOf (w .covers) p) (coverOf (transferred u (transferred v (w .covers))) p)
   two-covers quiet v u hv hu ev eu heldv debitv heldu debitu p out in′ =
-      cover-goes file h (event t rs₀ rs) p (coverOf (w .covers) p) (coverOf (transferred u (transferred v (w .covers))) p)
+      cover-goes file h (takenEvent t rs₀ rs) p (coverOf (w .covers) p) (coverOf (transferred u (transferred v (w .covers))) p)
       (let a = transfer-whole fit v hv ev p in let b = transfer-whole (transfer-fitted fit v) u hu eu p in omega arith)
       (uncut k rs quiet p)
       (inr (transfer-leaves (transfer-fitted fit v) u hu (λ (c : Cover). c .held) heldu p ∙ transfer-leaves fit v hv (λ (c : Cover). c .held) heldv p))

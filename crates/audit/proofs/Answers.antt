@@ -35,7 +35,7 @@ use Rattle.audit.specs.Claim.{AllCarry}
 use Rattle.audit.proofs.Fates.{Fate}
 use Rattle.audit.proofs.Events.{OwnOrder, OwnCover, OwnStep}
 use Rattle.audit.proofs.Telling.{NoCuts, first-after}
-use Rattle.audit.proofs.Own.{Taken, event, OwnStepOf, kind-is, sent, sender-below}
+use Rattle.audit.proofs.Own.{Taken, takenEvent, OwnStepOf, kind-is, sent, sender-below}
 use Rattle.audit.proofs.About.{AllAbout, status-same, order-held, about-own, two-covers}
 
 module _ {file : List ℕ} {h : History} {w : Book} {t : List ℕ} {time n : ℕ} {rs₀ : List Report} where
@@ -69,7 +69,7 @@ module _ {file : List ℕ} {h : History} {w : Book} {t : List ℕ} {time n : ℕ
       all-ends : endingsIn j rs ≡ rs
       all-ends = simp (eq-eqb j j refl, ends)
 
-      yes-order : OwnOrder (asksAbout j (event t rs₀ rs) h) j o (withStatus o (status.Settled mark.None)) rs
+      yes-order : OwnOrder (asksAbout j (takenEvent t rs₀ rs) h) j o (withStatus o (status.Settled mark.None)) rs
       yes-order =
           record {
             fate = Fate.ended yes-waits refl (toPayer x 2) more all-ends (refl, refl, carry) (rw (kind-is k) (omega arith));
@@ -81,7 +81,7 @@ module _ {file : List ℕ} {h : History} {w : Book} {t : List ℕ} {time n : ℕ
       first-told = first-after 2 rs₀ rs (k .code) refl
 
       yes-cover : (p : ℕ) → p < size file
-          → OwnCover file h (event t rs₀ rs) p (coverOf (w .covers) p)
+          → OwnCover file h (takenEvent t rs₀ rs) p (coverOf (w .covers) p)
           (coverOf (transferred (by (o .payee) Give (o .amount)) (transferred (by (o .payer) Spend (o .amount)) (w .covers))) p)
       yes-cover p l =
           let s = k .midway .sound in
@@ -91,7 +91,7 @@ module _ {file : List ℕ} {h : History} {w : Book} {t : List ℕ} {time n : ℕ
           (rw (kind-is k, yes-flag, first-told) (let z = for-none (o .payee) p in omega arith))
           (rw (kind-is k, yes-flag, first-told, sent k refl p l, yes-party) (let z = for-none (o .payer) p in omega arith))
 
-      yes-with : OwnStep file h (event t rs₀ rs) w (applied w (decisionOf x)) rs
+      yes-with : OwnStep file h (takenEvent t rs₀ rs) w (applied w (decisionOf x)) rs
       yes-with =
           about-own k rs (withStatus o (status.Settled mark.None)) (transferred (by (o .payee) Give (o .amount)) (transferred (by (o .payer) Spend (o .amount)) (w .covers)))
           refl (rw (kind-is k)) (refl, about) yes-order yes-cover
@@ -108,7 +108,7 @@ module _ {file : List ℕ} {h : History} {w : Book} {t : List ℕ} {time n : ℕ
     pub yes-own : OwnStepOf file h w t (record { kind = kind.Yes; time = time; amount = n }) rs₀
     yes-own = go (x .bank)
       where
-        go : (z : Bool) → let rs = listed (cond z (Two (toPayer x 2) (toPayee x 2)) (One (toPayer x 2))) in OwnStep file h (event t rs₀ rs) w (applied w (decisionOf x)) rs
+        go : (z : Bool) → let rs = listed (cond z (Two (toPayer x 2) (toPayee x 2)) (One (toPayer x 2))) in OwnStep file h (takenEvent t rs₀ rs) w (applied w (decisionOf x)) rs
         go true = yes-with (toPayee x 2 ∷ []) (refl, tt) (refl, refl, tt) (refl, tt) (simp (eq-eqb j j refl))
         go false = yes-with [] tt tt tt refl
 

@@ -22,7 +22,7 @@ use Rattle.rules.proofs.Accepting as accepting
 use Rattle.audit.specs.History.{Event, History, size, isKind, isYes}
 use Rattle.audit.specs.Sums.{firstWith, settledTo, settledFrom, returnBy, returnTo}
 use Rattle.audit.proofs.Telling.{first-after}
-use Rattle.audit.proofs.Own.{Taken, event, kind-is, amount-is, sent, sender-known}
+use Rattle.audit.proofs.Own.{Taken, takenEvent, kind-is, amount-is, sent, sender-known}
 use Rattle.audit.proofs.About.{order-held}
 use Rattle.audit.proofs.Answers.{yes-flag, yes-told, no-flag}
 
@@ -63,19 +63,19 @@ module _ {file : List ℕ} {h : History} {w : Book} {t : List ℕ} {f : Fields} 
 module _ {file : List ℕ} {h : History} {w : Book} {t : List ℕ} {time n : ℕ} {rs₀ : List Report} where
   -- a yes: from the payer to the payee
   yes-balanced : Taken file h w t (record { kind = kind.Yes; time = time; amount = n }) rs₀
-      → Balanced file (event t rs₀ (toldBy w (decisionOf (finding w (record { kind = kind.Yes; time = time; amount = n }) t))))
+      → Balanced file (takenEvent t rs₀ (toldBy w (decisionOf (finding w (record { kind = kind.Yes; time = time; amount = n }) t))))
   yes-balanced k =
       let party : accepting.senderNumber w f t ≡ o .payee = accepting.right-party w f t (k .passed .r17) refl in
       record {
         settled =
-            sum-same (λ p. settledFrom p (event t rs₀ rs)) (λ p. onlyFor (o .payer) p (o .amount)) (size file) (λ p l. rw (kind-is k, yes-flag k, yes-told k))
+            sum-same (λ p. settledFrom p (takenEvent t rs₀ rs)) (λ p. onlyFor (o .payer) p (o .amount)) (size file) (λ p l. rw (kind-is k, yes-flag k, yes-told k))
             ∙ only-sum (o .payer) (o .amount) (size file) (payer-known k refl)
             ∙ sym
-            (sum-same (λ p. settledTo file p (event t rs₀ rs)) (λ p. onlyFor (o .payee) p (o .amount)) (size file) (λ p l. rw (kind-is k, yes-flag k, yes-told k, sent k refl p l, party))
+            (sum-same (λ p. settledTo file p (takenEvent t rs₀ rs)) (λ p. onlyFor (o .payee) p (o .amount)) (size file) (λ p l. rw (kind-is k, yes-flag k, yes-told k, sent k refl p l, party))
             ∙ only-sum (o .payee) (o .amount) (size file) (payee-known k refl));
         returned =
-            sum-zero (λ p. returnBy file p (event t rs₀ rs)) (size file) (λ p l. rw (kind-is k))
-            ∙ sym (sum-zero (λ p. returnTo p (event t rs₀ rs)) (size file) (λ p l. rw (kind-is k)));
+            sum-zero (λ p. returnBy file p (takenEvent t rs₀ rs)) (size file) (λ p l. rw (kind-is k))
+            ∙ sym (sum-zero (λ p. returnTo p (takenEvent t rs₀ rs)) (size file) (λ p l. rw (kind-is k)));
       }
     where
       f : Fields
@@ -92,18 +92,18 @@ module _ {file : List ℕ} {h : History} {w : Book} {t : List ℕ} {time n : ℕ
 
   -- a return: from the payee to the payer
   return-balanced : Taken file h w t (record { kind = kind.Return; time = time; amount = n }) rs₀
-      → Balanced file (event t rs₀ (toldBy w (decisionOf (finding w (record { kind = kind.Return; time = time; amount = n }) t))))
+      → Balanced file (takenEvent t rs₀ (toldBy w (decisionOf (finding w (record { kind = kind.Return; time = time; amount = n }) t))))
   return-balanced k =
       let first : firstWith 6 (rs₀ ++ rs) ≡ rs = first-after 6 rs₀ rs (k .code) refl in
       record {
         settled =
-            sum-zero (λ p. settledFrom p (event t rs₀ rs)) (size file) (λ p l. rw (kind-is k))
-            ∙ sym (sum-zero (λ p. settledTo file p (event t rs₀ rs)) (size file) (λ p l. rw (kind-is k)));
+            sum-zero (λ p. settledFrom p (takenEvent t rs₀ rs)) (size file) (λ p l. rw (kind-is k))
+            ∙ sym (sum-zero (λ p. settledTo file p (takenEvent t rs₀ rs)) (size file) (λ p l. rw (kind-is k)));
         returned =
-            sum-same (λ p. returnBy file p (event t rs₀ rs)) (λ p. onlyFor (accepting.senderNumber w f t) p n) (size file) (λ p l. rw (kind-is k, sent k refl p l, amount-is k))
+            sum-same (λ p. returnBy file p (takenEvent t rs₀ rs)) (λ p. onlyFor (accepting.senderNumber w f t) p n) (size file) (λ p l. rw (kind-is k, sent k refl p l, amount-is k))
             ∙ only-sum (accepting.senderNumber w f t) n (size file) (sender-known k refl)
             ∙ sym
-            (sum-same (λ p. returnTo p (event t rs₀ rs)) (λ p. onlyFor (o .payer) p n) (size file) (λ p l. rw (kind-is k, first, amount-is k))
+            (sum-same (λ p. returnTo p (takenEvent t rs₀ rs)) (λ p. onlyFor (o .payer) p n) (size file) (λ p l. rw (kind-is k, first, amount-is k))
             ∙ only-sum (o .payer) n (size file) (payer-known k refl));
       }
     where
@@ -117,12 +117,12 @@ module _ {file : List ℕ} {h : History} {w : Book} {t : List ℕ} {time n : ℕ
       rs = toldBy w (decisionOf (finding w f t))
 
   no-balanced : Taken file h w t (record { kind = kind.No; time = time; amount = n }) rs₀
-      → Balanced file (event t rs₀ (toldBy w (decisionOf (finding w (record { kind = kind.No; time = time; amount = n }) t))))
+      → Balanced file (takenEvent t rs₀ (toldBy w (decisionOf (finding w (record { kind = kind.No; time = time; amount = n }) t))))
   no-balanced k =
-      unmoved file (event t rs₀ (toldBy w (decisionOf (finding w (record { kind = kind.No; time = time; amount = n }) t)))) (rw (kind-is k, no-flag k)) (rw (kind-is k))
+      unmoved file (takenEvent t rs₀ (toldBy w (decisionOf (finding w (record { kind = kind.No; time = time; amount = n }) t)))) (rw (kind-is k, no-flag k)) (rw (kind-is k))
 
   pub own-balanced : (j : Kind) → Taken file h w t (record { kind = j; time = time; amount = n }) rs₀
-      → Balanced file (event t rs₀ (toldBy w (decisionOf (finding w (record { kind = j; time = time; amount = n }) t))))
+      → Balanced file (takenEvent t rs₀ (toldBy w (decisionOf (finding w (record { kind = j; time = time; amount = n }) t))))
   own-balanced kind.CoverIn k = unmoved file _ (rw (kind-is k)) (rw (kind-is k))
   own-balanced kind.CoverOut k = unmoved file _ (rw (kind-is k)) (rw (kind-is k))
   own-balanced kind.Order k = unmoved file _ (rw (kind-is k)) (rw (kind-is k))

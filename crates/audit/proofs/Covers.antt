@@ -28,7 +28,7 @@ use Rattle.audit.specs.Sums.{lastCut, goesOut, comesIn}
 use Rattle.audit.specs.Orders.{asksAbout}
 use Rattle.audit.proofs.Events.{Growth, OwnStep}
 use Rattle.audit.proofs.Telling.{cut-after}
-use Rattle.audit.proofs.Own.{order-left, cover-goes, Taken, event, OwnStepOf, kind-is, amount-is, sent, sender-below, sender-known, steady, orders-kept, uncut, moved-own}
+use Rattle.audit.proofs.Own.{order-left, cover-goes, Taken, takenEvent, OwnStepOf, kind-is, amount-is, sent, sender-below, sender-known, steady, orders-kept, uncut, moved-own}
 
 -- a refused ticket does nothing of its own
 pub nothing-own : (file : List ℕ) (h : History) (w : Book) (t : List ℕ) (n : ℕ) (rs₀ : List Report) → AllCode 4 rs₀ → eqb n 0 ≡ false
@@ -83,12 +83,12 @@ module _ {file : List ℕ} {h : History} {w : Book} {t : List ℕ} {time n : ℕ
       c = coverOf (w .covers) who
 
       -- what is told of the last cut decides which of the two it is
-      comes : (x : Bool) → eqb (lastCut who h) 10 ≡ x → (p : ℕ) → p < size file → comesIn file p (event t rs₀ []) h ≡ onlyFor who p (cond x n 0)
+      comes : (x : Bool) → eqb (lastCut who h) 10 ≡ x → (p : ℕ) → p < size file → comesIn file p (takenEvent t rs₀ []) h ≡ onlyFor who p (cond x n 0)
       comes x e p l =
           rw (kind-is k, sent k refl p l, amount-is k)
           (let o = only-if who p n (λ q. eqb (lastCut q h) 10) in let same : onlyFor who p (cond (eqb (lastCut who h) 10) n 0) ≡ onlyFor who p (cond x n 0) = rw e in omega arith)
 
-      goes : (x : Bool) → eqb (lastCut who h) 11 ≡ x → (p : ℕ) → p < size file → goesOut file p (event t rs₀ []) h ≡ onlyFor who p (cond x n 0)
+      goes : (x : Bool) → eqb (lastCut who h) 11 ≡ x → (p : ℕ) → p < size file → goesOut file p (takenEvent t rs₀ []) h ≡ onlyFor who p (cond x n 0)
       goes x e p l =
           rw (kind-is k, sent k refl p l, amount-is k)
           (let o = only-if who p n (λ q. eqb (lastCut q h) 11) in let same : onlyFor who p (cond (eqb (lastCut who h) 11) n 0) ≡ onlyFor who p (cond x n 0) = rw e in omega arith)
@@ -99,7 +99,7 @@ module _ {file : List ℕ} {h : History} {w : Book} {t : List ℕ} {time n : ℕ
       told held code e (inr was) = was
 
       go : (z : Bool) → eqb (c .held) 0 ≡ z → confirms c n ≡ true
-          → OwnStep file h (event t rs₀ []) w (applied w (orderKept (finding w (record { kind = kind.Confirm; time = time; amount = n }) t) (by who (cond z Debit Credit) n) false Told.Nobody)) []
+          → OwnStep file h (takenEvent t rs₀ []) w (applied w (orderKept (finding w (record { kind = kind.Confirm; time = time; amount = n }) t) (by who (cond z Debit Credit) n) false Told.Nobody)) []
       go true e right =
           let both : (not (eqb (c .debit) 0) && leb n (c .debit)) ≡ true = rw e at right in
           let was = told (c .debit) 10 (not-true _ (and-left (not (eqb (c .debit) 0)) (leb n (c .debit)) both)) (k .midway .debit who (sender-known k refl)) in
@@ -117,4 +117,4 @@ module _ {file : List ℕ} {h : History} {w : Book} {t : List ℕ} {time n : ℕ
       (rw (kind-is k)) (λ i. refl)
       (λ p l.
       rw (nobody-moves (transferred nobody (w .covers)), nobody-moves (w .covers))
-      (cover-goes file h (event t rs₀ []) p (coverOf (w .covers) p) (coverOf (w .covers) p) (rw (kind-is k)) (uncut k [] tt p) (inr refl) (inr refl)))
+      (cover-goes file h (takenEvent t rs₀ []) p (coverOf (w .covers) p) (coverOf (w .covers) p) (rw (kind-is k)) (uncut k [] tt p) (inr refl) (inr refl)))

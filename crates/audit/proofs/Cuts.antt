@@ -33,7 +33,7 @@ use Rattle.audit.specs.History.{History, size}
 use Rattle.audit.specs.Sums.{lastCutIn, lastCut}
 use Rattle.audit.proofs.Events.{OwnCover}
 use Rattle.audit.proofs.Telling.{cuts-append, fours-no-cuts, no-cuts}
-use Rattle.audit.proofs.Own.{Taken, event, OwnStepOf, kind-is, steady, orders-kept}
+use Rattle.audit.proofs.Own.{Taken, takenEvent, OwnStepOf, kind-is, steady, orders-kept}
 
 -- what a participant is told is no ending
 one-no-ending : (i p : ℕ) (o : Opening) (c : Cover) → endingsIn i (cutReport p o c) ≡ []
@@ -91,9 +91,9 @@ record Marked (p told : ℕ) (c : Cover) (rs : List Report) : Type 0 where
   held : (c .held ≡ 0) ⊎ (lastCutIn p told rs ≡ 11)
   debit : (c .debit ≡ 0) ⊎ (lastCutIn p told rs ≡ 10)
 
-marked : (p told : ℕ) (o : Opening) (c : Cover) → Closed c → Marked p told (cutCover o c) (cutReport p o c)
-marked p told opening.None c z = record { held = inl (z .held); debit = inl (z .debit) }
-marked p told (opening.Cover n) c z = go (ltb n (c .available)) (ltb (c .available) n)
+marks-told : (p told : ℕ) (o : Opening) (c : Cover) → Closed c → Marked p told (cutCover o c) (cutReport p o c)
+marks-told p told opening.None c z = record { held = inl (z .held); debit = inl (z .debit) }
+marks-told p told (opening.Cover n) c z = go (ltb n (c .available)) (ltb (c .available) n)
   where
     go : (x y : Bool)
         → Marked p told (cond x (withHeld (c .available - n) c) (cond y (withDebit (n - c .available) c) c))
@@ -107,13 +107,13 @@ module _ {file : List ℕ} {h : History} {w : Book} {t : List ℕ} {time n : ℕ
   abbrev rs : List Report
   rs = cutReportsTo (w .roster) (w .covers) (w .roster .size)
 
-  cut-cover : (p : ℕ) → p < w .roster .size → OwnCover file h (event t rs₀ rs) p (coverOf (w .covers) p) (coverOf (cutTo (w .roster) (w .covers) (w .roster .size)) p)
+  cut-cover : (p : ℕ) → p < w .roster .size → OwnCover file h (takenEvent t rs₀ rs) p (coverOf (w .covers) p) (coverOf (cutTo (w .roster) (w .covers) (w .roster .size)) p)
   cut-cover p l =
       let o = participantOf (w .roster) p .opening in
       let c = coverOf (w .covers) p in
       let z = all-closed w (k .passed .r21) p l in
-      let m = marked p (lastCut p h) o c z in
-      let told : lastCut p (event t rs₀ rs ∷ h) ≡ lastCutIn p (lastCut p h) (cutReport p o c) =
+      let m = marks-told p (lastCut p h) o c z in
+      let told : lastCut p (takenEvent t rs₀ rs ∷ h) ≡ lastCutIn p (lastCut p h) (cutReport p o c) =
       cuts-append p (lastCut p h) rs₀ rs
       ∙ ap (λ (x : ℕ). lastCutIn p x rs) (no-cuts p (lastCut p h) rs₀ (fours-no-cuts rs₀ (k .code)))
       ∙ all-told (w .roster) (w .covers) p (lastCut p h) (w .roster .size) l in

@@ -11,18 +11,18 @@ use Rattle.rules.specs.declared.Status.the-variants.{Waiting, Refused, Expired,
 use Rattle.rules.specs.declared.Recall.the-variants.{None}
 use Rattle.rules.proofs.Names.{bicA, bicB, tx1, ibanD}
 use Rattle.audit.proofs.Rows.{Written, AllFalse, AllTrue, all-false, all-true, event, report, cover}
-use Rattle.audit.proofs.Pieces.{banks, toLinked, opening, row, lodged, ordered, orderedLinked, orderedMore, settledAt, quiet, expiredAt, moved, freed}
+use Rattle.audit.proofs.Pieces.{banks, toLinked, opening, row, lodged, ordered, orderedLinked, orderedMore, settledAt, quiet, expiredAt, settledCovers, freedCovers}
 
 -- 01 'A reviewer will try'
 abbrev pub reviewers : List Written
 reviewers =
-    row "2: accepts and moves no cover" banks (lodged ∷ ordered ∷ settledAt 24 ∷ []) freed (Settled None ∷ []) "cover"
+    row "2: accepts and moves no cover" banks (lodged ∷ ordered ∷ settledAt 24 ∷ []) freedCovers (Settled None ∷ []) "cover"
     ∷ row "2: sends report 2 always, at a time-out too" banks
     (lodged ∷ ordered ∷ event (tickTicket 25) 0 (report 0 2 0 400 ∷ report 1 2 0 400 ∷ []) ∷ [])
-    freed (Expired ∷ []) "expiry"
+    freedCovers (Expired ∷ []) "expiry"
     ∷ row "3: expires everything at the first tick and reports later" banks
     (lodged ∷ ordered ∷ quiet 6 ∷ [])
-    freed (Expired ∷ []) "reserved, waiting"
+    freedCovers (Expired ∷ []) "reserved, waiting"
     ∷ []
 
 -- 01 'Mistakes a clerk would make'
@@ -30,14 +30,14 @@ abbrev pub mistakes : List Written
 mistakes =
     row "expiring at more than 20 seconds: a yes at 20 settles" banks
     (lodged ∷ ordered ∷ settledAt 25 ∷ [])
-    moved (Settled None ∷ []) "expiry"
+    settledCovers (Settled None ∷ []) "expiry"
     ∷ row "adding 20 to a time near the top of 32 bits: the sum wraps, and after 15 seconds the order expires" banks
     (lodged
     ∷ event (orderTicket 4294967280 bicA bicB 400 tx1 ibanD) 0 (report 1 1 0 400 ∷ [])
     ∷ expiredAt 4294967295
     ∷ [])
-    freed (Expired ∷ []) "expiry"
-    ∷ row "timing out an order for a linked system" toLinked (lodged ∷ orderedLinked ∷ expiredAt 25 ∷ []) freed (Expired ∷ []) "expiry"
+    freedCovers (Expired ∷ []) "expiry"
+    ∷ row "timing out an order for a linked system" toLinked (lodged ∷ orderedLinked ∷ expiredAt 25 ∷ []) freedCovers (Expired ∷ []) "expiry"
     ∷ row "letting a refusal 18 stop the clock: the second order's time-out at 26 is not seen" banks
     (lodged ∷ ordered ∷ orderedMore ∷ settledAt 7 ∷ event (yesTicket 26 bicB tx1) 18 [] ∷ [])
     (cover 100 500 0 ∷ cover 400 0 0 ∷ []) (Settled None ∷ Waiting ∷ []) "expiry"
@@ -71,10 +71,10 @@ unseen =
     (cover 0 0 0 ∷ cover 0 0 0 ∷ []) [] ""
     ∷ row "2: report 2 is sent for a no" banks
     (lodged ∷ ordered ∷ event (noTicket 6 bicB tx1) 0 (report 0 2 0 400 ∷ []) ∷ [])
-    freed (Refused ∷ []) ""
+    freedCovers (Refused ∷ []) ""
     ∷ row "telling the payee of its own no" banks
     (lodged ∷ ordered ∷ event (noTicket 6 bicB tx1) 0 (report 0 3 0 400 ∷ report 1 3 0 400 ∷ []) ∷ [])
-    freed (Refused ∷ []) ""
+    freedCovers (Refused ∷ []) ""
     ∷ []
 
 pub unseen-true : AllTrue unseen

@@ -26,7 +26,7 @@ use Rattle.audit.specs.History.{History, size}
 use Rattle.audit.specs.Orders.{toBank, asksAbout}
 use Rattle.audit.proofs.Events.{Opened, Growth}
 use Rattle.audit.proofs.Telling.{first-after}
-use Rattle.audit.proofs.Own.{Taken, event, OwnStepOf, order-left, kind-is, amount-is, sent, sender-below}
+use Rattle.audit.proofs.Own.{Taken, takenEvent, OwnStepOf, order-left, kind-is, amount-is, sent, sender-below}
 use Rattle.audit.proofs.About.{two-covers}
 
 module _ {file : List ℕ} {h : History} {w : Book} {t : List ℕ} {time n : ℕ} {rs₀ : List Report} (k : Taken file h w t (record { kind = kind.Order; time = time; amount = n }) rs₀) where
@@ -49,7 +49,7 @@ module _ {file : List ℕ} {h : History} {w : Book} {t : List ℕ} {time n : ℕ
   pub order-payee : o .payee < size file
   order-payee = subst (λ (r : Roster). o .payee < r .size) (k .midway .roster) (accepting.payee-known w f t (k .midway .sound .roster) (k .passed .r14) refl)
 
-  opened : Opened file (event t rs₀ rs) o
+  opened : Opened file (takenEvent t rs₀ rs) o
   opened =
       record {
         amount = amount-is k;
@@ -70,7 +70,7 @@ module _ {file : List ℕ} {h : History} {w : Book} {t : List ℕ} {time n : ℕ
         growth = Growth.gains (rw (kind-is k)) refl (rw last opened);
         order =
             λ i l.
-            order-left (asksAbout i (event t rs₀ rs) h) i (orderOf (w .orders) i) (orderOf (set (w .orders) (w .count) o) i) rs
+            order-left (asksAbout i (takenEvent t rs₀ rs) h) i (orderOf (w .orders) i) (orderOf (set (w .orders) (w .count) o) i) rs
             (getD-set-other (w .orders) (w .count) i o noOrder (λ e. omega arith)) (no-ending i);
         none = λ i l. no-ending i;
         cover =

@@ -91,14 +91,14 @@ pub record Taken (file : List ℕ) (h : History) (w : Book) (t : List ℕ) (f : 
   pub code : AllCode 4 rs₀
 
 -- its event, with its own reports
-abbrev pub event : List ℕ → List Report → List Report → Event
-event t rs₀ rs = record { ticket = t; refusal = 0; reports = rs₀ ++ rs }
+abbrev pub takenEvent : List ℕ → List Report → List Report → Event
+takenEvent t rs₀ rs = record { ticket = t; refusal = 0; reports = rs₀ ++ rs }
 
 -- its own step
 abbrev pub OwnStepOf : List ℕ → History → Book → List ℕ → Fields → List Report → Type 0
 OwnStepOf file h w t f rs₀ =
     let d = decisionOf (finding w f t) in
-    OwnStep file h (event t rs₀ (toldBy w d)) w (applied w d) (toldBy w d)
+    OwnStep file h (takenEvent t rs₀ (toldBy w d)) w (applied w d) (toldBy w d)
 
 module _ {file : List ℕ} {h : History} {w : Book} {t : List ℕ} {f : Fields} {rs₀ : List Report} (k : Taken file h w t f rs₀) where
   pub kind-is : kindByte t ≡ kindNumber (f .kind)
@@ -123,13 +123,13 @@ module _ {file : List ℕ} {h : History} {w : Book} {t : List ℕ} {f : Fields} 
 
   -- a step that leaves every order as it is, and tells no ending
   pub steady : (b′ : Book) (rs : List Report) → b′ .roster ≡ w .roster → b′ .count ≡ w .count → ((i : ℕ) → orderOf (b′ .orders) i ≡ orderOf (w .orders) i)
-      → isOrder (event t rs₀ rs) ≡ false → ((i : ℕ) → endingsIn i rs ≡ [])
-      → ((p : ℕ) → p < size file → OwnCover file h (event t rs₀ rs) p (coverOf (w .covers) p) (coverOf (b′ .covers) p)) → OwnStep file h (event t rs₀ rs) w b′ rs
+      → isOrder (takenEvent t rs₀ rs) ≡ false → ((i : ℕ) → endingsIn i rs ≡ [])
+      → ((p : ℕ) → p < size file → OwnCover file h (takenEvent t rs₀ rs) p (coverOf (w .covers) p) (coverOf (b′ .covers) p)) → OwnStep file h (takenEvent t rs₀ rs) w b′ rs
   steady b′ rs roster count orders isnt quiet covers =
       record {
         roster = roster;
         growth = Growth.keeps isnt count;
-        order = λ i l. order-left (asksAbout i (event t rs₀ rs) h) i (orderOf (w .orders) i) (orderOf (b′ .orders) i) rs (orders i) (quiet i);
+        order = λ i l. order-left (asksAbout i (takenEvent t rs₀ rs) h) i (orderOf (w .orders) i) (orderOf (b′ .orders) i) rs (orders i) (quiet i);
         none = λ i l. quiet i;
         cover = covers;
       }
@@ -139,21 +139,21 @@ module _ {file : List ℕ} {h : History} {w : Book} {t : List ℕ} {f : Fields} 
   orders-kept i = ap (λ (os : List Order). orderOf os i) (set-getD (w .orders) (accepting.orderNumber w f t) noOrder)
 
   -- no cut is told
-  pub uncut : (rs : List Report) → NoCuts rs → (p : ℕ) → lastCut p (event t rs₀ rs ∷ h) ≡ lastCut p h
+  pub uncut : (rs : List Report) → NoCuts rs → (p : ℕ) → lastCut p (takenEvent t rs₀ rs ∷ h) ≡ lastCut p h
   uncut rs n p = cut-after p (lastCut p h) rs₀ rs (k .code) n
 
   -- one cover moves, and nothing is told
-  pub moved-own : (v : Transfer) → v .who < w .roster .size → Enough (v .how) (v .amount) (coverOf (w .covers) (v .who)) → isOrder (event t rs₀ []) ≡ false
+  pub moved-own : (v : Transfer) → v .who < w .roster .size → Enough (v .how) (v .amount) (coverOf (w .covers) (v .who)) → isOrder (takenEvent t rs₀ []) ≡ false
       → (moved (v .how) (v .amount) (coverOf (w .covers) (v .who)) .held ≡ 0) ⊎ (moved (v .how) (v .amount) (coverOf (w .covers) (v .who)) .held ≡ coverOf (w .covers) (v .who) .held)
       → (moved (v .how) (v .amount) (coverOf (w .covers) (v .who)) .debit ≡ 0) ⊎ (moved (v .how) (v .amount) (coverOf (w .covers) (v .who)) .debit ≡ coverOf (w .covers) (v .who) .debit)
-      → ((p : ℕ) → p < size file → goesOut file p (event t rs₀ []) h ≡ onlyFor (v .who) p (loss (v .how) (v .amount) (coverOf (w .covers) (v .who))))
-      → ((p : ℕ) → p < size file → comesIn file p (event t rs₀ []) h ≡ onlyFor (v .who) p (gain (v .how) (v .amount)))
-      → OwnStep file h (event t rs₀ []) w (applied w (orderKept (finding w f t) v false Told.Nobody)) []
+      → ((p : ℕ) → p < size file → goesOut file p (takenEvent t rs₀ []) h ≡ onlyFor (v .who) p (loss (v .how) (v .amount) (coverOf (w .covers) (v .who))))
+      → ((p : ℕ) → p < size file → comesIn file p (takenEvent t rs₀ []) h ≡ onlyFor (v .who) p (gain (v .how) (v .amount)))
+      → OwnStep file h (takenEvent t rs₀ []) w (applied w (orderKept (finding w f t) v false Told.Nobody)) []
   moved-own v who enough isnt held debit out in′ =
       steady (applied w (orderKept (finding w f t) v false Told.Nobody)) [] refl refl orders-kept isnt (λ i. refl)
       (λ p l.
       rw (nobody-moves (transferred v (w .covers)))
-      (cover-goes file h (event t rs₀ []) p (coverOf (w .covers) p) (coverOf (transferred v (w .covers)) p)
+      (cover-goes file h (takenEvent t rs₀ []) p (coverOf (w .covers) p) (coverOf (transferred v (w .covers)) p)
       (let e = transfer-whole fit v who enough p in let o = out p l in let i = in′ p l in omega arith)
       (uncut [] tt p)
       (mark (λ (c : Cover). c .held) held p)

@@ -21,7 +21,7 @@ use Rattle.audit.specs.Orders.{tellsParties}
 use Rattle.audit.specs.Run.{Input, eventsOf, run}
 use Rattle.audit.proofs.Agreeing.{Agrees}
 use Rattle.audit.proofs.Telling.{first-after}
-use Rattle.audit.proofs.Own.{Taken, event, kind-is}
+use Rattle.audit.proofs.Own.{Taken, takenEvent, kind-is}
 use Rattle.audit.proofs.Opening.{order-payee}
 use Rattle.audit.proofs.Answers.{yes-flag, yes-told, no-flag}
 use Rattle.audit.proofs.Balance.{payer-known}
@@ -29,7 +29,7 @@ use Rattle.audit.proofs.Running.{the-ticket, run-each}
 
 module _ {file : List ℕ} {h : History} {w : Book} {t : List ℕ} {time n : ℕ} {rs₀ : List Report} where
   own-parties : (j : Kind) → Taken file h w t (record { kind = j; time = time; amount = n }) rs₀
-      → tellsParties file (event t rs₀ (toldBy w (decisionOf (finding w (record { kind = j; time = time; amount = n }) t)))) ≡ true
+      → tellsParties file (takenEvent t rs₀ (toldBy w (decisionOf (finding w (record { kind = j; time = time; amount = n }) t)))) ≡ true
   own-parties kind.CoverIn k = rw (kind-is k)
   own-parties kind.CoverOut k = rw (kind-is k)
   own-parties kind.Order k =

@@ -56,8 +56,8 @@ expiredAt time = event (tickTicket time) 0 (report 0 4 0 400 ∷ report 1 4 0 40
 abbrev pub atFirst : List Cover
 atFirst = cover 600 400 0 ∷ cover 0 0 0 ∷ []
 
-abbrev pub moved : List Cover
-moved = cover 600 0 0 ∷ cover 400 0 0 ∷ []
+abbrev pub settledCovers : List Cover
+settledCovers = cover 600 0 0 ∷ cover 400 0 0 ∷ []
 
-abbrev pub freed : List Cover
-freed = cover 1000 0 0 ∷ cover 0 0 0 ∷ []
+abbrev pub freedCovers : List Cover
+freedCovers = cover 1000 0 0 ∷ cover 0 0 0 ∷ []

@@ -32,7 +32,7 @@ use Rattle.audit.proofs.Agreeing.{endCode}
 use Rattle.audit.proofs.Fates.{Fate}
 use Rattle.audit.proofs.Events.{OwnOrder, OwnStep}
 use Rattle.audit.proofs.Telling.{isCut, first-after}
-use Rattle.audit.proofs.Own.{Taken, event, OwnStepOf, kind-is, amount-is, sent, sender-below}
+use Rattle.audit.proofs.Own.{Taken, takenEvent, OwnStepOf, kind-is, amount-is, sent, sender-below}
 use Rattle.audit.proofs.About.{status-same, order-held, about-own, two-covers}
 
 -- a settled order was told 2
@@ -61,15 +61,15 @@ module _ {file : List ℕ} {h : History} {w : Book} {t : List ℕ} {f : Fields} 
   -- the order's mark changes, one report that is no ending is told, and no cover moves
   mark-own : (s : Status) (r : Report) → r .order ≡ accepting.orderNumber w f t → isEnding (accepting.orderNumber w f t) r ≡ false → isCut r ≡ false
       → isWaiting s ≡ false → isWaiting (accepting.theOrder w f t .status) ≡ false → endCode s ≡ endCode (accepting.theOrder w f t .status)
-      → isOrder (event t rs₀ (r ∷ [])) ≡ false
-      → ((p : ℕ) → goesOut file p (event t rs₀ (r ∷ [])) h ≡ 0) → ((p : ℕ) → comesIn file p (event t rs₀ (r ∷ [])) h ≡ 0)
-      → OwnStep file h (event t rs₀ (r ∷ [])) w (applied w (orderBecomes (finding w f t) s nobody nobody (One r))) (r ∷ [])
+      → isOrder (takenEvent t rs₀ (r ∷ [])) ≡ false
+      → ((p : ℕ) → goesOut file p (takenEvent t rs₀ (r ∷ [])) h ≡ 0) → ((p : ℕ) → comesIn file p (takenEvent t rs₀ (r ∷ [])) h ≡ 0)
+      → OwnStep file h (takenEvent t rs₀ (r ∷ [])) w (applied w (orderBecomes (finding w f t) s nobody nobody (One r))) (r ∷ [])
   mark-own s r about isnt quiet w′ ended same no-order out in′ =
       let o = accepting.theOrder w f t in
       let j = accepting.orderNumber w f t in
       let someone : 0 < w .roster .size = let b = sender-below k sends in omega arith in
       about-own k (r ∷ []) (withStatus o s) (transferred nobody (transferred nobody (w .covers))) named no-order (about, tt)
-      (marked-order (asksAbout j (event t rs₀ (r ∷ [])) h) j o s r isnt w′ ended same)
+      (marked-order (asksAbout j (takenEvent t rs₀ (r ∷ [])) h) j o s r isnt w′ ended same)
       (λ p l.
       two-covers k (r ∷ []) (quiet, tt) nobody nobody someone someone tt tt refl refl refl refl p
       (let z = for-none 0 p in let a = out p in omega arith) (let z = for-none 0 p in let a = in′ p in omega arith))

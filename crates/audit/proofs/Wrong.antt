@@ -8,13 +8,13 @@ use Rattle.rules.specs.declared.Status.the-variants.{Waiting, Refused, Expired,
 use Rattle.rules.specs.declared.Recall.the-variants.{None}
 use Rattle.rules.proofs.Names.{bicA, bicB, tx1, tx2, ibanD}
 use Rattle.audit.proofs.Rows.{Written, AllFalse, AllTrue, all-false, all-true, event, report, cover}
-use Rattle.audit.proofs.Pieces.{banks, toLinked, opening, row, lodged, ordered, orderedLinked, orderedMore, settledAt, quiet, expiredAt, atFirst, moved, freed}
+use Rattle.audit.proofs.Pieces.{banks, toLinked, opening, row, lodged, ordered, orderedLinked, orderedMore, settledAt, quiet, expiredAt, atFirst, settledCovers, freedCovers}
 
 abbrev pub ofCover : List Written
 ofCover =
     row "cover moved and not told" banks
     (lodged ∷ ordered ∷ event (yesTicket 24 bicB tx1) 0 [] ∷ [])
-    moved (Settled None ∷ []) "told, cover, reserved, waiting"
+    settledCovers (Settled None ∷ []) "told, cover, reserved, waiting"
     ∷ row "told and not moved" banks (lodged ∷ ordered ∷ settledAt 24 ∷ []) atFirst (Settled None ∷ []) "cover, reserved"
     ∷ row "a confirm counted as a debit after a report 11" opening
     (lodged ∷ event (cutTicket 1) 0 (report 0 11 65535 900 ∷ []) ∷ event (confirmTicket 2 bicA 900) 0 [] ∷ [])
@@ -54,45 +54,45 @@ ofParties =
 
 abbrev pub ofOrders : List Written
 ofOrders =
-    row "Waiting in the book after its ending" banks (lodged ∷ ordered ∷ settledAt 24 ∷ []) moved (Waiting ∷ []) "waiting"
+    row "Waiting in the book after its ending" banks (lodged ∷ ordered ∷ settledAt 24 ∷ []) settledCovers (Waiting ∷ []) "waiting"
     ∷ row "an accepted order of which the book holds nothing" banks (lodged ∷ ordered ∷ []) atFirst [] "held"
-    ∷ row "an order in the book that was not accepted" banks (lodged ∷ []) freed (Refused ∷ []) "held"
+    ∷ row "an order in the book that was not accepted" banks (lodged ∷ []) freedCovers (Refused ∷ []) "held"
     ∷ []
 
 abbrev pub ofExpiries : List Written
 ofExpiries =
-    row "a time-out one second early" banks (lodged ∷ ordered ∷ expiredAt 24 ∷ []) freed (Expired ∷ []) "expiry"
-    ∷ row "a time-out one second late" banks (lodged ∷ ordered ∷ quiet 25 ∷ expiredAt 26 ∷ []) freed (Expired ∷ []) "expiry"
+    row "a time-out one second early" banks (lodged ∷ ordered ∷ expiredAt 24 ∷ []) freedCovers (Expired ∷ []) "expiry"
+    ∷ row "a time-out one second late" banks (lodged ∷ ordered ∷ quiet 25 ∷ expiredAt 26 ∷ []) freedCovers (Expired ∷ []) "expiry"
     ∷ row "a time-out never" banks (lodged ∷ ordered ∷ quiet 25 ∷ quiet 4294967295 ∷ []) atFirst (Waiting ∷ []) "expiry"
     ∷ row "an order for a linked system timed out long after" toLinked
     (lodged ∷ orderedLinked ∷ quiet 25 ∷ expiredAt 4294967295 ∷ [])
-    freed (Expired ∷ []) "expiry"
+    freedCovers (Expired ∷ []) "expiry"
     ∷ row "a time-out at a ticket refused by 6" banks
     (lodged ∷ ordered ∷ event (tickTicket 25) 6 (report 0 4 0 400 ∷ report 1 4 0 400 ∷ []) ∷ [])
-    freed (Expired ∷ []) "expiry"
+    freedCovers (Expired ∷ []) "expiry"
     ∷ row "a time-out at a ticket refused by 11" banks
     (lodged ∷ ordered ∷ event (tickTicket 25) 11 (report 0 4 0 400 ∷ report 1 4 0 400 ∷ []) ∷ [])
-    freed (Expired ∷ []) "expiry"
+    freedCovers (Expired ∷ []) "expiry"
     ∷ []
 
 abbrev pub ofEndings : List Written
 ofEndings =
-    row "told 'expired' before it is accepted" banks (lodged ∷ expiredAt 4 ∷ ordered ∷ []) freed (Expired ∷ []) "expiry, known"
+    row "told 'expired' before it is accepted" banks (lodged ∷ expiredAt 4 ∷ ordered ∷ []) freedCovers (Expired ∷ []) "expiry, known"
     ∷ row "told 'refused' before it is accepted" banks
     (lodged ∷ event (tickTicket 4) 0 (report 0 3 0 400 ∷ []) ∷ ordered ∷ [])
-    freed (Refused ∷ []) "known"
+    freedCovers (Refused ∷ []) "known"
     ∷ row "an ending in the order's own ticket" banks
     (lodged ∷ event (orderTicket 5 bicA bicB 400 tx1 ibanD) 0 (report 1 1 0 400 ∷ report 0 3 0 400 ∷ []) ∷ [])
-    freed (Refused ∷ []) "known"
+    freedCovers (Refused ∷ []) "known"
     ∷ row "an ending of a number that is no order's" banks
     (lodged ∷ ordered ∷ event (tickTicket 6) 0 (report 0 2 7 400 ∷ []) ∷ [])
     atFirst (Waiting ∷ []) "known"
     ∷ row "a second ending in a later ticket that is no inquiry" banks
     (lodged ∷ ordered ∷ settledAt 24 ∷ event (tickTicket 30) 0 (report 0 2 0 400 ∷ []) ∷ [])
-    moved (Settled None ∷ []) "once"
+    settledCovers (Settled None ∷ []) "once"
     ∷ row "a second ending in a refused inquiry" banks
     (lodged ∷ ordered ∷ settledAt 24 ∷ event (inquiryTicket 30 bicB tx1) 17 (report 0 2 0 400 ∷ []) ∷ [])
-    moved (Settled None ∷ []) "once"
+    settledCovers (Settled None ∷ []) "once"
     ∷ row "an inquiry that repeats another order's ending" banks
     (lodged ∷ ordered ∷ orderedMore ∷ settledAt 7 ∷ event (inquiryTicket 8 bicA tx2) 0 (report 0 2 0 400 ∷ []) ∷ [])
     (cover 100 500 0 ∷ cover 400 0 0 ∷ []) (Settled None ∷ Waiting ∷ []) "once"
@@ -101,19 +101,19 @@ ofEndings =
     atFirst (Waiting ∷ []) "reserved, waiting, once"
     ∷ row "an inquiry that tells 2 before the yes, the order ended by it" banks
     (lodged ∷ ordered ∷ event (inquiryTicket 6 bicA tx1) 0 (report 0 2 0 400 ∷ []) ∷ [])
-    freed (Settled None ∷ []) "once"
+    freedCovers (Settled None ∷ []) "once"
     ∷ row "a settled order told 'expired' to one of the two" banks
     (lodged ∷ ordered ∷ event (yesTicket 24 bicB tx1) 0 (report 0 2 0 400 ∷ report 1 4 0 400 ∷ []) ∷ [])
-    moved (Settled None ∷ []) "alike"
+    settledCovers (Settled None ∷ []) "alike"
     ∷ row "an inquiry that repeats another code" banks
     (lodged ∷ ordered ∷ settledAt 24 ∷ event (inquiryTicket 30 bicA tx1) 0 (report 0 4 0 400 ∷ []) ∷ [])
-    moved (Settled None ∷ []) "alike"
+    settledCovers (Settled None ∷ []) "alike"
     ∷ row "an amount in report 2 that isn't the order's, and is moved" banks
     (lodged ∷ ordered ∷ event (yesTicket 24 bicB tx1) 0 (report 0 2 0 401 ∷ report 1 2 0 401 ∷ []) ∷ [])
     (cover 599 0 0 ∷ cover 401 0 0 ∷ []) (Settled None ∷ []) "alike"
     ∷ row "an amount in report 2 that isn't the order's, and isn't moved" banks
     (lodged ∷ ordered ∷ event (yesTicket 24 bicB tx1) 0 (report 0 2 0 401 ∷ report 1 2 0 401 ∷ []) ∷ [])
-    moved (Settled None ∷ []) "cover, alike"
+    settledCovers (Settled None ∷ []) "cover, alike"
     ∷ []
 
 pub parties-false : AllFalse ofParties
@@ -141,7 +141,7 @@ abbrev pub seenEarlier : List Written
 seenEarlier =
     row "an inquiry that tells 2 before the yes, when the yes has come" banks
     (lodged ∷ ordered ∷ event (inquiryTicket 6 bicA tx1) 0 (report 0 2 0 400 ∷ []) ∷ settledAt 24 ∷ [])
-    moved (Settled None ∷ []) ""
+    settledCovers (Settled None ∷ []) ""
     ∷ []
 
 pub seen-earlier : AllTrue seenEarlier

@@ -15,7 +15,7 @@ use Rattle.dayfile.specs.Limits.{mostOpening}
 use Rattle.dayfile.specs.Rows.{participantOk, boundOf, routeOk}
 use Rattle.dayfile.specs.Roster.{kindOf, openingOf, targetOf, participantAt, routeAt}
 use Rattle.dayfile.specs.Guarantee.{OpeningWithin, LeadsWithin}
-use Rattle.dayfile.specs.Writing.{kindNumber, wishNumber, openingNumber, targetKind, targetNumber, participantBytes, routeBytes}
+use Rattle.dayfile.specs.Writing.{partyNumber, wishNumber, openingNumber, targetKind, targetNumber, participantBytes, routeBytes}
 use Rattle.dayfile.specs.declared.roster.PartyKind.{PartyKind}
 use Rattle.dayfile.specs.declared.roster.PartyKind.the-variants.{Bank, Linked}
 use Rattle.dayfile.specs.declared.roster.Opening.{Opening}
@@ -26,7 +26,7 @@ use Rattle.dayfile.specs.declared.roster.Participant.{Participant}
 use Rattle.dayfile.specs.declared.roster.Route.{Route}
 
 -- each case is told by its number
-kind-back : (k : PartyKind) → kindOf (kindNumber k) ≡ k
+kind-back : (k : PartyKind) → kindOf (partyNumber k) ≡ k
 kind-back Bank = refl
 kind-back Linked = refl
 
@@ -39,7 +39,7 @@ target-back (To p) = refl
 target-back (Row k) = refl
 
 -- and is one that the checks take
-kind-most : (k : PartyKind) → leb (kindNumber k) 1 ≡ true
+kind-most : (k : PartyKind) → leb (partyNumber k) 1 ≡ true
 kind-most Bank = refl
 kind-most Linked = refl
 
@@ -70,13 +70,13 @@ module _ (f : List ℕ) (at : ℕ) (q : Participant) (h : Holds f at (participan
   bic-at : part 11 at f ≡ q .bic
   bic-at = held-part 11 at (held-at (held-in h (held-first _ _)) (omega arith)) long
 
-  kind-at : getD f (at + 11) 0 ≡ kindNumber (q .kind)
+  kind-at : getD f (at + 11) 0 ≡ partyNumber (q .kind)
   kind-at = held-byte (at + 11) (held-at (held-in h (held-behind (q .bic) (held-first _ _))) (let l = long in omega arith))
 
   opening-at : numberAt 8 (at + 12) f ≡ openingNumber (q .opening)
   opening-at =
       held-number 8 (at + 12) (openingNumber (q .opening))
-      (held-at (held-in h (held-behind (q .bic) (held-behind (kindNumber (q .kind) ∷ []) (held-first _ _)))) (let l = long in omega arith))
+      (held-at (held-in h (held-behind (q .bic) (held-behind (partyNumber (q .kind) ∷ []) (held-first _ _)))) (let l = long in omega arith))
       (let m = opening-most (q .opening) within in omega arith)
 
   wish-at : getD f (at + 20) 0 ≡ wishNumber (q .opening)
@@ -84,7 +84,7 @@ module _ (f : List ℕ) (at : ℕ) (q : Participant) (h : Holds f at (participan
       held-byte (at + 20)
       (held-at
       (held-in h
-      (held-behind (q .bic) (held-behind (kindNumber (q .kind) ∷ []) (held-behind (bytesOf 8 (openingNumber (q .opening))) (held-first _ _)))))
+      (held-behind (q .bic) (held-behind (partyNumber (q .kind) ∷ []) (held-behind (bytesOf 8 (openingNumber (q .opening))) (held-first _ _)))))
       (let l = long in omega arith))
 
   spare-at : part 3 (at + 21) f ≡ 0 ∷ 0 ∷ 0 ∷ []
@@ -93,7 +93,7 @@ module _ (f : List ℕ) (at : ℕ) (q : Participant) (h : Holds f at (participan
       (held-at
       (held-in h
       (held-behind (q .bic)
-      (held-behind (kindNumber (q .kind) ∷ [])
+      (held-behind (partyNumber (q .kind) ∷ [])
       (held-behind (bytesOf 8 (openingNumber (q .opening))) (held-behind (wishNumber (q .opening) ∷ []) (held-first (0 ∷ 0 ∷ 0 ∷ []) []))))))
       (let l = long in omega arith))
       refl

@@ -1,5 +1,5 @@
 -- A day file's bytes from its fields, and what a file has to have for its bytes to be accepted: 01 'Day file and program'.
---     kindNumber                    a kind's byte
+--     partyNumber                    a kind's byte
 --     wishNumber, openingNumber     whether an opening is wished, and its cents
 --     targetKind, targetNumber      the kind of a route row, and its k
 --     participantBytes, routeBytes  a row of 24 bytes and one of 16
@@ -37,9 +37,9 @@ use Rattle.dayfile.specs.declared.roster.Participant.{Participant}
 use Rattle.dayfile.specs.declared.roster.Route.{Route}
 
 -- 01: a kind (0 bank, 1 linked system such as RT1)
-abbrev pub kindNumber : PartyKind → ℕ
-kindNumber Bank = 0
-kindNumber Linked = 1
+abbrev pub partyNumber : PartyKind → ℕ
+partyNumber Bank = 0
+partyNumber Linked = 1
 
 -- 01: if it wishes, an opening cover (0 included); wish 0 or 1
 abbrev pub wishNumber : Opening → ℕ
@@ -62,7 +62,7 @@ targetNumber (Row k) = k
 -- 01: BIC, kind, opening (8), wish 0 or 1, three zero
 abbrev pub participantBytes : Participant → List ℕ
 participantBytes q =
-    q .bic ++ ((kindNumber (q .kind) ∷ []) ++ (bytesOf 8 (openingNumber (q .opening)) ++ ((wishNumber (q .opening) ∷ []) ++ (0 ∷ 0 ∷ 0 ∷ []))))
+    q .bic ++ ((partyNumber (q .kind) ∷ []) ++ (bytesOf 8 (openingNumber (q .opening)) ++ ((wishNumber (q .opening) ∷ []) ++ (0 ∷ 0 ∷ 0 ∷ []))))
 
 -- 01: BIC, kind, k (2), two zero
 abbrev pub routeBytes : Route → List ℕ

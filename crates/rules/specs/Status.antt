@@ -1,6 +1,6 @@
 -- An order's status and recall mark.
 --     isWaiting      Waiting
---     isUnmarked     Settled with mark none; isNone: of the mark
+--     isUnmarked     Settled with mark none; noMark: of the mark
 --     isAsked        Settled, asked; wasAsked: of the mark
 --     withStatus     the order with another status
 -- Assumes nothing.
@@ -18,17 +18,17 @@ isWaiting Expired = false
 isWaiting Returned = false
 isWaiting (Settled mark) = false
 
-abbrev pub isNone : Recall → Bool
-isNone None = true
-isNone Asked = false
-isNone Declined = false
+abbrev pub noMark : Recall → Bool
+noMark None = true
+noMark Asked = false
+noMark Declined = false
 
 abbrev pub isUnmarked : Status → Bool
 isUnmarked Waiting = false
 isUnmarked Refused = false
 isUnmarked Expired = false
 isUnmarked Returned = false
-isUnmarked (Settled mark) = isNone mark
+isUnmarked (Settled mark) = noMark mark
 
 abbrev pub wasAsked : Recall → Bool
 wasAsked None = false

@@ -76,12 +76,12 @@ pub record Outcome : Type 0 where
   pub buffer : List ℕ
 
 -- 01: reports fill the buffer from its start; bytes after the last report keep their value
-abbrev pub answered : Step → List ℕ → Outcome
-answered s buffer =
+abbrev pub handedBack : Step → List ℕ → Outcome
+handedBack s buffer =
     record { refusal = s .refusal; reports = length (s .reports); rows = s .rows; book = s .book; buffer = laid (s .reports) buffer }
 
 abbrev pub outcome : Book → List ℕ → List ℕ → Outcome
-outcome b t buffer = answered (handed b t buffer) buffer
+outcome b t buffer = handedBack (handed b t buffer) buffer
 
 abbrev pub stepsOf : Book → List (List ℕ) → List Step
 stepsOf b [] = []

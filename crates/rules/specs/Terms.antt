@@ -22,27 +22,27 @@ use Rattle.rules.specs.declared.Status.{Status}
 use Rattle.rules.specs.declared.Order.{Order}
 
 -- a ticket about an order that is held: who answers, and the status that it needs
-abbrev pub about : Party → Needs → Terms
-about party status = record { subject = names.HeldOrder; party = party; needs = status; whole = false; flow = flow.Nothing }
+abbrev pub aboutTerms : Party → Needs → Terms
+aboutTerms party status = record { subject = names.HeldOrder; party = party; needs = status; whole = false; flow = flow.Nothing }
 
 -- a ticket about cover
-abbrev pub cover : Subject → Flow → Terms
-cover subject does = record { subject = subject; party = by.Anyone; needs = needs.Anything; whole = false; flow = does }
+abbrev pub coverTerms : Subject → Flow → Terms
+coverTerms subject does = record { subject = subject; party = by.Anyone; needs = needs.Anything; whole = false; flow = does }
 
 -- 01: payer answers for kinds 5 and 8, payee for 4, 6, 7; the steps say what status they need
 abbrev pub termsOf : Kind → Terms
-termsOf kind.CoverIn = cover names.Sender flow.Brings
-termsOf kind.CoverOut = cover names.Sender flow.Draws
-termsOf kind.Order = cover names.NewOrder flow.Draws
-termsOf kind.Yes = about by.Payee needs.Waiting
-termsOf kind.No = about by.Payee needs.Waiting
-termsOf kind.Recall = about by.Payer needs.Unmarked
+termsOf kind.CoverIn = coverTerms names.Sender flow.Brings
+termsOf kind.CoverOut = coverTerms names.Sender flow.Draws
+termsOf kind.Order = coverTerms names.NewOrder flow.Draws
+termsOf kind.Yes = aboutTerms by.Payee needs.Waiting
+termsOf kind.No = aboutTerms by.Payee needs.Waiting
+termsOf kind.Recall = aboutTerms by.Payer needs.Unmarked
 termsOf kind.Return = record { subject = names.HeldOrder; party = by.Payee; needs = needs.Asked; whole = true; flow = flow.Draws }
-termsOf kind.Decline = about by.Payee needs.Asked
-termsOf kind.Inquiry = about by.Payer needs.Anything
-termsOf kind.Cut = cover names.Nothing flow.Cuts
-termsOf kind.Confirm = cover names.Sender flow.Confirms
-termsOf kind.Tick = cover names.Nothing flow.Nothing
+termsOf kind.Decline = aboutTerms by.Payee needs.Asked
+termsOf kind.Inquiry = aboutTerms by.Payer needs.Anything
+termsOf kind.Cut = coverTerms names.Nothing flow.Cuts
+termsOf kind.Confirm = coverTerms names.Sender flow.Confirms
+termsOf kind.Tick = coverTerms names.Nothing flow.Nothing
 
 -- all but 9 and 11
 abbrev pub namesSender : Subject → Bool
