@@ -27,6 +27,7 @@ use Rattle.rules.specs.declared.Order.{Order}
 use Rattle.rules.specs.declared.Book.{Book}
 use Rattle.rules.proofs.Moving.{for-none}
 use Rattle.rules.proofs.Keeping.{backed}
+use Rattle.rules.proofs.Accepting.{fieldsOf}
 use Rattle.rules.proofs.Accepting as accepting
 use Rattle.audit.specs.History.{History, size}
 use Rattle.audit.specs.Sums.{firstWith}
@@ -40,9 +41,9 @@ use Rattle.audit.proofs.About.{AllAbout, status-same, order-held, about
 
 module _ {file : List ℕ} {h : History} {w : Book} {t : List ℕ} {time n : ℕ} {rs₀ : List Report} where
   -- yes: the payer's report, and perhaps more
-  module _ (k : Taken file h w t (record { kind = kind.Yes; time = time; amount = n }) rs₀) where
+  module _ (k : Taken file h w t (fieldsOf kind.Yes time n) rs₀) where
     abbrev f : Fields
-    f = record { kind = kind.Yes; time = time; amount = n }
+    f = fieldsOf kind.Yes time n
 
     abbrev x : Finding
     x = finding w f t
@@ -105,7 +106,7 @@ module _ {file : List ℕ} {h : History} {w : Book} {t : List ℕ} {time n : ℕ
         go false = refl
 
     -- the payee is told too if it is a bank
-    pub yes-own : OwnStepOf file h w t (record { kind = kind.Yes; time = time; amount = n }) rs₀
+    pub yes-own : OwnStepOf file h w t (fieldsOf kind.Yes time n) rs₀
     yes-own = go (x .bank)
       where
         go : (z : Bool) → let rs = listed (cond z (Two (toPayer x 2) (toPayee x 2)) (One (toPayer x 2))) in OwnStep file h (takenEvent t rs₀ rs) w (applied w (decisionOf x)) rs
@@ -113,38 +114,27 @@ module _ {file : List ℕ} {h : History} {w : Book} {t : List ℕ} {time n : ℕ
         go false = yes-with [] tt tt tt refl
 
   -- no: report 3 to payer only
-  module _ (k : Taken file h w t (record { kind = kind.No; time = time; amount = n }) rs₀) where
-    abbrev g : Fields
-    g = record { kind = kind.No; time = time; amount = n }
-
-    abbrev y : Finding
-    y = finding w g t
-
-    abbrev i : ℕ
-    i = accepting.orderNumber w g t
-
-    abbrev q : Order
-    q = accepting.theOrder w g t
-
+  module _ (k : Taken file h w t (fieldsOf kind.No time n) rs₀) where
     pub no-flag : flagByte t ≡ 2
-    no-flag = let b = tells-bytes t g (k .tells) in let l = b .low in let m = b .high in omega arith
+    no-flag = let b = tells-bytes t (fieldsOf kind.No time n) (k .tells) in let l = b .low in let m = b .high in omega arith
 
-    no-waits : isWaiting (q .status) ≡ true
-    no-waits = accepting.status-meets w g t (k .passed .r18)
-
-    pub no-own : OwnStepOf file h w t (record { kind = kind.No; time = time; amount = n }) rs₀
+    pub no-own : OwnStepOf file h w t (fieldsOf kind.No time n) rs₀
     no-own =
-        let rs = toPayer y 3 ∷ [] in
+        let f = fieldsOf kind.No time n in
+        let j = accepting.orderNumber w f t in
+        let o = accepting.theOrder w f t in
+        let r = toPayer (finding w f t) 3 in
+        let waits = accepting.status-meets w f t (k .passed .r18) in
         let s = k .midway .sound in
-        let held = order-held k rs refl in
-        about-own k rs (withStatus q status.Refused) (transferred nobody (transferred (freed q) (w .covers))) refl (rw (kind-is k)) (refl, tt)
+        let held = order-held k (r ∷ []) refl in
+        about-own k (r ∷ []) (withStatus o status.Refused) (transferred nobody (transferred (freed o) (w .covers))) refl (rw (kind-is k)) (refl, tt)
         (record {
-          fate = Fate.ended no-waits refl (toPayer y 3) [] (simp (eq-eqb i i refl)) (refl, refl, tt) (rw (kind-is k) (omega arith));
-          same = status-same q status.Refused;
-          quiet = simp (eq-eqb i i refl, and-false);
+          fate = Fate.ended waits refl r [] (simp (eq-eqb j j refl)) (refl, refl, tt) (rw (kind-is k) (omega arith));
+          same = status-same o status.Refused;
+          quiet = simp (eq-eqb j j refl, and-false);
         })
         (λ p l.
-        two-covers k rs (refl, tt) (freed q) nobody (s .orders .payer i held) (let b = sender-below k refl in omega arith)
-        (backed w s i held status.Refused refl no-waits) tt refl refl refl refl p
-        (rw (kind-is k, no-flag) (let z = for-none (q .payer) p in let v = for-none 0 p in omega arith))
-        (rw (kind-is k, no-flag) (let z = for-none (q .payer) p in let v = for-none 0 p in omega arith)))
+        two-covers k (r ∷ []) (refl, tt) (freed o) nobody (s .orders .payer j held) (let b = sender-below k refl in omega arith)
+        (backed w s j held status.Refused refl waits) tt refl refl refl refl p
+        (rw (kind-is k, no-flag) (let z = for-none (o .payer) p in let v = for-none 0 p in omega arith))
+        (rw (kind-is k, no-flag) (let z = for-none (o .payer) p in let v = for-none 0 p in omega arith)))

@@ -18,6 +18,7 @@ use Rattle.rules.specs.declared.finding.Finding.{Finding}
 use Rattle.rules.specs.declared.Order.{Order}
 use Rattle.rules.specs.declared.Book.{Book}
 use Rattle.rules.proofs.Moving.{onlyFor, for-who, for-others}
+use Rattle.rules.proofs.Accepting.{fieldsOf}
 use Rattle.rules.proofs.Accepting as accepting
 use Rattle.audit.specs.History.{Event, History, size, isKind, isYes}
 use Rattle.audit.specs.Sums.{firstWith, settledTo, settledFrom, returnBy, returnTo}
@@ -62,8 +63,8 @@ module _ {file : List ℕ} {h : History} {w : Book} {t : List ℕ} {f : Fields} 
 
 module _ {file : List ℕ} {h : History} {w : Book} {t : List ℕ} {time n : ℕ} {rs₀ : List Report} where
   -- a yes: from the payer to the payee
-  yes-balanced : Taken file h w t (record { kind = kind.Yes; time = time; amount = n }) rs₀
-      → Balanced file (takenEvent t rs₀ (toldBy w (decisionOf (finding w (record { kind = kind.Yes; time = time; amount = n }) t))))
+  yes-balanced : Taken file h w t (fieldsOf kind.Yes time n) rs₀
+      → Balanced file (takenEvent t rs₀ (toldBy w (decisionOf (finding w (fieldsOf kind.Yes time n) t))))
   yes-balanced k =
       let party : accepting.senderNumber w f t ≡ o .payee = accepting.right-party w f t (k .passed .r17) refl in
       record {
@@ -79,7 +80,7 @@ module _ {file : List ℕ} {h : History} {w : Book} {t : List ℕ} {time n : ℕ
       }
     where
       f : Fields
-      f = record { kind = kind.Yes; time = time; amount = n }
+      f = fieldsOf kind.Yes time n
 
       x : Finding
       x = finding w f t
@@ -91,8 +92,8 @@ module _ {file : List ℕ} {h : History} {w : Book} {t : List ℕ} {time n : ℕ
       rs = toldBy w (decisionOf x)
 
   -- a return: from the payee to the payer
-  return-balanced : Taken file h w t (record { kind = kind.Return; time = time; amount = n }) rs₀
-      → Balanced file (takenEvent t rs₀ (toldBy w (decisionOf (finding w (record { kind = kind.Return; time = time; amount = n }) t))))
+  return-balanced : Taken file h w t (fieldsOf kind.Return time n) rs₀
+      → Balanced file (takenEvent t rs₀ (toldBy w (decisionOf (finding w (fieldsOf kind.Return time n) t))))
   return-balanced k =
       let first : firstWith 6 (rs₀ ++ rs) ≡ rs = first-after 6 rs₀ rs (k .code) refl in
       record {
@@ -108,7 +109,7 @@ module _ {file : List ℕ} {h : History} {w : Book} {t : List ℕ} {time n : ℕ
       }
     where
       f : Fields
-      f = record { kind = kind.Return; time = time; amount = n }
+      f = fieldsOf kind.Return time n
 
       o : Order
       o = accepting.theOrder w f t
@@ -116,13 +117,13 @@ module _ {file : List ℕ} {h : History} {w : Book} {t : List ℕ} {time n : ℕ
       rs : List Report
       rs = toldBy w (decisionOf (finding w f t))
 
-  no-balanced : Taken file h w t (record { kind = kind.No; time = time; amount = n }) rs₀
-      → Balanced file (takenEvent t rs₀ (toldBy w (decisionOf (finding w (record { kind = kind.No; time = time; amount = n }) t))))
+  no-balanced : Taken file h w t (fieldsOf kind.No time n) rs₀
+      → Balanced file (takenEvent t rs₀ (toldBy w (decisionOf (finding w (fieldsOf kind.No time n) t))))
   no-balanced k =
-      unmoved file (takenEvent t rs₀ (toldBy w (decisionOf (finding w (record { kind = kind.No; time = time; amount = n }) t)))) (rw (kind-is k, no-flag k)) (rw (kind-is k))
+      unmoved file (takenEvent t rs₀ (toldBy w (decisionOf (finding w (fieldsOf kind.No time n) t)))) (rw (kind-is k, no-flag k)) (rw (kind-is k))
 
-  pub own-balanced : (j : Kind) → Taken file h w t (record { kind = j; time = time; amount = n }) rs₀
-      → Balanced file (takenEvent t rs₀ (toldBy w (decisionOf (finding w (record { kind = j; time = time; amount = n }) t))))
+  pub own-balanced : (j : Kind) → Taken file h w t (fieldsOf j time n) rs₀
+      → Balanced file (takenEvent t rs₀ (toldBy w (decisionOf (finding w (fieldsOf j time n) t))))
   own-balanced kind.CoverIn k = unmoved file _ (rw (kind-is k)) (rw (kind-is k))
   own-balanced kind.CoverOut k = unmoved file _ (rw (kind-is k)) (rw (kind-is k))
   own-balanced kind.Order k = unmoved file _ (rw (kind-is k)) (rw (kind-is k))

@@ -21,6 +21,7 @@ use Rattle.rules.specs.declared.Cover.{Cover}
 use Rattle.rules.specs.declared.Book.{Book}
 use Rattle.rules.proofs.Same.{same-or-not}
 use Rattle.rules.proofs.Moving.{onlyFor, for-none, nobody-moves}
+use Rattle.rules.proofs.Accepting.{fieldsOf}
 use Rattle.rules.proofs.Accepting as accepting
 use Rattle.rules.proofs.Expiring.{AllCode}
 use Rattle.audit.specs.History.{Event, History, size}
@@ -54,30 +55,30 @@ only-if who p n test =
     (same-or-not p who)
 
 module _ {file : List ℕ} {h : History} {w : Book} {t : List ℕ} {time n : ℕ} {rs₀ : List Report} where
-  pub cover-in-own : Taken file h w t (record { kind = kind.CoverIn; time = time; amount = n }) rs₀
-      → OwnStepOf file h w t (record { kind = kind.CoverIn; time = time; amount = n }) rs₀
+  pub cover-in-own : Taken file h w t (fieldsOf kind.CoverIn time n) rs₀
+      → OwnStepOf file h w t (fieldsOf kind.CoverIn time n) rs₀
   cover-in-own k =
-      let who = accepting.senderNumber w (record { kind = kind.CoverIn; time = time; amount = n }) t in
+      let who = accepting.senderNumber w (fieldsOf kind.CoverIn time n) t in
       moved-own k (by who Give n) (sender-below k refl) tt (rw (kind-is k)) (inr refl) (inr refl)
       (λ p l. rw (kind-is k) (sym (for-none who p)))
       (λ p l. rw (kind-is k, sent k refl p l, amount-is k) (omega arith))
 
-  pub cover-out-own : Taken file h w t (record { kind = kind.CoverOut; time = time; amount = n }) rs₀
-      → OwnStepOf file h w t (record { kind = kind.CoverOut; time = time; amount = n }) rs₀
+  pub cover-out-own : Taken file h w t (fieldsOf kind.CoverOut time n) rs₀
+      → OwnStepOf file h w t (fieldsOf kind.CoverOut time n) rs₀
   cover-out-own k =
-      let who = accepting.senderNumber w (record { kind = kind.CoverOut; time = time; amount = n }) t in
-      moved-own k (by who Draw n) (sender-below k refl) (accepting.cover-there w (record { kind = kind.CoverOut; time = time; amount = n }) t (k .passed .r20) refl)
+      let who = accepting.senderNumber w (fieldsOf kind.CoverOut time n) t in
+      moved-own k (by who Draw n) (sender-below k refl) (accepting.cover-there w (fieldsOf kind.CoverOut time n) t (k .passed .r20) refl)
       (rw (kind-is k)) (inr refl) (inr refl)
       (λ p l. rw (kind-is k, sent k refl p l, amount-is k) (omega arith))
       (λ p l. rw (kind-is k) (sym (for-none who p)))
 
   -- with held, a credit; with open debit, a debit: the last cut report tells
-  pub confirm-own : Taken file h w t (record { kind = kind.Confirm; time = time; amount = n }) rs₀
-      → OwnStepOf file h w t (record { kind = kind.Confirm; time = time; amount = n }) rs₀
+  pub confirm-own : Taken file h w t (fieldsOf kind.Confirm time n) rs₀
+      → OwnStepOf file h w t (fieldsOf kind.Confirm time n) rs₀
   confirm-own k = go (eqb (c .held) 0) refl (not-false _ (k .passed .r21))
     where
       who : ℕ
-      who = accepting.senderNumber w (record { kind = kind.Confirm; time = time; amount = n }) t
+      who = accepting.senderNumber w (fieldsOf kind.Confirm time n) t
 
       c : Cover
       c = coverOf (w .covers) who
@@ -99,7 +100,7 @@ module _ {file : List ℕ} {h : History} {w : Book} {t : List ℕ} {time n : ℕ
       told held code e (inr was) = was
 
       go : (z : Bool) → eqb (c .held) 0 ≡ z → confirms c n ≡ true
-          → OwnStep file h (takenEvent t rs₀ []) w (applied w (orderKept (finding w (record { kind = kind.Confirm; time = time; amount = n }) t) (by who (cond z Debit Credit) n) false Told.Nobody)) []
+          → OwnStep file h (takenEvent t rs₀ []) w (applied w (orderKept (finding w (fieldsOf kind.Confirm time n) t) (by who (cond z Debit Credit) n) false Told.Nobody)) []
       go true e right =
           let both : (not (eqb (c .debit) 0) && leb n (c .debit)) ≡ true = rw e at right in
           let was = told (c .debit) 10 (not-true _ (and-left (not (eqb (c .debit) 0)) (leb n (c .debit)) both)) (k .midway .debit who (sender-known k refl)) in
@@ -110,10 +111,10 @@ module _ {file : List ℕ} {h : History} {w : Book} {t : List ℕ} {time n : ℕ
           moved-own k (by who Credit n) (sender-below k refl) tt (rw (kind-is k)) (inl refl) (inr refl)
           (λ p l. goes true (rw was) p l ∙ ap (onlyFor who p) all) (comes false (rw was))
 
-  pub tick-own : Taken file h w t (record { kind = kind.Tick; time = time; amount = n }) rs₀
-      → OwnStepOf file h w t (record { kind = kind.Tick; time = time; amount = n }) rs₀
+  pub tick-own : Taken file h w t (fieldsOf kind.Tick time n) rs₀
+      → OwnStepOf file h w t (fieldsOf kind.Tick time n) rs₀
   tick-own k =
-      steady k (applied w (orderKept (finding w (record { kind = kind.Tick; time = time; amount = n }) t) nobody false Told.Nobody)) [] refl refl (orders-kept k)
+      steady k (applied w (orderKept (finding w (fieldsOf kind.Tick time n) t) nobody false Told.Nobody)) [] refl refl (orders-kept k)
       (rw (kind-is k)) (λ i. refl)
       (λ p l.
       rw (nobody-moves (transferred nobody (w .covers)), nobody-moves (w .covers))

@@ -29,6 +29,7 @@ use Rattle.rules.proofs.Same.{same-or-not, below-or-not}
 use Rattle.rules.proofs.Moving.{nobody-moves}
 use Rattle.rules.proofs.Cutting.{Closed, cut-right, cut-each}
 use Rattle.rules.proofs.Stepping.{all-closed}
+use Rattle.rules.proofs.Accepting.{fieldsOf}
 use Rattle.audit.specs.History.{History, size}
 use Rattle.audit.specs.Sums.{lastCutIn, lastCut}
 use Rattle.audit.proofs.Events.{OwnCover}
@@ -103,7 +104,7 @@ marks-told p told (opening.Cover n) c z = go (ltb n (c .available)) (ltb (c .ava
     go false false = record { held = inl (z .held); debit = inl (z .debit) }
 
 module _ {file : List ℕ} {h : History} {w : Book} {t : List ℕ} {time n : ℕ} {rs₀ : List Report}
-    (k : Taken file h w t (record { kind = kind.Cut; time = time; amount = n }) rs₀) where
+    (k : Taken file h w t (fieldsOf kind.Cut time n) rs₀) where
   abbrev rs : List Report
   rs = cutReportsTo (w .roster) (w .covers) (w .roster .size)
 
@@ -124,8 +125,8 @@ module _ {file : List ℕ} {h : History} {w : Book} {t : List ℕ} {time n : ℕ
         debit = λ before. rw told (m .debit);
       })
 
-  pub cut-own : OwnStepOf file h w t (record { kind = kind.Cut; time = time; amount = n }) rs₀
+  pub cut-own : OwnStepOf file h w t (fieldsOf kind.Cut time n) rs₀
   cut-own =
-      steady k (applied w (orderKept (finding w (record { kind = kind.Cut; time = time; amount = n }) t) nobody true Told.Nobody)) rs refl refl (orders-kept k)
+      steady k (applied w (orderKept (finding w (fieldsOf kind.Cut time n) t) nobody true Told.Nobody)) rs refl refl (orders-kept k)
       (rw (kind-is k)) (λ i. no-ending i (w .roster) (w .covers) (w .roster .size))
       (λ p l. rw (nobody-moves (transferred nobody (w .covers)), nobody-moves (w .covers)) (cut-cover p (rw (k .midway .roster) l)))

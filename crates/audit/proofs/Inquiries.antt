@@ -26,6 +26,7 @@ use Rattle.rules.specs.declared.Status.the-variants as status
 use Rattle.rules.specs.declared.Order.{Order}
 use Rattle.rules.specs.declared.Book.{Book}
 use Rattle.rules.proofs.Moving.{for-none}
+use Rattle.rules.proofs.Accepting.{fieldsOf}
 use Rattle.rules.proofs.Accepting as accepting
 use Rattle.audit.specs.History.{History, size}
 use Rattle.audit.specs.Orders.{orderCount, orderTxid, asksAbout}
@@ -36,9 +37,9 @@ use Rattle.audit.proofs.Telling.{NoCuts}
 use Rattle.audit.proofs.Own.{Taken, takenEvent, OwnStepOf, kind-is, sender-below}
 use Rattle.audit.proofs.About.{AllAbout, about-own, two-covers}
 
-module _ {file : List ℕ} {h : History} {w : Book} {t : List ℕ} {time n : ℕ} {rs₀ : List Report} (k : Taken file h w t (record { kind = kind.Inquiry; time = time; amount = n }) rs₀) where
+module _ {file : List ℕ} {h : History} {w : Book} {t : List ℕ} {time n : ℕ} {rs₀ : List Report} (k : Taken file h w t (fieldsOf kind.Inquiry time n) rs₀) where
   abbrev f : Fields
-  f = record { kind = kind.Inquiry; time = time; amount = n }
+  f = fieldsOf kind.Inquiry time n
 
   abbrev x : Finding
   x = finding w f t
@@ -99,5 +100,5 @@ module _ {file : List ℕ} {h : History} {w : Book} {t : List ℕ} {time n : ℕ
   by-status status.Returned e = answered _ (refl, tt) (refl, tt) (quiet-order (toPayer x 6 ∷ []) (simp and-false))
   by-status (status.Settled m) e = settled m e
 
-  pub inquiry-own : OwnStepOf file h w t (record { kind = kind.Inquiry; time = time; amount = n }) rs₀
+  pub inquiry-own : OwnStepOf file h w t (fieldsOf kind.Inquiry time n) rs₀
   inquiry-own = by-status (o .status) refl

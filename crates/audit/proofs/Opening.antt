@@ -21,6 +21,7 @@ use Rattle.rules.specs.declared.decision.Move.the-variants.{Reserve}
 use Rattle.rules.specs.declared.Order.{Order}
 use Rattle.rules.specs.declared.Book.{Book}
 use Rattle.rules.proofs.Moving.{for-none}
+use Rattle.rules.proofs.Accepting.{fieldsOf}
 use Rattle.rules.proofs.Accepting as accepting
 use Rattle.audit.specs.History.{History, size}
 use Rattle.audit.specs.Orders.{toBank, asksAbout}
@@ -29,9 +30,9 @@ use Rattle.audit.proofs.Telling.{first-after}
 use Rattle.audit.proofs.Own.{Taken, takenEvent, OwnStepOf, order-left, kind-is, amount-is, sent, sender-below}
 use Rattle.audit.proofs.About.{two-covers}
 
-module _ {file : List ℕ} {h : History} {w : Book} {t : List ℕ} {time n : ℕ} {rs₀ : List Report} (k : Taken file h w t (record { kind = kind.Order; time = time; amount = n }) rs₀) where
+module _ {file : List ℕ} {h : History} {w : Book} {t : List ℕ} {time n : ℕ} {rs₀ : List Report} (k : Taken file h w t (fieldsOf kind.Order time n) rs₀) where
   abbrev f : Fields
-  f = record { kind = kind.Order; time = time; amount = n }
+  f = fieldsOf kind.Order time n
 
   abbrev o : Order
   o = newOrder (finding w f t)
@@ -62,7 +63,7 @@ module _ {file : List ℕ} {h : History} {w : Book} {t : List ℕ} {time n : ℕ
         waiting = refl;
       }
 
-  pub order-own : OwnStepOf file h w t (record { kind = kind.Order; time = time; amount = n }) rs₀
+  pub order-own : OwnStepOf file h w t (fieldsOf kind.Order time n) rs₀
   order-own =
       let sender = sender-below k refl in
       record {

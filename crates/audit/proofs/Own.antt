@@ -1,5 +1,4 @@
--- What the own step of an accepted ticket starts from, and the steps that touch no order: cover in, cover out, confirm, cut, tick; and
--- that of a refused ticket, which does nothing. Assumes nothing.
+-- What the own step of an accepted ticket starts from, and what steps share that leave every order as it is. Assumes nothing.
 use mathlib.Core.Path.{_≡_, refl, sym, subst, _∙_, ap}
 use mathlib.Core.Bool.{Bool, true, false, and-false}
 use mathlib.Core.List.{List, [], _∷_, _++_}

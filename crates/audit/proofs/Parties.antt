@@ -14,6 +14,7 @@ use Rattle.rules.specs.Find.{finding}
 use Rattle.rules.specs.Decision.{newOrder, decisionOf, toldBy}
 use Rattle.rules.specs.Step.{handed}
 use Rattle.rules.specs.declared.Book.{Book}
+use Rattle.rules.proofs.Accepting.{fieldsOf}
 use Rattle.rules.proofs.Accepting as accepting
 use Rattle.rules.proofs.Courses.{handed-goes}
 use Rattle.audit.specs.History.{History, Each, size}
@@ -28,21 +29,21 @@ use Rattle.audit.proofs.Balance.{payer-known}
 use Rattle.audit.proofs.Running.{the-ticket, run-each}
 
 module _ {file : List ℕ} {h : History} {w : Book} {t : List ℕ} {time n : ℕ} {rs₀ : List Report} where
-  own-parties : (j : Kind) → Taken file h w t (record { kind = j; time = time; amount = n }) rs₀
-      → tellsParties file (takenEvent t rs₀ (toldBy w (decisionOf (finding w (record { kind = j; time = time; amount = n }) t)))) ≡ true
+  own-parties : (j : Kind) → Taken file h w t (fieldsOf j time n) rs₀
+      → tellsParties file (takenEvent t rs₀ (toldBy w (decisionOf (finding w (fieldsOf j time n) t)))) ≡ true
   own-parties kind.CoverIn k = rw (kind-is k)
   own-parties kind.CoverOut k = rw (kind-is k)
   own-parties kind.Order k =
-      let o = newOrder (finding w (record { kind = kind.Order; time = time; amount = n }) t) in
+      let o = newOrder (finding w (fieldsOf kind.Order time n) t) in
       rw (kind-is k, first-after 1 rs₀ (tellOrder (o .payee) 1 (w .count) o ∷ []) (k .code) refl, lt-ltb (o .payee) (size file) (order-payee k))
   own-parties kind.Yes k =
-      let o = accepting.theOrder w (record { kind = kind.Yes; time = time; amount = n }) t in
+      let o = accepting.theOrder w (fieldsOf kind.Yes time n) t in
       rw (kind-is k, yes-flag k, yes-told k, lt-ltb (o .payer) (size file) (payer-known k refl))
   own-parties kind.No k = rw (kind-is k, no-flag k)
   own-parties kind.Recall k = rw (kind-is k)
   own-parties kind.Return k =
-      let o = accepting.theOrder w (record { kind = kind.Return; time = time; amount = n }) t in
-      let rs = toldBy w (decisionOf (finding w (record { kind = kind.Return; time = time; amount = n }) t)) in
+      let o = accepting.theOrder w (fieldsOf kind.Return time n) t in
+      let rs = toldBy w (decisionOf (finding w (fieldsOf kind.Return time n) t)) in
       rw (kind-is k, first-after 6 rs₀ rs (k .code) refl, lt-ltb (o .payer) (size file) (payer-known k refl))
   own-parties kind.Decline k = rw (kind-is k)
   own-parties kind.Inquiry k = rw (kind-is k)

@@ -23,6 +23,7 @@ use Rattle.rules.specs.declared.Status.the-variants as status
 use Rattle.rules.specs.declared.Order.{Order}
 use Rattle.rules.specs.declared.Book.{Book}
 use Rattle.rules.proofs.Moving.{for-none}
+use Rattle.rules.proofs.Accepting.{fieldsOf}
 use Rattle.rules.proofs.Accepting as accepting
 use Rattle.rules.proofs.Stepping.{unmarked-not-waiting, asked-not-waiting}
 use Rattle.audit.specs.History.{History, size}
@@ -75,20 +76,20 @@ module _ {file : List ℕ} {h : History} {w : Book} {t : List ℕ} {f : Fields} 
       (let z = for-none 0 p in let a = out p in omega arith) (let z = for-none 0 p in let a = in′ p in omega arith))
 
 module _ {file : List ℕ} {h : History} {w : Book} {t : List ℕ} {time n : ℕ} {rs₀ : List Report} where
-  pub recall-own : Taken file h w t (record { kind = kind.Recall; time = time; amount = n }) rs₀
-      → OwnStepOf file h w t (record { kind = kind.Recall; time = time; amount = n }) rs₀
+  pub recall-own : Taken file h w t (fieldsOf kind.Recall time n) rs₀
+      → OwnStepOf file h w t (fieldsOf kind.Recall time n) rs₀
   recall-own k =
-      let f : Fields = record { kind = kind.Recall; time = time; amount = n } in
+      let f : Fields = fieldsOf kind.Recall time n in
       let j = accepting.orderNumber w f t in
       let o = accepting.theOrder w f t in
       let right = accepting.status-meets w f t (k .passed .r18) in
       mark-own k refl refl (status.Settled mark.Asked) (toPayee (finding w f t) 5) refl (and-false (eqb j j)) refl refl
       (unmarked-not-waiting (o .status) right) (sym (unmarked-code (o .status) right)) (rw (kind-is k)) (λ p. rw (kind-is k)) (λ p. rw (kind-is k))
 
-  pub decline-own : Taken file h w t (record { kind = kind.Decline; time = time; amount = n }) rs₀
-      → OwnStepOf file h w t (record { kind = kind.Decline; time = time; amount = n }) rs₀
+  pub decline-own : Taken file h w t (fieldsOf kind.Decline time n) rs₀
+      → OwnStepOf file h w t (fieldsOf kind.Decline time n) rs₀
   decline-own k =
-      let f : Fields = record { kind = kind.Decline; time = time; amount = n } in
+      let f : Fields = fieldsOf kind.Decline time n in
       let j = accepting.orderNumber w f t in
       let o = accepting.theOrder w f t in
       let right = accepting.status-meets w f t (k .passed .r18) in
@@ -96,8 +97,8 @@ module _ {file : List ℕ} {h : History} {w : Book} {t : List ℕ} {time n : ℕ
       (asked-not-waiting (o .status) right) (sym (asked-code (o .status) right)) (rw (kind-is k)) (λ p. rw (kind-is k)) (λ p. rw (kind-is k))
 
   -- the payee's available falls, the payer's rises, as told by report 6
-  pub return-own : Taken file h w t (record { kind = kind.Return; time = time; amount = n }) rs₀
-      → OwnStepOf file h w t (record { kind = kind.Return; time = time; amount = n }) rs₀
+  pub return-own : Taken file h w t (fieldsOf kind.Return time n) rs₀
+      → OwnStepOf file h w t (fieldsOf kind.Return time n) rs₀
   return-own k =
       let right = accepting.status-meets w f t (k .passed .r18) in
       let party : accepting.senderNumber w f t ≡ o .payee = accepting.right-party w f t (k .passed .r17) refl in
@@ -113,7 +114,7 @@ module _ {file : List ℕ} {h : History} {w : Book} {t : List ℕ} {time n : ℕ
       (rw (kind-is k, first, amount-is k) (let z = for-none (o .payee) p in omega arith)))
     where
       f : Fields
-      f = record { kind = kind.Return; time = time; amount = n }
+      f = fieldsOf kind.Return time n
 
       j : ℕ
       j = accepting.orderNumber w f t

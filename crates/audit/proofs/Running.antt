@@ -30,6 +30,7 @@ use Rattle.rules.proofs.Expiring.{dueIn, expiredIf, Expires, tick-expires, noth
 use Rattle.rules.proofs.Courses.{handed-goes}
 use Rattle.rules.proofs.Stepping.{own-sound, file-sound}
 use Rattle.rules.proofs.Reporting.{buffer-reads-back}
+use Rattle.rules.proofs.Accepting.{fieldsOf}
 use Rattle.audit.specs.History.{Event, History, Each, size}
 use Rattle.audit.specs.Orders.{setsClock, isForBank, mustExpire}
 use Rattle.audit.specs.Run.{Input, eventsOf, run}
@@ -45,7 +46,7 @@ use Rattle.audit.proofs.Inquiries.{inquiry-own}
 
 -- the own step of every kind
 own-step : {file : List ℕ} {h : History} {w : Book} {t : List ℕ} {time n : ℕ} {rs₀ : List Report} (k : Kind)
-    → Taken file h w t (record { kind = k; time = time; amount = n }) rs₀ → OwnStepOf file h w t (record { kind = k; time = time; amount = n }) rs₀
+    → Taken file h w t (fieldsOf k time n) rs₀ → OwnStepOf file h w t (fieldsOf k time n) rs₀
 own-step kind.CoverIn k = cover-in-own k
 own-step kind.CoverOut k = cover-out-own k
 own-step kind.Order k = order-own k

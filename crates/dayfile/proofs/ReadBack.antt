@@ -6,7 +6,7 @@ use Prim.Native.Nat.{ℕ, _+_, _*_, _≤_, _<_}
 use native.Mathlib.Nat.{not-suc-le-zero}
 use native.Mathlib.Omega.{arith}
 use borrow.Author.Tests.{le-leb, le-ltb, eq-eqb}
-use lib.ListN.{length}
+use lib.ListN.{length, getD}
 use Rattle.codes.specs.Bic.{isBic}
 use Rattle.fields.specs.Number.{part, bytesOf}
 use Rattle.fields.specs.Text.{text, same}
@@ -16,9 +16,9 @@ use Rattle.dayfile.specs.Header.{sectionsAt, headed}
 use Rattle.dayfile.specs.Check.{routesPlace, ticketsPlace, ranged, placed, participantRight, routeRight, participantsOk, routesOk}
 use Rattle.dayfile.specs.Rows.{bicAmong}
 use Rattle.dayfile.specs.Roster.{noParticipant, noRoute, participantAt, routeAt, participantIn, rowOf, participantOf, routeOf}
-use Rattle.dayfile.specs.DayFile.{dayFile, acceptedFile}
+use Rattle.dayfile.specs.DayFile.{dayFile, acceptedFile, ticketAt}
 use Rattle.dayfile.specs.Guarantee.{LeadsWithin}
-use Rattle.dayfile.specs.Writing.{targetNumber, headerFor, sectionsBytes, headerBytes, countsOf, fileBytes, WellFormedDay, ReadBack, bank, direct}
+use Rattle.dayfile.specs.Writing.{targetNumber, headerFor, sectionsBytes, headerBytes, countsOf, fileBytes, WellFormedDay, bank, direct}
 use Rattle.dayfile.proofs.Passing.{file-accepted}
 use Rattle.dayfile.proofs.Laid.{file-length, participant-held, route-held, ticket-held}
 use Rattle.dayfile.proofs.Written.{participant-back, participant-written, route-back, route-written}
@@ -32,6 +32,16 @@ use Rattle.dayfile.specs.declared.roster.Target.{Target}
 use Rattle.dayfile.specs.declared.roster.Target.the-variants.{To, Row}
 use Rattle.dayfile.specs.declared.roster.Participant.{Participant}
 use Rattle.dayfile.specs.declared.roster.Route.{Route}
+
+-- what is read is what was written
+pub record ReadBack (ps : List Participant) (rs : List Route) (ts : List (List ℕ)) : Type 0 where
+  pub refusal : dayFile (fileBytes ps rs ts) .refusal ≡ 0
+  pub size : dayFile (fileBytes ps rs ts) .roster .size ≡ length ps
+  pub rows : dayFile (fileBytes ps rs ts) .roster .rows ≡ length rs
+  pub tickets : dayFile (fileBytes ps rs ts) .tickets ≡ length ts
+  pub participant : (p : ℕ) → p < length ps → participantOf (dayFile (fileBytes ps rs ts) .roster) p ≡ participantIn ps p
+  pub route : (i : ℕ) → i < length rs → routeOf (dayFile (fileBytes ps rs ts) .roster) i ≡ rowOf rs i
+  pub ticket : (k : ℕ) → k < length ts → ticketAt (fileBytes ps rs ts) k ≡ getD ts k []
 
 -- three numbers of two bytes
 sections-back : (f : List ℕ) (at : ℕ) (n : Sections) → Holds f at (sectionsBytes n)

@@ -1,5 +1,5 @@
 -- A day file's bytes from its fields, and what a file has to have for its bytes to be accepted: 01 'Day file and program'.
---     partyNumber                    a kind's byte
+--     partyNumber                   a kind's byte
 --     wishNumber, openingNumber     whether an opening is wished, and its cents
 --     targetKind, targetNumber      the kind of a route row, and its k
 --     participantBytes, routeBytes  a row of 24 bytes and one of 16
@@ -7,7 +7,6 @@
 --     headerBytes                   a header's 12 bytes
 --     fileBytes                     header, participants, routes, tickets
 --     WellFormedDay                 counts, BICs, openings, routes and tickets within what refusals 2 to 5 ask
---     ReadBack                      what is read is what was written
 --     bank, bankOpening, linked     participants as on paper
 --     direct, onward                route rows as on paper
 -- Assumes nothing.
@@ -22,8 +21,7 @@ use Rattle.fields.specs.Text.{same, joined}
 use Rattle.ticket.specs.Layout.{ticketLength}
 use Rattle.dayfile.specs.Limits.{mostParticipants, mostRoutes, mostTickets, headerLength}
 use Rattle.dayfile.specs.Check.{routesPlace, ticketsPlace}
-use Rattle.dayfile.specs.Roster.{participantIn, rowOf, participantOf, routeOf}
-use Rattle.dayfile.specs.DayFile.{dayFile, ticketAt}
+use Rattle.dayfile.specs.Roster.{participantIn, rowOf}
 use Rattle.dayfile.specs.Guarantee.{OpeningWithin, LeadsWithin}
 use Rattle.dayfile.specs.declared.header.Sections.{Sections}
 use Rattle.dayfile.specs.declared.header.Header.{Header}
@@ -104,16 +102,6 @@ pub record WellFormedDay (ps : List Participant) (rs : List Route) (ts : List (L
   pub routeDistinct : (i j : ℕ) → i < j → j < length rs → same (rowOf rs i .bic) (rowOf rs j .bic) ≡ false
   pub leads : (i : ℕ) → i < length rs → LeadsWithin (length ps) i (rowOf rs i .target)
   pub ticket : (k : ℕ) → k < length ts → length (getD ts k []) ≡ ticketLength
-
--- what is read is what was written
-pub record ReadBack (ps : List Participant) (rs : List Route) (ts : List (List ℕ)) : Type 0 where
-  pub refusal : dayFile (fileBytes ps rs ts) .refusal ≡ 0
-  pub size : dayFile (fileBytes ps rs ts) .roster .size ≡ length ps
-  pub rows : dayFile (fileBytes ps rs ts) .roster .rows ≡ length rs
-  pub tickets : dayFile (fileBytes ps rs ts) .tickets ≡ length ts
-  pub participant : (p : ℕ) → p < length ps → participantOf (dayFile (fileBytes ps rs ts) .roster) p ≡ participantIn ps p
-  pub route : (i : ℕ) → i < length rs → routeOf (dayFile (fileBytes ps rs ts) .roster) i ≡ rowOf rs i
-  pub ticket : (k : ℕ) → k < length ts → ticketAt (fileBytes ps rs ts) k ≡ getD ts k []
 
 abbrev pub bank : List ℕ → Participant
 bank bic = record { bic = bic; kind = Bank; opening = None }

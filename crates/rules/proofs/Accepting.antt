@@ -10,6 +10,7 @@ use Rattle.fields.specs.Search.{isFound, numberOf}
 use Rattle.fields.proofs.Finding.{FoundAt, found-at, not-found}
 use Rattle.ticket.specs.Layout.{senderOf, payeeOf, txidField}
 use Rattle.ticket.specs.declared.Fields.{Fields}
+use Rattle.ticket.specs.declared.kinds.Kind.{Kind}
 use Rattle.dayfile.specs.Roster.{participantOf}
 use Rattle.dayfile.specs.Route.{reached}
 use Rattle.dayfile.specs.Guarantee.{Guaranteed}
@@ -27,6 +28,10 @@ use Rattle.rules.specs.declared.Book.{Book}
 second : (a c : Bool) → (a && c) ≡ false → a ≡ true → c ≡ false
 second true c e a = e
 second false c e a = cc
+
+-- the fields of a ticket of a kind
+abbrev pub fieldsOf : Kind → ℕ → ℕ → Fields
+fieldsOf k time n = record { kind = k; time = time; amount = n }
 
 module _ (b : Book) (f : Fields) (t : List ℕ) where
   abbrev terms : Terms

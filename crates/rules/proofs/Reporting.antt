@@ -8,7 +8,6 @@ use lib.Dec.{ltb}
 use lib.ListN.{length, length-append}
 use Rattle.fields.specs.Search.{numberOf}
 use Rattle.ticket.specs.Form.{mostOrder}
-use Rattle.ticket.specs.declared.Fields.{Fields}
 use Rattle.ticket.specs.declared.kinds.Kind.{Kind}
 use Rattle.ticket.specs.declared.kinds.Kind.the-variants as kind
 use Rattle.ticket.proofs.Telling.{Tells}
@@ -37,6 +36,7 @@ use Rattle.rules.specs.declared.Order.{Order}
 use Rattle.rules.specs.declared.Book.{Book}
 use Rattle.rules.proofs.Limits.{available-limited, participant-below, order-below}
 use Rattle.rules.proofs.Refusing.{NoRefusal}
+use Rattle.rules.proofs.Accepting.{fieldsOf}
 use Rattle.rules.proofs.Accepting as accepting
 use Rattle.rules.proofs.Keeping.{later-sound}
 use Rattle.rules.proofs.Sweeping.{Swept, swept, ticked}
@@ -127,9 +127,9 @@ module _ (b : Book) (s : Sound b) where
       (cut-one-few p h (participantOf (b .roster) p .opening) (s .roster .opening p h)))
 
   -- reports about an order that is held
-  module _ (n time : ℕ) (t : List ℕ) (k : Kind) (h : accepting.orderNumber b (record { kind = k; time = time; amount = n }) t < b .count) where
+  module _ (n time : ℕ) (t : List ℕ) (k : Kind) (h : accepting.orderNumber b (fieldsOf k time n) t < b .count) where
     abbrev x : Finding
-    x = finding b (record { kind = k; time = time; amount = n }) t
+    x = finding b (fieldsOf k time n) t
 
     fit-payer : (code : ℕ) → code < 12 → Fitting (toPayer x code)
     fit-payer code c = fit-order b s _ code (numberOf (x .order)) (x .about .amount) (s .orders .payer _ h) c (order-below b s _ h) (s .orders .most _ h)
@@ -170,24 +170,21 @@ module _ (b : Book) (s : Sound b) where
     return-few m = few-one 31 _ (fit-order b s _ 6 (numberOf (x .order)) n (s .orders .payer _ h) (omega arith) (order-below b s _ h) m)
 
   module _ (n time : ℕ) (t : List ℕ) where
-    abbrev field : Kind → Fields
-    field k = record { kind = k; time = time; amount = n }
-
     -- the ticket's own reports: at most 32
-    own-few : (k : Kind) → Tells t (field k) → NoRefusal (finding b (field k) t) → Few 32 (toldBy b (decisionOf (finding b (field k) t)))
+    own-few : (k : Kind) → Tells t (fieldsOf k time n) → NoRefusal (finding b (fieldsOf k time n) t) → Few 32 (toldBy b (decisionOf (finding b (fieldsOf k time n) t)))
     own-few kind.CoverIn tells r = few-none 32
     own-few kind.CoverOut tells r = few-none 32
     own-few kind.Order tells r =
         few-one 31 _
-        (fit-order b s _ 1 (b .count) n (accepting.payee-known b (field kind.Order) t (s .roster) (r .r14) refl) (omega arith)
-        (accepting.room-left b (field kind.Order) t (r .r15) refl) (tells .most))
-    own-few kind.Yes tells r = settled-few n time t kind.Yes (accepting.order-found b (field kind.Yes) t (r .r16) refl .below)
-    own-few kind.No tells r = payer-few n time t kind.No (accepting.order-found b (field kind.No) t (r .r16) refl .below) 3 (omega arith)
-    own-few kind.Recall tells r = payee-few n time t kind.Recall (accepting.order-found b (field kind.Recall) t (r .r16) refl .below) 5 (omega arith)
-    own-few kind.Return tells r = return-few n time t kind.Return (accepting.order-found b (field kind.Return) t (r .r16) refl .below) (tells .most)
-    own-few kind.Decline tells r = payer-few n time t kind.Decline (accepting.order-found b (field kind.Decline) t (r .r16) refl .below) 7 (omega arith)
+        (fit-order b s _ 1 (b .count) n (accepting.payee-known b (fieldsOf kind.Order time n) t (s .roster) (r .r14) refl) (omega arith)
+        (accepting.room-left b (fieldsOf kind.Order time n) t (r .r15) refl) (tells .most))
+    own-few kind.Yes tells r = settled-few n time t kind.Yes (accepting.order-found b (fieldsOf kind.Yes time n) t (r .r16) refl .below)
+    own-few kind.No tells r = payer-few n time t kind.No (accepting.order-found b (fieldsOf kind.No time n) t (r .r16) refl .below) 3 (omega arith)
+    own-few kind.Recall tells r = payee-few n time t kind.Recall (accepting.order-found b (fieldsOf kind.Recall time n) t (r .r16) refl .below) 5 (omega arith)
+    own-few kind.Return tells r = return-few n time t kind.Return (accepting.order-found b (fieldsOf kind.Return time n) t (r .r16) refl .below) (tells .most)
+    own-few kind.Decline tells r = payer-few n time t kind.Decline (accepting.order-found b (fieldsOf kind.Decline time n) t (r .r16) refl .below) 7 (omega arith)
     own-few kind.Inquiry tells r =
-        answer-few n time t kind.Inquiry (accepting.order-found b (field kind.Inquiry) t (r .r16) refl .below) (accepting.theOrder b (field kind.Inquiry) t .status)
+        answer-few n time t kind.Inquiry (accepting.order-found b (fieldsOf kind.Inquiry time n) t (r .r16) refl .below) (accepting.theOrder b (fieldsOf kind.Inquiry time n) t .status)
     own-few kind.Cut tells r = few-more (b .roster .size) 32 _ (s .roster .size) (cut-few (b .roster .size) (omega arith))
     own-few kind.Confirm tells r = few-none 32
     own-few kind.Tick tells r = few-none 32

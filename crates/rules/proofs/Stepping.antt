@@ -36,6 +36,7 @@ use Rattle.rules.proofs.Moving.{nobody-moves}
 use Rattle.rules.proofs.Keeping as keeping
 use Rattle.rules.proofs.Cutting.{Closed, closed, cut-sound}
 use Rattle.rules.proofs.Refusing.{NoRefusal}
+use Rattle.rules.proofs.Accepting.{fieldsOf}
 use Rattle.rules.proofs.Accepting as accepting
 use Rattle.rules.proofs.Sweeping.{ticked}
 use Rattle.rules.proofs.Courses.{handed-goes}
@@ -82,9 +83,6 @@ unfolding anyOpen
 all-closed b e p h = closed (coverOf (b .covers) p) (none-at (λ q. isOpen (coverOf (b .covers) q)) (b .roster .size) p e h)
 
 module _ (b : Book) (s : Sound b) (n time : ℕ) (t : List ℕ) where
-  abbrev field : Kind → Fields
-  field k = record { kind = k; time = time; amount = n }
-
   -- a cover moves, and nothing is reserved or freed
   confirm-sound : (p : ℕ) → p < b .roster .size → (eqb (coverOf (b .covers) p .held) 0 ≡ true → total b + n ≤ mostTotal)
       → Sound (withCovers b (transferred (by p (cond (eqb (coverOf (b .covers) p .held) 0) Debit Credit) n) (b .covers)))
@@ -96,20 +94,20 @@ module _ (b : Book) (s : Sound b) (n time : ℕ) (t : List ℕ) where
       go false e = keeping.moved-sound b s (by p Credit n) h tt (λ q. refl) (let l = s .limited in omega arith)
 
   -- the ticket's own step
-  pub own-sound : (k : Kind) → Tells t (field k) → NoRefusal (finding b (field k) t) → Sound (applied b (decisionOf (finding b (field k) t)))
+  pub own-sound : (k : Kind) → Tells t (fieldsOf k time n) → NoRefusal (finding b (fieldsOf k time n) t) → Sound (applied b (decisionOf (finding b (fieldsOf k time n) t)))
   unfolding total
   own-sound kind.CoverIn tells r =
-      let f = field kind.CoverIn in
+      let f = fieldsOf kind.CoverIn time n in
       rw (kept-applied b f t (by (accepting.senderNumber b f t) Give n) Told.Nobody)
       (keeping.moved-sound b s (by (accepting.senderNumber b f t) Give n) (accepting.sender-found b f t (r .r12) refl .below) tt (λ p. refl)
       (accepting.limit-kept b f t (r .r22) refl))
   own-sound kind.CoverOut tells r =
-      let f = field kind.CoverOut in
+      let f = fieldsOf kind.CoverOut time n in
       rw (kept-applied b f t (by (accepting.senderNumber b f t) Draw n) Told.Nobody)
       (keeping.moved-sound b s (by (accepting.senderNumber b f t) Draw n) (accepting.sender-found b f t (r .r12) refl .below)
       (accepting.cover-there b f t (r .r20) refl) (λ p. refl) (let l = s .limited in omega arith))
   own-sound kind.Order tells r =
-      let f = field kind.Order in
+      let f = fieldsOf kind.Order time n in
       rw (nobody-moves (transferred (by (accepting.senderNumber b f t) _ n) (b .covers)))
       (keeping.opened-sound b s (newOrder (finding b f t))
       (record {
@@ -125,38 +123,38 @@ module _ (b : Book) (s : Sound b) (n time : ℕ) (t : List ℕ) where
       })
       (accepting.cover-there b f t (r .r20) refl) refl)
   own-sound kind.Yes tells r =
-      let f = field kind.Yes in
+      let f = fieldsOf kind.Yes time n in
       keeping.settled-sound b s (accepting.orderNumber b f t) (accepting.order-found b f t (r .r16) refl .below) (status.Settled mark.None) refl
       (accepting.status-meets b f t (r .r18))
   own-sound kind.No tells r =
-      let f = field kind.No in
+      let f = fieldsOf kind.No time n in
       rw (nobody-moves _)
       (keeping.freed-sound b s (accepting.orderNumber b f t) (accepting.order-found b f t (r .r16) refl .below) status.Refused refl
       (accepting.status-meets b f t (r .r18)))
   own-sound kind.Recall tells r =
-      let f = field kind.Recall in
+      let f = fieldsOf kind.Recall time n in
       rw (nobody-moves (transferred nobody (b .covers)), nobody-moves (b .covers))
       (keeping.remarked-sound b s (accepting.orderNumber b f t) (accepting.order-found b f t (r .r16) refl .below) (status.Settled mark.Asked) refl
       (unmarked-not-waiting (accepting.theOrder b f t .status) (accepting.status-meets b f t (r .r18))))
   own-sound kind.Return tells r =
-      let f = field kind.Return in
+      let f = fieldsOf kind.Return time n in
       keeping.returned-sound b s (accepting.orderNumber b f t) (accepting.order-found b f t (r .r16) refl .below) status.Returned refl
       (asked-not-waiting (accepting.theOrder b f t .status) (accepting.status-meets b f t (r .r18))) n
       (rw (← accepting.right-party b f t (r .r17) refl) (accepting.cover-there b f t (r .r20) refl))
   own-sound kind.Decline tells r =
-      let f = field kind.Decline in
+      let f = fieldsOf kind.Decline time n in
       rw (nobody-moves (transferred nobody (b .covers)), nobody-moves (b .covers))
       (keeping.remarked-sound b s (accepting.orderNumber b f t) (accepting.order-found b f t (r .r16) refl .below) (status.Settled mark.Declined) refl
       (asked-not-waiting (accepting.theOrder b f t .status) (accepting.status-meets b f t (r .r18))))
-  own-sound kind.Inquiry tells r = rw (same-applied b (field kind.Inquiry) t _) s
+  own-sound kind.Inquiry tells r = rw (same-applied b (fieldsOf kind.Inquiry time n) t _) s
   own-sound kind.Cut tells r =
       let c = cut-sound (b .roster) (s .roster .size) (s .covers) (all-closed b (r .r21)) (b .roster .size) (omega arith) in
-      rw (cut-applied b (field kind.Cut) t Told.Nobody) (keeping.covers-sound b s _ (c .sound) (let e = c .total in let l = s .limited in omega arith))
+      rw (cut-applied b (fieldsOf kind.Cut time n) t Told.Nobody) (keeping.covers-sound b s _ (c .sound) (let e = c .total in let l = s .limited in omega arith))
   own-sound kind.Confirm tells r =
-      let f = field kind.Confirm in
+      let f = fieldsOf kind.Confirm time n in
       rw (kept-applied b f t (by (accepting.senderNumber b f t) (confirmMove (finding b f t)) n) Told.Nobody)
       (confirm-sound (accepting.senderNumber b f t) (accepting.sender-found b f t (r .r12) refl .below) (λ z. accepting.limit-kept b f t (r .r22) z))
-  own-sound kind.Tick tells r = rw (same-applied b (field kind.Tick) t Told.Nobody) s
+  own-sound kind.Tick tells r = rw (same-applied b (fieldsOf kind.Tick time n) t Told.Nobody) s
 
 pub handed-sound : (b : Book) → Sound b → (t buffer : List ℕ) → Sound (handed b t buffer .book)
 handed-sound b s t buffer =

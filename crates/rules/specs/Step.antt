@@ -1,6 +1,6 @@
 -- The step: what a ticket of any bytes and length does to a book and to the report buffer that is lent for it, of any bytes and
 -- length.
---     stepOf     past refusal 6
+--     stepOf     past refusal 6. `Step` itself is in `Tick.antt`, since a tick is one
 --     handed     with refusal 6
 --     Outcome    refusal, report count, rows followed, book and buffer afterwards
 --     outcome    the whole step

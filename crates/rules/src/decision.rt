@@ -14,12 +14,14 @@ pub enum Move {
     Debit,
 }
 
+// Who moves, how, by how much.
 pub struct Transfer {
     pub who: usize,
     pub how: Move,
     pub amount: u64,
 }
 
+// The reports of a step, but for a cut's.
 pub enum Told {
     Nobody,
     One(Report),
