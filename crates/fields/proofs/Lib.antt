@@ -8,3 +8,5 @@ pub mod UpTo
 pub mod Finding
 pub mod Rows
 pub mod Holding
+pub mod Laid
+pub mod Indexing

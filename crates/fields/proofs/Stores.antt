@@ -1,7 +1,7 @@
 -- Runs of stores in a list, and parts of a list. Assumes nothing.
 use mathlib.Core.Path.{_≡_, refl, sym, _∙_, ap}
 use mathlib.Core.List.{List, [], _∷_, _++_, append-assoc}
-use Prim.Native.Nat.{ℕ, zero, suc, _+_, _≤_, _<_}
+use Prim.Native.Nat.{ℕ, zero, suc, _+_, _-_, _≤_, _<_}
 use native.Mathlib.Nat.{add-zero, zero-add, add-suc, suc-add, add-assoc}
 use native.Mathlib.Numerals.{add-one}
 use native.Mathlib.Omega.{arith}
@@ -57,6 +57,34 @@ part-part v a w at r s e =
     ∙ ap (take v) (drop-take a (v + r) (drop at s))
     ∙ take-take v (v + r) (drop a (drop at s)) (omega arith)
     ∙ ap (take v) (drop-drop a at s)
+
+-- a part of the front, or of what is left
+part-front : (v a k : ℕ) (s : List ℕ) → a + v ≤ k → part v a (take k s) ≡ part v a s
+part-front v a k s h = part-part v a k 0 (k - (a + v)) s (omega arith) ∙ ap (λ (m : ℕ). part v m s) (zero-add a)
+
+part-back : (v a k : ℕ) (s : List ℕ) → k ≤ a → part v (a - k) (drop k s) ≡ part v a s
+part-back v a k s h =
+    let whole : k + (a - k) ≡ a = omega arith in
+    ap (take v) (drop-drop (a - k) k s) ∙ ap (λ (m : ℕ). part v m s) whole
+
+-- a part that is lent, from i to e, and comes back with other elements is a run of stores
+pub part-put : (vs l : List ℕ) (i e : ℕ) → i + length vs ≡ e → e ≤ length l → take i l ++ (vs ++ drop (e - i) (drop i l)) ≡ sets l i vs
+part-put vs l i e n h =
+    let whole : i + (e - i) ≡ i + length vs = omega arith in
+    ap (λ (t : List ℕ). take i l ++ (vs ++ t)) (drop-drop (e - i) i l ∙ ap (λ (k : ℕ). drop k l) whole)
+    ∙ sym (sets-eq vs l i (omega arith) ∙ append-assoc (take i l) vs (drop (i + length vs) l))
+
+-- a run of stores leaves the parts before it and after it
+module _ (vs l : List ℕ) (i : ℕ) (h : i + length vs ≤ length l) (v a : ℕ) where
+  pub part-before : a + v ≤ i → part v a (sets l i vs) ≡ part v a l
+  part-before k =
+      sym (part-front v a i (sets l i vs) k) ∙ ap (part v a) (sets-before vs l i h) ∙ part-front v a i l k
+
+  pub part-after : i + length vs ≤ a → part v a (sets l i vs) ≡ part v a l
+  part-after k =
+      sym (part-back v a (i + length vs) (sets l i vs) k)
+      ∙ ap (part v (a - (i + length vs))) (sets-after vs l i h)
+      ∙ part-back v a (i + length vs) l k
 
 -- filling a list from the front with another's elements
 pub filled-more : (s d : List ℕ) (i : ℕ) → i < length s → i < length d

@@ -2,3 +2,4 @@ pub mod Number
 pub mod Text
 pub mod UpTo
 pub mod Search
+pub mod Rows

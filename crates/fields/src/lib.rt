@@ -12,6 +12,8 @@ pub use number::u32_at;
 pub use number::u64_at;
 pub use search::Found;
 pub use search::found_or;
+pub use search::is_found;
+pub use search::number_of;
 pub use text::copy;
 pub use text::same_bytes;
 pub use text::unpadded;

@@ -1,6 +1,6 @@
 // What a search finds: the first number that passes a test.
 ghost use mathlib.Core.Path.{_≡_};
-ghost use Rattle.fields.specs.Search.{foundOr};
+ghost use Rattle.fields.specs.Search.{isFound, numberOf, foundOr};
 
 pub enum Found {
     At(usize),
@@ -19,5 +19,24 @@ pub fn found_or(found: Found, n: usize, passes: bool) -> Found
             }
             Found::Nothing
         }
+    }
+}
+
+pub fn is_found(found: Found) -> bool
+    ensures { λ r. ⌜ r ≡ isFound found ⌝ }
+{
+    match found {
+        Found::At(_) => true,
+        Found::Nothing => false,
+    }
+}
+
+// The number found, 0 where nothing was.
+pub fn number_of(found: Found) -> usize
+    ensures { λ r. ⌜ r ≡ numberOf found ⌝ }
+{
+    match found {
+        Found::At(i) => i,
+        Found::Nothing => 0,
     }
 }

@@ -1,2 +1,3 @@
 pub mod Laws
 pub mod Ending
+pub mod Answers

@@ -1,4 +1,6 @@
 // A report of 12 bytes: writing report n into a lent buffer, and reading it. A caller sees to it that it lies within the buffer.
+pub mod answer;
+
 ghost use mathlib.Core.Path.{_≡_};
 ghost use Prim.Native.Nat.{_+_, _*_, _≤_};
 ghost use lib.ListN.{length};
