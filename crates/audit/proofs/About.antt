@@ -13,7 +13,7 @@ use Rattle.report.specs.declared.Report.{Report}
 use Rattle.report.proofs.Ending.{ending-other-order, endings-without}
 use Rattle.rules.specs.Book.{noOrder, orderOf, coverOf}
 use Rattle.rules.specs.Status.{withStatus}
-use Rattle.rules.specs.Cover.{moved, transferred}
+use Rattle.rules.specs.Cover.{Enough, moved, transferred}
 use Rattle.rules.specs.Terms.{termsOf, namesOrder}
 use Rattle.rules.specs.declared.decision.Transfer.{Transfer}
 use Rattle.rules.specs.declared.Status.{Status}
@@ -21,7 +21,7 @@ use Rattle.rules.specs.declared.Order.{Order}
 use Rattle.rules.specs.declared.Cover.{Cover}
 use Rattle.rules.specs.declared.Book.{Book}
 use Rattle.rules.proofs.Same.{same-or-not}
-use Rattle.rules.proofs.Moving.{Enough, gain, loss, onlyFor, Fitted, fitted, transfer-fitted, transfer-whole, transfer-leaves}
+use Rattle.rules.proofs.Moving.{gain, loss, onlyFor, Fitted, fitted, transfer-fitted, transfer-whole, transfer-leaves}
 use Rattle.rules.proofs.Accepting as accepting
 use Rattle.audit.specs.History.{History, size}
 use Rattle.audit.specs.Sums.{goesOut, comesIn}

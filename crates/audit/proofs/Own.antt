@@ -12,7 +12,6 @@ use Rattle.fields.specs.Text.{same, unpadded}
 use Rattle.ticket.specs.Layout.{kindByte, amountOf, senderOf}
 use Rattle.ticket.specs.Kind.{kindNumber}
 use Rattle.ticket.specs.declared.Fields.{Fields}
-use Rattle.ticket.specs.declared.kinds.Kind.the-variants as kind
 use Rattle.ticket.proofs.Telling.{Tells, tells-bytes}
 use Rattle.report.specs.Ending.{endingsIn}
 use Rattle.report.specs.declared.Report.{Report}
@@ -21,7 +20,7 @@ use Rattle.dayfile.specs.Roster.{participantOf}
 use Rattle.dayfile.specs.declared.roster.Roster.{Roster}
 use Rattle.rules.specs.Book.{noOrder, orderOf, coverOf}
 use Rattle.rules.specs.Status.{isWaiting}
-use Rattle.rules.specs.Cover.{moved, transferred, whole}
+use Rattle.rules.specs.Cover.{Enough, moved, transferred, whole}
 use Rattle.rules.specs.Find.{finding}
 use Rattle.rules.specs.Terms.{termsOf, namesSender}
 use Rattle.rules.specs.Decision.{orderKept, decisionOf, applied, toldBy}
@@ -31,7 +30,7 @@ use Rattle.rules.specs.declared.decision.Told.{Told}
 use Rattle.rules.specs.declared.Order.{Order}
 use Rattle.rules.specs.declared.Cover.{Cover}
 use Rattle.rules.specs.declared.Book.{Book}
-use Rattle.rules.proofs.Moving.{Enough, gain, loss, onlyFor, Fitted, fitted, set-here, set-there, nobody-moves, transfer-whole, transfer-leaves}
+use Rattle.rules.proofs.Moving.{gain, loss, onlyFor, Fitted, fitted, set-here, set-there, nobody-moves, transfer-whole, transfer-leaves}
 use Rattle.rules.proofs.Same.{same-or-not}
 use Rattle.rules.proofs.Refusing.{NoRefusal}
 use Rattle.rules.proofs.Accepting as accepting

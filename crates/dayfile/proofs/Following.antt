@@ -87,3 +87,11 @@ module _ (routes : List Route) (row : ℕ) (h : row < 64) where
   -- or from none
   pub follows-none : (k : ℕ) → rowOf routes row .target ≡ Row k → row ≤ k → followed routes row ≡ Nowhere
   follows-none k e l = followed-on routes row h ∙ ap (leads (followed routes) row) e ∙ simp (le-ltb k row l)
+
+pub rows-few : (routes : List Route) (row : ℕ) → rowsFollowed (followed routes row) ≤ 64
+unfolding followed
+rows-few routes row = go (ltb row 64) refl
+  where
+    go : (b : Bool) → ltb row 64 ≡ b → rowsFollowed (cond b (followTo (suc row) routes row) Nowhere) ≤ 64
+    go true a = let h = ltb-true row 64 a in let r = to-rows (suc row) routes row in omega arith
+    go false a = omega arith

@@ -1,4 +1,3 @@
-pub mod Places
 pub mod Following
 pub mod Passing
 pub mod RowTelling

@@ -14,7 +14,7 @@ use Rattle.dayfile.specs.Guarantee.{Guaranteed}
 use Rattle.dayfile.specs.declared.roster.Roster.{Roster}
 use Rattle.rules.specs.Book.{mostOrders, noOrder, noCover, unusedOrder, orderOf, coverOf, withCovers, freshBook}
 use Rattle.rules.specs.Status.{isWaiting, withStatus}
-use Rattle.rules.specs.Cover.{transferred, whole, totalOf, total, mostTotal}
+use Rattle.rules.specs.Cover.{Enough, transferred, whole, totalOf, total, mostTotal}
 use Rattle.rules.specs.Tick.{atTime, freed}
 use Rattle.rules.specs.Decision.{by}
 use Rattle.rules.specs.Sound.{waitingAmount, waitingSum, CoversSound, Sound}
@@ -24,7 +24,7 @@ use Rattle.rules.specs.declared.Status.{Status}
 use Rattle.rules.specs.declared.Order.{Order}
 use Rattle.rules.specs.declared.Cover.{Cover}
 use Rattle.rules.specs.declared.Book.{Book}
-use Rattle.rules.proofs.Moving.{Enough, fitted, bound, unbound, gain, onlyFor, for-none, transfer-keeps, transfer-total}
+use Rattle.rules.proofs.Moving.{fitted, bound, unbound, gain, onlyFor, for-none, transfer-keeps, transfer-total}
 use Rattle.rules.proofs.Orders.{NewOrder, orders-later, status-keeps, sum-ended, order-keeps, sum-new, sum-holds}
 
 -- a fresh book

@@ -13,7 +13,7 @@ use lib.Seq.{getD-set-same, getD-set-other, set-getD}
 use Rattle.fields.proofs.UpTo.{sum-change}
 use Rattle.dayfile.specs.Limits.{mostParticipants}
 use Rattle.rules.specs.Book.{noCover, coverOf}
-use Rattle.rules.specs.Cover.{moved, transferred, whole, totalOf}
+use Rattle.rules.specs.Cover.{moved, Enough, transferred, whole, totalOf}
 use Rattle.rules.specs.Decision.{nobody}
 use Rattle.rules.specs.Sound.{CoversSound}
 use Rattle.rules.specs.declared.decision.Move.{Move}
@@ -21,17 +21,6 @@ use Rattle.rules.specs.declared.decision.Move.the-variants.{Stay, Give, 
 use Rattle.rules.specs.declared.decision.Transfer.{Transfer}
 use Rattle.rules.specs.declared.Cover.{Cover}
 use Rattle.rules.proofs.Same.{same-or-not}
-
--- there is as much as the move takes
-abbrev pub Enough : Move → ℕ → Cover → Type 0
-Enough Stay n c = Unit {0}
-Enough Give n c = Unit {0}
-Enough Draw n c = n ≤ c .available
-Enough Reserve n c = n ≤ c .available
-Enough Release n c = n ≤ c .reserved
-Enough Spend n c = n ≤ c .reserved
-Enough Credit n c = Unit {0}
-Enough Debit n c = Unit {0}
 
 -- what comes in, and what goes out
 abbrev pub gain : Move → ℕ → ℕ

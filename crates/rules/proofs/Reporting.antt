@@ -8,6 +8,7 @@ use lib.Dec.{ltb}
 use lib.ListN.{length, length-append}
 use Rattle.fields.specs.Search.{numberOf}
 use Rattle.ticket.specs.Form.{mostOrder}
+use Rattle.ticket.specs.declared.Fields.{Fields}
 use Rattle.ticket.specs.declared.kinds.Kind.{Kind}
 use Rattle.ticket.specs.declared.kinds.Kind.the-variants as kind
 use Rattle.ticket.proofs.Telling.{Tells}
@@ -24,7 +25,7 @@ use Rattle.rules.specs.Tick.{Step, due, expireTold, sweepTo, atTime, tic
 use Rattle.rules.specs.Find.{finding}
 use Rattle.rules.specs.Cut.{cutReport, cutReportsTo}
 use Rattle.rules.specs.Decision.{toPayer, toPayee, settledTold, settledAnswer, answerOf, decisionOf, toldBy}
-use Rattle.rules.specs.Step.{handed, outcome}
+use Rattle.rules.specs.Step.{stepOf, handed, outcome}
 use Rattle.rules.specs.Sound.{Sound}
 use Rattle.rules.specs.declared.finding.Finding.{Finding}
 use Rattle.rules.specs.declared.decision.Told.the-variants.{One, Two}
@@ -40,7 +41,7 @@ use Rattle.rules.proofs.Accepting.{fieldsOf}
 use Rattle.rules.proofs.Accepting as accepting
 use Rattle.rules.proofs.Keeping.{later-sound}
 use Rattle.rules.proofs.Sweeping.{Swept, swept, ticked}
-use Rattle.rules.proofs.Courses.{handed-goes}
+use Rattle.rules.proofs.Courses.{step-goes, handed-goes}
 
 -- reports that fit, and at most so many of them
 pub record Few (n : ℕ) (rs : List Report) : Type 0 where
@@ -77,7 +78,7 @@ module _ (b : Book) (s : Sound b) where
   fit-cut p code n h c l = record { to = let x = participant-below b s p h in omega arith; code = omega arith; order = omega arith; amount = l }
 
 -- the expiries: two for each order
-swept-few : (b : Book) → Sound b → (i : ℕ) → i ≤ b .count → Few (i + i) (sweepTo b i .reports)
+pub swept-few : (b : Book) → Sound b → (i : ℕ) → i ≤ b .count → Few (i + i) (sweepTo b i .reports)
 swept-few b s zero h = few-none 0
 swept-few b s (suc i) h = go (swept b s i (omega arith)) (swept-few b s i (omega arith)) (due (w .book .clock) o (isBank (w .book .roster) (o .payee)))
   where
@@ -119,7 +120,7 @@ module _ (b : Book) (s : Sound b) where
       go false true = few-one 0 _ (fit-cut b s p 10 (k - a) h (omega arith) (omega arith))
       go false false = few-none 1
 
-  cut-few : (p : ℕ) → p ≤ b .roster .size → Few p (cutReportsTo (b .roster) (b .covers) p)
+  pub cut-few : (p : ℕ) → p ≤ b .roster .size → Few p (cutReportsTo (b .roster) (b .covers) p)
   cut-few zero h = few-none 0
   cut-few (suc p) h =
       few-more (p + 1) (suc p) _ (omega arith)
@@ -190,15 +191,21 @@ module _ (b : Book) (s : Sound b) where
     own-few kind.Tick tells r = few-none 32
 
 -- a step's reports fit, and are at most as many as the buffer of refusal 6 holds
-pub handed-few : (b : Book) → Sound b → (t buffer : List ℕ) → Few 544 (handed b t buffer .reports)
-handed-few b s t buffer =
-    handed-goes b t (λ (w : Step). Few 544 (w .reports))
-    (λ n low high. few-none 544)
-    (λ f tells l n low high. few-more 512 544 _ (omega arith) (ticked-few b s (f .time) l))
-    (λ f tells l none.
-    few-append 512 32 (tick b (f .time) .reports) _ (ticked-few b s (f .time) l)
-    (own-few (tick b (f .time) .book) (ticked b s (f .time) l .sound) (f .amount) (f .time) t (f .kind) tells none))
-    buffer
+module _ (b : Book) (s : Sound b) (t : List ℕ) where
+  refused-few : (f : Fields) → Tells t f → b .clock ≤ f .time → (n : ℕ) → 12 ≤ n → n ≤ 22 → Few 544 (tick b (f .time) .reports)
+  refused-few f tells l n low high = few-more 512 544 _ (omega arith) (ticked-few b s (f .time) l)
+
+  taken-few : (f : Fields) → Tells t f → b .clock ≤ f .time → NoRefusal (finding (tick b (f .time) .book) f t)
+      → Few 544 (tick b (f .time) .reports ++ toldBy (tick b (f .time) .book) (decisionOf (finding (tick b (f .time) .book) f t)))
+  taken-few f tells l none =
+      few-append 512 32 (tick b (f .time) .reports) _ (ticked-few b s (f .time) l)
+      (own-few (tick b (f .time) .book) (ticked b s (f .time) l .sound) (f .amount) (f .time) t (f .kind) tells none)
+
+  pub step-few : Few 544 (stepOf b t .reports)
+  step-few = step-goes b t (λ (w : Step). Few 544 (w .reports)) (λ n low high. few-none 544) refused-few taken-few
+
+  pub handed-few : (buffer : List ℕ) → Few 544 (handed b t buffer .reports)
+  handed-few = handed-goes b t (λ (w : Step). Few 544 (w .reports)) (λ n low high. few-none 544) refused-few taken-few
 
 -- the buffer reads back: the reports read from it are the step's
 pub buffer-reads-back : (b : Book) → Sound b → (t buffer : List ℕ)

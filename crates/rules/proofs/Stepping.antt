@@ -21,7 +21,7 @@ use Rattle.rules.specs.Tick.{Step, tick}
 use Rattle.rules.specs.Find.{isOpen, anyOpen, finding}
 use Rattle.rules.specs.Cut.{cutTo}
 use Rattle.rules.specs.Decision.{by, nobody, orderKept, newOrder, confirmMove, decisionOf, applied}
-use Rattle.rules.specs.Step.{handed}
+use Rattle.rules.specs.Step.{stepOf, handed}
 use Rattle.rules.specs.Sound.{Sound}
 use Rattle.rules.specs.declared.decision.Move.the-variants.{Give, Draw, Credit, Debit}
 use Rattle.rules.specs.declared.decision.Transfer.{Transfer}
@@ -39,7 +39,7 @@ use Rattle.rules.proofs.Refusing.{NoRefusal}
 use Rattle.rules.proofs.Accepting.{fieldsOf}
 use Rattle.rules.proofs.Accepting as accepting
 use Rattle.rules.proofs.Sweeping.{ticked}
-use Rattle.rules.proofs.Courses.{handed-goes}
+use Rattle.rules.proofs.Courses.{step-goes, handed-goes}
 
 -- an order that is ready for a recall, or for a return or a decline, does not wait
 pub unmarked-not-waiting : (s : Status) → isUnmarked s ≡ true → isWaiting s ≡ false
@@ -156,13 +156,22 @@ module _ (b : Book) (s : Sound b) (n time : ℕ) (t : List ℕ) where
       (confirm-sound (accepting.senderNumber b f t) (accepting.sender-found b f t (r .r12) refl .below) (λ z. accepting.limit-kept b f t (r .r22) z))
   own-sound kind.Tick tells r = rw (same-applied b (fieldsOf kind.Tick time n) t Told.Nobody) s
 
-pub handed-sound : (b : Book) → Sound b → (t buffer : List ℕ) → Sound (handed b t buffer .book)
-handed-sound b s t buffer =
-    handed-goes b t (λ (w : Step). Sound (w .book))
-    (λ n low high. s)
-    (λ f tells l n low high. ticked b s (f .time) l .sound)
-    (λ f tells l none. own-sound (tick b (f .time) .book) (ticked b s (f .time) l .sound) (f .amount) (f .time) t (f .kind) tells none)
-    buffer
+module _ (b : Book) (s : Sound b) (t : List ℕ) where
+  turned-sound : (n : ℕ) → 6 ≤ n → n ≤ 11 → Sound b
+  turned-sound n low high = s
+
+  refused-sound : (f : Fields) → Tells t f → b .clock ≤ f .time → (n : ℕ) → 12 ≤ n → n ≤ 22 → Sound (tick b (f .time) .book)
+  refused-sound f tells l n low high = ticked b s (f .time) l .sound
+
+  taken-sound : (f : Fields) → Tells t f → b .clock ≤ f .time → NoRefusal (finding (tick b (f .time) .book) f t)
+      → Sound (applied (tick b (f .time) .book) (decisionOf (finding (tick b (f .time) .book) f t)))
+  taken-sound f tells l none = own-sound (tick b (f .time) .book) (ticked b s (f .time) l .sound) (f .amount) (f .time) t (f .kind) tells none
+
+  pub step-sound : Sound (stepOf b t .book)
+  step-sound = step-goes b t (λ (w : Step). Sound (w .book)) turned-sound refused-sound taken-sound
+
+  pub handed-sound : (buffer : List ℕ) → Sound (handed b t buffer .book)
+  handed-sound = handed-goes b t (λ (w : Step). Sound (w .book)) turned-sound refused-sound taken-sound
 
 -- the fresh book of any day file, refused ones included
 pub file-sound : (file : List ℕ) → Sound (bookOf file)

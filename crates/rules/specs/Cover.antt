@@ -1,10 +1,11 @@
 -- How a participant's cover moves, and all cover together.
 --     moved         what each move makes of a cover
+--     Enough        what each takes is there
 --     transferred   one participant's cover moves
 --     whole         available, reserved and held
 --     total         those of all participants
 -- Assumes nothing.
-use Prim.Native.Nat.{ℕ, _+_, _-_}
+use Prim.Native.Nat.{ℕ, _+_, _-_, _≤_}
 use mathlib.Core.List.{List}
 use lib.ListN.{set}
 use Rattle.fields.specs.UpTo.{sumTo}
@@ -29,6 +30,17 @@ moved Spend n c = record { available = c .available; reserved = c .reserved - n;
 moved Credit n c = record { available = c .available; reserved = c .reserved; held = 0; debit = c .debit }
 -- a confirmed debit: the amount joins available and the open debit becomes 0
 moved Debit n c = record { available = c .available + n; reserved = c .reserved; held = c .held; debit = 0 }
+
+-- there is as much as the move takes
+abbrev pub Enough : Move → ℕ → Cover → Type 0
+Enough Stay n c = Unit {0}
+Enough Give n c = Unit {0}
+Enough Draw n c = n ≤ c .available
+Enough Reserve n c = n ≤ c .available
+Enough Release n c = n ≤ c .reserved
+Enough Spend n c = n ≤ c .reserved
+Enough Credit n c = Unit {0}
+Enough Debit n c = Unit {0}
 
 abbrev pub transferred : Transfer → List Cover → List Cover
 transferred m cs = set cs (m .who) (moved (m .how) (m .amount) (coverOf cs (m .who)))

@@ -9,5 +9,6 @@ pub mod Refusal
 pub mod Cut
 pub mod Decision
 pub mod Step
+pub mod Taken
 pub mod Program
 pub mod Sound

@@ -21,7 +21,7 @@ pub struct Transfer {
     pub amount: u64,
 }
 
-// The reports of a step, but for a cut's.
+// The reports of a step, or those of a cut to one participant: at most two.
 pub enum Told {
     Nobody,
     One(Report),

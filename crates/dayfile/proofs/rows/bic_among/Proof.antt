@@ -6,7 +6,7 @@ use native.Mathlib.Omega.{arith}
 use denote.Ref.{now}
 use Rattle.fields.specs.Number.{part}
 use Rattle.dayfile.specs.Rows.{bicAmong}
-use Rattle.dayfile.proofs.Places.{row-within}
+use Rattle.fields.proofs.Indexing.{row-within}
 use borrow.Author.Needs.{needs}
 use Rattle.dayfile.proofs.rows.bic_among.Statement.{statement}
 use Rattle.dayfile.proofs.rows.bic_among.Tie as tie
