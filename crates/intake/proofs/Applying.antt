@@ -1,0 +1,120 @@
+-- What applying a decision leaves: below the mark still no order waits for a bank, and the orders in use keep their TxIds.
+-- Assumes nothing.
+use mathlib.Core.Path.{_≡_, refl, sym, _∙_, ap}
+use mathlib.Core.Bool.{Bool, true, false, _&&_}
+use mathlib.Core.List.{List, [], _++_}
+use mathlib.Core.Logic.{_⊎_, inl, inr, ⊎-elim}
+use Prim.Native.Nat.{ℕ, _+_, _*_, _≤_, _<_}
+use native.Mathlib.Omega.{arith}
+use lib.ListN.{length, set}
+use lib.Seq.{sets, getD-set-same, getD-set-other}
+use Rattle.fields.specs.Rows.{Indexed, Keyed}
+use Rattle.fields.proofs.Indexing.{put-indexed-at, put-keyed-at}
+use Rattle.rules.specs.Book.{mostOrders, noOrder, orderOf, isBank}
+use Rattle.rules.specs.Status.{isWaiting}
+use Rattle.rules.specs.Cover.{transferred}
+use Rattle.rules.specs.Tell.{listed}
+use Rattle.rules.specs.Cut.{cutTo, cutReportsTo}
+use Rattle.rules.specs.Decision.{coversAfter, applied, toldBy}
+use Rattle.rules.specs.declared.decision.Transfer.{Transfer}
+use Rattle.rules.specs.declared.decision.Told.{Told}
+use Rattle.rules.specs.declared.decision.Told.the-variants.{Nobody, One, Two}
+use Rattle.rules.specs.declared.decision.Decision.{Decision}
+use Rattle.rules.specs.declared.Order.{Order}
+use Rattle.rules.specs.declared.Cover.{Cover}
+use Rattle.rules.specs.declared.Book.{Book}
+use Rattle.rules.proofs.Same.{same-or-not}
+use Rattle.rules.proofs.Moving.{nobody-moves}
+use Rattle.intake.specs.Room.{Applicable}
+use Rattle.intake.specs.Expiry.{Passed}
+
+module _ (b : Book) (d : Decision) (fits : Applicable b d) (long : length (b .orders) ≡ mostOrders) where
+  written : orderOf (applied b d .orders) (d .number) ≡ d .order
+  written = getD-set-same (b .orders) (d .number) (d .order) noOrder (rw long (fits .number))
+
+  others : (i : ℕ) → (i ≡ d .number → ⊥) → orderOf (applied b d .orders) i ≡ orderOf (b .orders) i
+  others i n = getD-set-other (b .orders) (d .number) i (d .order) noOrder n
+
+  pub passed-applied : (m : ℕ) → m ≤ b .count → Passed m b → Passed m (applied b d)
+  passed-applied m h p =
+      record {
+        none = λ i l.
+            ⊎-elim
+            (λ (e : i ≡ d .number). rw (e, written) (this (d .order) refl (rw e at l)))
+            (λ (k : i ≡ d .number → ⊥). rw (others i k) (p .none i l))
+            (same-or-not i (d .number));
+      }
+    where
+      -- the order written waits only if it is the one that was there
+      this : (o : Order) → d .order ≡ o → d .number < m → (isWaiting (o .status) && isBank (b .roster) (o .payee)) ≡ false
+      this o e l = go (isWaiting (o .status)) refl
+        where
+          go : (w : Bool) → isWaiting (o .status) ≡ w → (w && isBank (b .roster) (o .payee)) ≡ false
+          go true q =
+              let same : o ≡ orderOf (b .orders) (d .number) = sym e ∙ fits .waits (omega arith) (rw (← e) at q) in
+              let was = p .none (d .number) l in
+              let waits : isWaiting (orderOf (b .orders) (d .number) .status) ≡ true = rw same at q in
+              rw same (rw waits at was)
+          go false q = refl
+
+  in-use : (i : ℕ) → i < d .count → (i ≡ d .number → ⊥) → i < b .count
+  in-use i l differs = go (fits .count)
+    where
+      go : (d .count ≡ b .count) ⊎ ((d .number ≡ b .count) × (d .count ≡ b .count + 1)) → i < b .count
+      go (inl e) = omega arith
+      go (inr e) = omega arith
+
+  -- the TxIds of the orders in use, with the row and the key of the order that is written
+  pub indexed-applied : {rows : List ℕ} → Indexed 35 (λ i. orderOf (b .orders) i .txid) (b .count) rows → 35 * d .number + 35 ≤ length rows
+      → Indexed 35 (λ i. orderOf (applied b d .orders) i .txid) (d .count) (sets rows (35 * d .number) (d .order .txid))
+  indexed-applied {rows} h room =
+      put-indexed-at rows 35 (d .number) (d .order .txid) (fits .txid) room (λ i. orderOf (applied b d .orders) i .txid) (d .count)
+      (ap (λ (o : Order). o .txid) written)
+      (λ i l differs. h .row i (in-use i l differs) ∙ sym (ap (λ (o : Order). o .txid) (others i differs)))
+
+  pub keyed-applied : {keyOf : List ℕ → ℕ} {keys : List ℕ} → Keyed keyOf (λ i. orderOf (b .orders) i .txid) (b .count) keys → d .number < length keys
+      → Keyed keyOf (λ i. orderOf (applied b d .orders) i .txid) (d .count) (set keys (d .number) (keyOf (d .order .txid)))
+  keyed-applied {keyOf} {keys} h room =
+      put-keyed-at keys (d .number) (keyOf (d .order .txid)) room (λ i. orderOf (applied b d .orders) i .txid) (d .count)
+      (ap (λ (o : Order). keyOf (o .txid)) (sym written))
+      (λ i l differs. h .key i (in-use i l differs) ∙ ap (λ (o : Order). keyOf (o .txid)) (sym (others i differs)))
+
+-- the covers after both moves; a cut comes after them, and tells by what it finds
+module _ (b : Book) (d : Decision) (fits : Applicable b d) where
+  abbrev pub covers : List Cover
+  covers = transferred (d .second) (transferred (d .first) (b .covers))
+
+  pub covers-uncut : d .cuts ≡ false → coversAfter b d ≡ covers
+  covers-uncut e = rw e
+
+  pub covers-cut : d .cuts ≡ true → coversAfter b d ≡ cutTo (b .roster) covers (b .roster .size)
+  covers-cut e = rw e
+
+  pub told-uncut : d .cuts ≡ false → toldBy b d ≡ listed (d .told)
+  told-uncut e = rw e
+
+  -- where it cuts, no cover moved before
+  pub covers-kept : d .cuts ≡ true → b .covers ≡ covers
+  covers-kept e =
+      let alone = fits .cuts e in
+      sym (nobody-moves (b .covers))
+      ∙ ap (λ (m : Transfer). transferred m (b .covers)) (sym (alone .0))
+      ∙ sym (nobody-moves (transferred (d .first) (b .covers)))
+      ∙ ap (λ (m : Transfer). transferred m (transferred (d .first) (b .covers))) (sym (alone .1))
+
+  pub told-cut : d .cuts ≡ true → toldBy b d ≡ listed (d .told) ++ cutReportsTo (b .roster) covers (b .roster .size)
+  told-cut e =
+      rw e (ap (λ (cs : List Cover). cutReportsTo (b .roster) cs (b .roster .size)) (covers-kept e)
+      ∙ ap (λ (told : Told). listed told ++ cutReportsTo (b .roster) covers (b .roster .size)) (sym (fits .cuts e .2)))
+
+  -- as many orders as before, or one more
+  pub count-grows : b .count ≤ d .count
+  count-grows = ⊎-elim (λ (e : d .count ≡ b .count). omega arith) (λ (e : (d .number ≡ b .count) × (d .count ≡ b .count + 1)). let q = e .1 in omega arith) (fits .count)
+
+  pub silent-cut : d .cuts ≡ true → listed (d .told) ≡ []
+  silent-cut e = ap listed (fits .cuts e .2)
+
+pub listed-few : (told : Told) → length (listed told) ≤ 2
+listed-few Nobody = omega arith
+listed-few (One r) = omega arith
+listed-few (Two r q) = omega arith

@@ -1,0 +1,9 @@
+pub mod Taking
+pub mod Sweeping
+pub mod Fitting
+pub mod Applying
+pub mod Running
+pub mod Looping
+pub mod Turning
+pub mod Printing
+pub mod Seeking

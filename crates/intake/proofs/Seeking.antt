@@ -1,0 +1,129 @@
+-- What the code finds is what is sought: by rows of an index, and field by field. Assumes nothing.
+use mathlib.Core.Path.{_≡_, refl, _∙_, ap}
+use mathlib.Core.Bool.{Bool, true, false, cond}
+use mathlib.Core.List.{List}
+use mathlib.Core.Logic.{_⊎_, ⊎-elim}
+use Prim.Native.Nat.{ℕ, zero, suc, _≤_, _<_}
+use native.Mathlib.Omega.{arith}
+use lib.ListN.{length}
+use lib.Seq.{getD-set-same, getD-set-other}
+use Rattle.fields.specs.Search.{numberOf}
+use Rattle.fields.specs.UpTo.{anyTo}
+use Rattle.fields.specs.Rows.{firstRow, Indexed}
+use Rattle.fields.specs.declared.search.Found.{Found}
+use Rattle.fields.proofs.Indexing.{found-indexed}
+use Rattle.ticket.specs.Layout.{senderOf, payeeOf, txidField}
+use Rattle.dayfile.specs.Roster.{participantIn}
+use Rattle.dayfile.specs.Route.{rowWith, followedBic}
+use Rattle.dayfile.specs.declared.roster.Roster.{Roster}
+use Rattle.dayfile.specs.declared.route.Followed.{Followed}
+use Rattle.rules.specs.Book.{noOrder, orderOf, coverOf, isBank}
+use Rattle.rules.specs.Cover.{totalOf, total}
+use Rattle.rules.specs.Find.{senderIn, orderIn, routeIn, wayIn, isOpen, anyOpen}
+use Rattle.rules.specs.Tick.{due, sweepTo}
+use Rattle.rules.specs.Sound.{Sound}
+use Rattle.rules.specs.declared.finding.Finding.{Finding}
+use Rattle.rules.specs.declared.Order.{Order}
+use Rattle.rules.specs.declared.Book.{Book}
+use Rattle.rules.proofs.Same.{same-or-not}
+use Rattle.rules.proofs.Sweeping.{swept}
+use Rattle.intake.specs.Expiry.{expires, stays, expiryIn}
+use Rattle.intake.specs.Seeking.{soughtSender, soughtOrder, sought}
+use Rattle.intake.specs.declared.Entry.{Entry}
+use Rattle.intake.proofs.Sweeping.{sweep-book}
+
+-- the index has what is found in the book
+pub sender-row : {rows : List ℕ} (r : Roster) → Indexed 11 (λ p. participantIn (r .participants) p .bic) (r .size) rows → (t : List ℕ)
+    → firstRow 11 (r .size) (senderOf t) rows ≡ senderIn r t
+unfolding senderIn
+sender-row r h t = found-indexed h (senderOf t)
+
+pub order-row : {rows : List ℕ} (os : List Order) (count : ℕ) → Indexed 35 (λ i. orderOf os i .txid) count rows → (t : List ℕ)
+    → firstRow 35 count (txidField t) rows ≡ orderIn os count t
+unfolding orderIn
+order-row os count h t = found-indexed h (txidField t)
+
+pub route-row : (r : Roster) (t : List ℕ) → rowWith r (payeeOf t) ≡ routeIn r t
+unfolding routeIn
+route-row r t = refl
+
+pub way-end : (r : Roster) (t : List ℕ) → followedBic r (payeeOf t) ≡ wayIn r t
+unfolding wayIn
+way-end r t = refl
+
+pub open-sum : (b : Book) → anyTo (λ p. isOpen (coverOf (b .covers) p)) (b .roster .size) ≡ anyOpen b
+unfolding anyOpen
+open-sum b = refl
+
+pub total-sum : (b : Book) → totalOf (b .roster .size) (b .covers) ≡ total b
+unfolding total
+total-sum b = refl
+
+-- an expiry leaves the order's TxId
+expired-txid : (b : Book) (i : ℕ) → expiryIn b i .order .txid ≡ orderOf (b .orders) i .txid
+expired-txid b i = go (due (b .clock) o (isBank (b .roster) (o .payee)))
+  where
+    o : Order
+    o = orderOf (b .orders) i
+
+    go : (d : Bool) → cond d (expires i o) (stays o) .order .txid ≡ o .txid
+    go true = refl
+    go false = refl
+
+-- and so do all
+pub swept-txid : (b : Book) → Sound b → (m : ℕ) → m ≤ b .count → (i : ℕ) → orderOf (sweepTo b m .book .orders) i .txid ≡ orderOf (b .orders) i .txid
+swept-txid b s zero h i = refl
+swept-txid b s (suc m) h i =
+    ap (λ (w : Book). orderOf (w .orders) i .txid) (sweep-book (sweepTo b m) m)
+    ∙ ⊎-elim
+    (λ (e : i ≡ m). rw e (ap (λ (o : Order). o .txid) (getD-set-same (c .orders) m (expiryIn c m .order) noOrder long) ∙ expired-txid c m))
+    (λ (k : i ≡ m → ⊥). ap (λ (o : Order). o .txid) (getD-set-other (c .orders) m i (expiryIn c m .order) noOrder k))
+    (same-or-not i m)
+    ∙ swept-txid b s m (omega arith) i
+  where
+    c : Book
+    c = sweepTo b m .book
+
+    long : m < length (c .orders)
+    long = let w = swept b s m (omega arith) in rw (w .sound .orders .long) (let l = s .orders .count in omega arith)
+
+module _ (c : Book) (e : Entry) (t : List ℕ) where
+  -- the finding, field by field
+  pub made : (txid : List ℕ) (sender order : Found) (p i : ℕ) (bank : Bool) (route : Found) (way : Followed) (unconfirmed : Bool) (total : ℕ)
+      → txid ≡ txidField t → sender ≡ soughtSender c e t → order ≡ soughtOrder c e t → p ≡ numberOf sender → i ≡ numberOf order
+      → bank ≡ isBank (c .roster) (orderOf (c .orders) i .payee) → route ≡ sought c e t .route → way ≡ sought c e t .way
+      → unconfirmed ≡ sought c e t .unconfirmed → total ≡ sought c e t .total
+      → _≡_ {A = Finding}
+      (record {
+        kind = e .kind;
+        amount = e .amount;
+        clock = c .clock;
+        txid = txid;
+        sender = sender;
+        cover = coverOf (c .covers) p;
+        order = order;
+        about = orderOf (c .orders) i;
+        bank = bank;
+        route = route;
+        way = way;
+        count = c .count;
+        unconfirmed = unconfirmed;
+        total = total;
+      }) (sought c e t)
+  made txid sender order p i bank route way unconfirmed total is-txid is-sender is-order is-p is-i is-bank is-route is-way is-open is-total =
+      λ j. record {
+        kind = e .kind;
+        amount = e .amount;
+        clock = c .clock;
+        txid = is-txid j;
+        sender = is-sender j;
+        cover = (ap (coverOf (c .covers)) (is-p ∙ ap numberOf is-sender)) j;
+        order = is-order j;
+        about = (ap (orderOf (c .orders)) (is-i ∙ ap numberOf is-order)) j;
+        bank = (is-bank ∙ ap (λ (k : ℕ). isBank (c .roster) (orderOf (c .orders) k .payee)) (is-i ∙ ap numberOf is-order)) j;
+        route = is-route j;
+        way = is-way j;
+        count = c .count;
+        unconfirmed = is-open j;
+        total = is-total j;
+      }

@@ -1,0 +1,64 @@
+-- One ticket in the loop: the book after its expiries, what is judged, and its step. Assumes nothing.
+use mathlib.Core.Path.{_≡_, refl}
+use mathlib.Core.Bool.{Bool, true, false, cond}
+use mathlib.Core.List.{List}
+use Prim.Native.Nat.{ℕ, _≤_}
+use native.Mathlib.Omega.{arith}
+use lib.Dec.{eqb}
+use lib.ListN.{length}
+use Rattle.rules.specs.Tick.{Step, sweepTo, atTime}
+use Rattle.rules.specs.Step.{stepOf}
+use Rattle.rules.specs.Sound.{Sound}
+use Rattle.rules.specs.declared.Book.{Book}
+use Rattle.rules.proofs.Keeping.{later-sound}
+use Rattle.rules.proofs.Sweeping.{Swept, swept}
+use Rattle.rules.proofs.Reporting.{swept-few}
+use Rattle.intake.specs.Room.{Applicable}
+use Rattle.intake.specs.Entry.{entryOf}
+use Rattle.intake.specs.Seeking.{sought}
+use Rattle.intake.specs.Judging.{Judgeable, judged}
+use Rattle.intake.specs.Taking.{unswept, sweptFor, carried}
+use Rattle.intake.specs.declared.Entry.{Entry}
+use Rattle.intake.specs.declared.Judged.{Judged}
+use Rattle.intake.proofs.Taking.{step-taken}
+use Rattle.intake.proofs.Fitting.{entered, sought-judgeable, judged-applicable}
+
+module _ (b : Book) (s : Sound b) (t : List ℕ) where
+  abbrev pub entry : Entry
+  entry = entryOf (b .clock) t
+
+  abbrev pub start : Book
+  start = atTime b (entry .time)
+
+  -- after the expiries
+  abbrev pub after : Step
+  after = sweptFor (entry .refusal) start
+
+  abbrev pub verdict : Judged
+  verdict = judged (entry .refusal) (sought (after .book) entry t)
+
+  pub start-sound : Sound start
+  start-sound = later-sound b s (entry .time) (entered (b .clock) t .later)
+
+  pub after-swept : Swept start after
+  after-swept = go (eqb (entry .refusal) 0)
+    where
+      go : (z : Bool) → Swept start (cond z (sweepTo start (start .count)) (unswept start))
+      go true = swept start start-sound (start .count) (omega arith)
+      go false = record { sound = start-sound; count = refl; clock = refl; roster = refl }
+
+  pub after-few : length (after .reports) ≤ 512
+  after-few = go (eqb (entry .refusal) 0)
+    where
+      go : (z : Bool) → length (cond z (sweepTo start (start .count)) (unswept start) .reports) ≤ 512
+      go true = let f = swept-few start start-sound (start .count) (omega arith) .few in let l = s .orders .count in omega arith
+      go false = omega arith
+
+  pub judgeable : Judgeable (sought (after .book) entry t)
+  judgeable = sought-judgeable (after .book) (after-swept .sound) entry t
+
+  pub applicable : Applicable (after .book) (verdict .decision)
+  applicable = judged-applicable (after .book) (after-swept .sound) (b .clock) t entry (entered (b .clock) t)
+
+  pub step-is : stepOf b t ≡ carried after verdict
+  step-is = step-taken b t

@@ -1,0 +1,28 @@
+// A ticket's step as the code goes about it: the same for every ticket, refused or not. There is no code here: specs/ says what is taken
+// up, sought, judged and carried out, and proofs/ has the laws by which that is the step of `rules`.
+use rules::Order;
+use rules::decision::Decision;
+use rules::decision::Told;
+use rules::decision::Transfer;
+use ticket::kinds::Kind;
+
+// A ticket as it is taken up. One that 7 to 11 refuse goes on as a tick at the clock.
+pub struct Entry {
+    pub refusal: u8,
+    pub kind: Kind,
+    pub time: u32,
+    pub amount: u64,
+}
+
+// What becomes of an order that the clock is held against: of one that is not due, nothing.
+pub struct Expiry {
+    pub order: Order,
+    pub freed: Transfer,
+    pub told: Told,
+}
+
+// The refusal, 0 if none, and what is decided: of a refused ticket, that all stays as it is.
+pub struct Judged {
+    pub refusal: u8,
+    pub decision: Decision,
+}
