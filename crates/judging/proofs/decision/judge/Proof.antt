@@ -1,0 +1,12 @@
+-- `judging::decision::judge` meets its contract. Assumes nothing.
+use borrow.Author.Needs.{needs}
+use Rattle.judging.proofs.decision.judge.Statement.{statement}
+use Rattle.judging.proofs.decision.judge.Tie as tie
+
+pub judge-spec : {M : Type 1} → statement M
+judge-spec =
+    tie.close
+    (tie.spec
+    (λ c κs. search needs)
+    (λ c κs. search needs)
+    (λ c. rw (c .decided .ensures, c .before .refusal-after .ensures)))

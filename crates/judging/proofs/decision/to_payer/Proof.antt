@@ -1,0 +1,12 @@
+-- `judging::decision::to_payer` meets its contract. Assumes nothing.
+use borrow.Author.Needs.{needs}
+use Rattle.judging.proofs.decision.to_payer.Statement.{statement}
+use Rattle.judging.proofs.decision.to_payer.Tie as tie
+
+pub to-payer-spec : {M : Type 1} → statement M
+to-payer-spec =
+    tie.close
+    (tie.spec
+    (λ c κs. search needs)
+    (λ c κs. search needs)
+    (λ c. rw (c .tell-order .ensures, c .before .number-of .ensures)))

@@ -1,0 +1,11 @@
+-- `judging::refusal::timing_of` meets its contract. Assumes nothing.
+use borrow.Author.Tests.{lt-ltb, le-ltb}
+use Rattle.judging.proofs.refusal.timing_of.Statement.{statement}
+use Rattle.judging.proofs.refusal.timing_of.Tie as tie
+
+pub timing-of-spec : {M : Type 1} → statement M
+timing-of-spec =
+    tie.close
+    (tie.spec
+    (λ c. rw (lt-ltb _ _ (c .if1 .taken)))
+    (λ c. rw (le-ltb _ _ (c .if1 .left))))
