@@ -1,0 +1,3 @@
+pub mod Batching
+pub mod Piecewise
+pub mod Longer

@@ -1,0 +1,17 @@
+// A day's text on standard output, for the programs.
+use libc::STDOUT_FILENO;
+
+// Whether all of it was written: it stops where a piece can't be. No rule says what that is, so nothing is promised of it.
+pub fn print_day(file: &[u8]) -> bool {
+    let mut text = [0u8; 56832];
+    let mut d = day::begin(file);
+    let mut written = true;
+    while written & !d.ended {
+        let p = day::next_piece(d, file, &mut text);
+        let length = p.length;
+        written = io::write_all(STDOUT_FILENO, &text[0..length]);
+        let after = p.day;
+        d = after;
+    }
+    written
+}
