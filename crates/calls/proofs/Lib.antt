@@ -1,0 +1,5 @@
+pub mod Theorem
+pub mod Reading
+pub mod Reaching
+pub mod Keeping
+pub mod Printing
