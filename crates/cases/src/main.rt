@@ -7,11 +7,14 @@
 //     part NAME BYTES         the TxId part of such a ticket
 //     file NAME BYTES         what they give as a day file: the refusal, the participants, the routes, the tickets and the first one's
 //                             place; then for each route row where it leads and in how many rows
+//     hand LENGTH BYTES       what handing them in as a ticket to a book without participants answers, with a report buffer of LENGTH
+//                             bytes, at most 8,192: refusal, reports, rows
 //     way  NAME BIC BYTES     (two spaces before the name) where the BIC leads in such a day file and in how many rows, or - for nowhere
 //
 // BYTES are groups of hexadecimal digits between spaces; a group with an x and a number behind it stands that many times.
 mod bytes;
 mod files;
+mod hands;
 mod print;
 mod tickets;
 mod words;
@@ -35,6 +38,7 @@ fn run_line(line: &[u8]) {
         b'p' => tickets::run_part(rest),
         b'f' => files::run_file(rest),
         b'w' => files::run_way(rest),
+        b'h' => hands::run_hand(rest),
         _ => {
             io::write_all(STDOUT_FILENO, line);
             io::write_all(STDOUT_FILENO, b" ?\n");
