@@ -2,7 +2,7 @@
 --     kept-sound        what `hand_in` and `run` need of the book is so at every call
 --     kept-demand3      demand 3, of all events and the book at the end
 -- Assumes nothing.
-use mathlib.Core.Path.{_≡_, refl, sym, _∙_, ap, ap₂, subst}
+use mathlib.Core.Path.{_≡_, sym, _∙_, ap, ap₂, subst}
 use mathlib.Core.Bool.{Bool, true, false, cond}
 use mathlib.Core.List.{List, [], _∷_, _++_}
 use Prim.Native.Nat.{ℕ, zero, suc, _-_, _*_}
@@ -22,7 +22,7 @@ use Rattle.intake.specs.Running.{roomLeft, ranTo, ran, Ran}
 use Rattle.intake.proofs.Printing.{ran-printable}
 use Rattle.book.specs.Handing.{handedIn}
 use Rattle.book.specs.declared.opening.Opened.{Opened}
-use Rattle.audit.specs.History.{Event, History}
+use Rattle.audit.specs.History.{History}
 use Rattle.audit.specs.Claim.{Claim}
 use Rattle.calls.specs.Steps.{stepEvent}
 use Rattle.calls.specs.Kept as kept

@@ -16,7 +16,6 @@ use Rattle.rules.proofs.Reporting.{buffer-reads-back}
 use Rattle.audit.specs.History.{Event, History}
 use Rattle.audit.specs.Claim.{Claim}
 use Rattle.audit.specs.Run.{Input, seen, eventOf, eventsOf, run}
-use Rattle.audit.proofs.Agreeing.{Agrees}
 use Rattle.audit.proofs.Running.{run-agrees}
 use Rattle.audit.proofs.Theorem.{demand3}
 use Rattle.calls.specs.Steps.{stepEvent}

@@ -16,7 +16,6 @@ use Rattle.book.specs.Handing.{handedIn}
 use Rattle.book.specs.declared.opening.Opened.{Opened}
 use Rattle.audit.specs.Claim.{Claim}
 use Rattle.audit.specs.Run.{Input, Seen, seen, eventsOf, run}
-use Rattle.audit.proofs.Agreeing.{Agrees}
 use Rattle.audit.proofs.Running.{run-agrees}
 use Rattle.audit.proofs.Theorem.{demand3}
 use Rattle.calls.specs.Calls.{Called, opened, then}
