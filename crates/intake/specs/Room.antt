@@ -37,13 +37,13 @@ Room Debit n c = c .available + n ≤ mostNumber
 pub record Applicable (b : Book) (d : Decision) : Type 0 where
   pub number : d .number < mostOrders
   pub txid : length (d .order .txid) ≡ 35
-  -- no order, or one more, is in use
+  -- as many orders are in use as before, or one more, which is the one written
   pub count : (d .count ≡ b .count) ⊎ ((d .number ≡ b .count) × (d .count ≡ b .count + 1))
   pub first : d .first .who < mostParticipants
   pub second : d .second .who < mostParticipants
   pub firstRoom : Room (d .first .how) (d .first .amount) (coverOf (b .covers) (d .first .who))
   pub secondRoom : Room (d .second .how) (d .second .amount) (coverOf (transferred (d .first) (b .covers)) (d .second .who))
-  -- an order that waits was so before
+  -- an order in use that waits when it is written is the one that was there
   pub waits : d .number < b .count → isWaiting (d .order .status) ≡ true → d .order ≡ orderOf (b .orders) (d .number)
   pub rows : d .rows < 256
   -- a cut moves no cover by itself, and tells by the cut alone

@@ -36,7 +36,7 @@ ranTo (suc n) b tickets answers reports =
 unfoldable pub ran : Book → List ℕ → ℕ → ℕ → List Step
 ran b tickets answers reports = ranTo (length tickets) b tickets answers reports
 
--- c, how many, and the buffers afterwards
+-- c is the book afterwards, k how many were taken, bytes the answers and text the reports afterwards
 pub record Ran (b : Book) (tickets answers₀ reports₀ : List ℕ) (c : Book) (k : ℕ) (bytes text : List ℕ) : Type 0 where
   pub book : c ≡ bookAfter b (ran b tickets (length answers₀) (length reports₀))
   pub taken : k ≡ length (ran b tickets (length answers₀) (length reports₀))

@@ -14,7 +14,7 @@ pub struct Entry {
     pub amount: u64,
 }
 
-// What becomes of an order that the clock is held against: of one that is not due, nothing.
+// What becomes of an order that the clock is held against: one that is not due stays as it is.
 pub struct Expiry {
     pub order: Order,
     pub freed: Transfer,

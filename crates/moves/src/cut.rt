@@ -89,7 +89,7 @@ pub fn cut_covers(roster: Roster, covers: [Cover; 32]) -> [Cover; 32]
     after
 }
 
-// How many reports there are then. Each participant gets at most one.
+// The answer is how many reports there are then. Each participant gets at most one.
 pub fn put_cut(buffer: &mut [u8], n: usize, roster: Roster, covers: [Cover; 32]) -> usize
     requires { ⌜ (roster .size ≤ 32) × (reportLength * n + reportLength * roster .size ≤ length (now buffer)) ⌝ }
     ensures { λ r.

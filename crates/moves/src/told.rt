@@ -7,7 +7,7 @@ ghost use lib.Seq.{sets};
 ghost use Rattle.report.specs.Layout.{reportLength, reportsBytes};
 ghost use Rattle.rules.specs.Tell.{listed};
 
-// How many reports there are then.
+// The answer is how many reports there are then.
 pub fn put_told(buffer: &mut [u8], n: usize, told: Told) -> usize
     requires { ⌜ reportLength * n + reportLength * length (listed told) ≤ length (now buffer) ⌝ }
     ensures { λ r. ⌜ (now (buffer .exit) ≡ sets (now (buffer .entry)) (reportLength * n) (reportsBytes (listed told))) × (r ≡ n + length (listed told)) ⌝ }

@@ -5,7 +5,7 @@ ghost use mathlib.Core.Bool.{cond};
 ghost use lib.Dec.{eqb};
 ghost use Rattle.intake.specs.Running.{roomLeft};
 
-// Of what is left of tickets, answers and reports.
+// Whether one ticket more is taken, by the bytes that are left of tickets, answers and reports.
 pub fn room_left(tickets: usize, answers: usize, reports: usize) -> bool
     ensures { λ r. ⌜ r ≡ roomLeft tickets answers reports ⌝ }
 {
