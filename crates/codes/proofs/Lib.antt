@@ -1,6 +1,7 @@
 pub mod Answer
+pub mod Bytes
+pub mod All
 pub mod Number
 pub mod Carry
-pub mod Moved
 pub mod Whole
 pub mod Cases

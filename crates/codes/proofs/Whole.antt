@@ -2,9 +2,8 @@
 -- loses nothing. Assumes nothing.
 use mathlib.Core.Path.{_≡_, refl}
 use mathlib.Core.Bool.{true, false, _&&_}
-use mathlib.Core.List.{List, [], _∷_}
+use mathlib.Core.List.{List}
 use Prim.Native.Nat.{ℕ, zero, suc, _+_, _-_, _≤_, _<_}
-use native.Mathlib.Nat.{not-suc-le-zero, le-of-suc-le-suc}
 use native.Mathlib.Omega.{arith}
 use borrow.Author.Tests.{eqb-true, leb-true}
 use lib.Dec.{leb, eqb, eqb·suc-zero}
@@ -17,6 +16,7 @@ use Rattle.codes.specs.Class.{isIn, allIn}
 use Rattle.codes.specs.Bic.{isBic}
 use Rattle.codes.specs.Iban.{isIban, remainder, moved}
 use Rattle.codes.specs.Txid.{isTxid}
+use Rattle.codes.proofs.All.{in-at}
 use Rattle.codes.specs.declared.classes.Class.{Class}
 use Rattle.codes.specs.declared.classes.Class.the-variants.{Capital, Small, Digit, CapitalOr2To9, CapitalButOOrDigit, CapitalOrDigit, LetterOrDigit, Txid}
 
@@ -36,9 +36,7 @@ not-zero class (suc c) e = eqb·suc-zero c
 
 -- of bytes that are all of a class none is zero
 pub none-zero : (class : Class) (s : List ℕ) (i : ℕ) → allIn class s ≡ true → i < length s → eqb (getD s i 0) 0 ≡ false
-none-zero class [] i e h = absurd (not-suc-le-zero h)
-none-zero class (c ∷ s) zero e h = not-zero class c (and-left (isIn class c) (allIn class s) e)
-none-zero class (c ∷ s) (suc i) e h = none-zero class s i (and-right (isIn class c) (allIn class s) e) (le-of-suc-le-suc h)
+none-zero class s i e h = not-zero class (getD s i 0) (in-at class s i e h)
 
 pub txid-whole : (s : List ℕ) → isTxid s ≡ true → unpadded s ≡ s
 unfolding isTxid

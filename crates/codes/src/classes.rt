@@ -28,34 +28,20 @@ pub fn is_in(class: Class, c: u8) -> bool
         Class::CapitalButOOrDigit => (capital & (c != b'O')) | digit,
         Class::CapitalOrDigit => capital | digit,
         Class::LetterOrDigit => capital | small | digit,
-        Class::Txid => {
-            capital
-                | small
-                | digit
-                | (c == b'/')
-                | (c == b'-')
-                | (c == b'?')
-                | (c == b':')
-                | (c == b'(')
-                | (c == b')')
-                | (c == b'.')
-                | (c == b',')
-                | (c == b'\'')
-                | (c == b'+')
-        }
+        // From ' to : stand the digits and nine of the ten signs, and *, which is none.
+        Class::Txid => capital | small | (c == b'?') | ((b'\'' <= c) & (c <= b':') & (c != b'*')),
     }
 }
 
-// Whether each byte of s is.
+// Whether each byte of s is. All are looked at, with no way out before the end: so the compiler takes many at once.
 pub fn all_in(class: Class, s: &[u8]) -> bool
     ensures { λ r. ⌜ r ≡ allIn class (now (s .entry)) ⌝ }
 {
+    let mut all = true;
     let mut i = 0;
     while i < s.len() {
-        if !is_in(class, s[i]) {
-            return false;
-        }
+        all = all & is_in(class, s[i]);
         i += 1;
     }
-    true
+    all
 }

@@ -37,8 +37,10 @@ pub extern "C" fn zolfigar_iban_ok(s: &[u8]) -> u8
     let country = classes::all_in(Class::Capital, &s[0..2]);
     let check = classes::all_in(Class::Digit, &s[2..4]);
     let rest = classes::all_in(Class::LetterOrDigit, &s[4..]);
-    let left = remainder::of_moved(s);
-    (country & check & rest & (left == 1)) as u8
+    if !(country & check & rest) {
+        return 0;
+    }
+    (remainder::of_moved(s) == 1) as u8
 }
 
 #[no_mangle]

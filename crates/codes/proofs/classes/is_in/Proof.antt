@@ -1,6 +1,7 @@
--- `codes::classes::is_in` meets its contract: in each arm the class is the one named, and there the definition is the code.
--- Assumes nothing.
+-- `codes::classes::is_in` meets its contract: in each arm the class is the one named, and there the definition is the code; the
+-- last tests for less, and was compared at each byte. Assumes nothing.
 use borrow.Author.Needs.{needs}
+use Rattle.codes.proofs.Bytes.{txid-tested}
 use Rattle.codes.proofs.classes.is_in.Statement.{statement}
 use Rattle.codes.proofs.classes.is_in.Tie as tie
 
@@ -23,4 +24,4 @@ is-in-spec =
     (λ c. rw (c .enum-told5 .given .1))
     (λ c. rw (c .enum-told6 .given .1))
     (λ c. rw (c .enum-told7 .given .1))
-    (λ c. rw (c .enum-told8 .given .1)))
+    (λ c. rw (c .enum-told8 .given .1) (txid-tested (c .before .before .args .c) (search needs))))

@@ -1,7 +1,7 @@
 -- `codes::remainder::step` meets its contract: a digit takes one place behind the number, a letter two.
 -- Assumes nothing.
 use mathlib.Core.Path.{ap}
-use Prim.Native.Nat.{ℕ, _+_, _*_, _%_}
+use Prim.Native.Nat.{ℕ, _+_, _*_}
 use borrow.Author.Needs.{needs}
 use Rattle.codes.proofs.Number.{behind-digit, behind-letter}
 use Rattle.codes.proofs.remainder.step.Statement.{statement}
@@ -17,15 +17,13 @@ step-spec =
     (λ c. search needs)
     (λ c. search needs)
     (λ c. search needs)
-    (λ c. search needs)
-    (λ c. search needs)
     -- a digit
     (λ c.
     let a = c .before .before .args in
     let v = c .before .value .ensures in
-    rw (behind-digit (a .left) (a .c) (rw v at (c .if1 .taken))) (ap (λ (x : ℕ). (a .left * 10 + x) % 97) v))
+    rw (behind-digit (a .n) (a .c) (rw v at (c .if1 .taken))) (ap (λ (x : ℕ). a .n * 10 + x) v))
     -- a letter
     (λ c.
     let a = c .before .before .args in
     let v = c .before .value .ensures in
-    rw (behind-letter (a .left) (a .c) (rw v at (c .if1 .left))) (ap (λ (x : ℕ). (a .left * 100 + x) % 97) v)))
+    rw (behind-letter (a .n) (a .c) (rw v at (c .if1 .left))) (ap (λ (x : ℕ). a .n * 100 + x) v)))
