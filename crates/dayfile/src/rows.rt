@@ -16,7 +16,7 @@ pub fn participant_ok(f: &[u8], at: usize) -> bool
     let kind = f[at + 11];
     let opening = fields::u64_at(f, at + 12);
     let wish = f[at + 20];
-    let spare = fields::used(&f[at + 21..at + 24]) == 0;
+    let spare = fields::blank(&f[at + 21..at + 24]);
     bic
         & (kind <= 1)
         & (wish <= 1)
@@ -40,7 +40,7 @@ pub fn route_ok(f: &[u8], at: usize, size: usize, own: usize) -> bool
     let kind = f[at + 11];
     let k = fields::u16_at(f, at + 12) as usize;
     let bound = bound_of(kind, size, own);
-    let spare = fields::used(&f[at + 14..at + 16]) == 0;
+    let spare = fields::blank(&f[at + 14..at + 16]);
     bic & (kind <= 1) & (k < bound) & spare
 }
 

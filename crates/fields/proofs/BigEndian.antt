@@ -81,3 +81,19 @@ pub numberAt-two : (at : ℕ) (s : List ℕ) → at + 2 ≤ length s → numberA
 numberAt-two at s h =
     numberAt-join 1 1 at s (omega arith)
     ∙ ap₂ (λ (a b : ℕ). a * 256 + b) (numberAt-one at s (omega arith)) (numberAt-one (at + 1) s (omega arith))
+
+pub numberAt-three : (at : ℕ) (s : List ℕ) → at + 3 ≤ length s
+    → numberAt 3 at s ≡ getD s at 0 * 65536 + getD s (at + 1) 0 * 256 + getD s (at + 2) 0
+numberAt-three at s h =
+    let parts = numberAt-join 2 1 at s (omega arith) in
+    let high = numberAt-two at s (omega arith) in
+    let low = numberAt-one (at + 2) s (omega arith) in
+    omega arith
+
+pub numberAt-four : (at : ℕ) (s : List ℕ) → at + 4 ≤ length s
+    → numberAt 4 at s ≡ getD s at 0 * 16777216 + getD s (at + 1) 0 * 65536 + getD s (at + 2) 0 * 256 + getD s (at + 3) 0
+numberAt-four at s h =
+    let parts = numberAt-join 3 1 at s (omega arith) in
+    let high = numberAt-three at s (omega arith) in
+    let low = numberAt-one (at + 3) s (omega arith) in
+    omega arith

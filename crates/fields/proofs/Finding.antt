@@ -2,12 +2,14 @@
 use mathlib.Core.Path.{_≡_, refl, sym, _∙_, ap, subst}
 use mathlib.Core.Bool.{Bool, true, false}
 use mathlib.Core.Logic.{⊎-elim}
-use Prim.Native.Nat.{ℕ, zero, suc, _≤_, _<_}
-use native.Mathlib.Nat.{not-suc-le-zero, eq-or-lt-of-le, le-of-suc-le-suc}
+use Prim.Native.Nat.{ℕ, zero, suc, _+_, _≤_, _<_}
+use native.Mathlib.Nat.{add-zero, add-suc, not-suc-le-zero, eq-or-lt-of-le, le-of-suc-le-suc}
 use native.Mathlib.Omega.{arith}
+use Rattle.fields.specs.UpTo.{anyTo}
 use Rattle.fields.specs.Search.{isFound, numberOf, foundOr, firstTo}
 use Rattle.fields.specs.declared.search.Found.{Found}
 use Rattle.fields.specs.declared.search.Found.the-variants.{At, Nothing}
+use Rattle.fields.proofs.Tests.{or-left, or-right}
 
 -- the number found
 pub record FoundAt (test : ℕ → Bool) (n : ℕ) (i : ℕ) : Type 0 where
@@ -62,6 +64,14 @@ none-before test (suc n) i e = go (firstTo test n) refl (test n) refl (none-befo
     go (At j) f b t on = let e′ : At j ≡ At i = rw f at e in on (f ∙ e′)
     go Nothing f true t on = let e′ : At n ≡ At i = rw (f, t) at e in let q : n ≡ i = cc in rw (← q) f
     go Nothing f false t on = let e′ : Nothing ≡ At i = rw (f, t) at e in let z : _≡_ {A = ℕ} 0 1 = cc in absurd (omega arith)
+
+-- nothing is found among the first i, and none of the m behind them passes
+pub none-further : (test : ℕ → Bool) (i m : ℕ) → firstTo test i ≡ Nothing → anyTo (λ k. test (i + k)) m ≡ false
+    → firstTo test (i + m) ≡ Nothing
+none-further test i zero none e = ap (firstTo test) (add-zero i) ∙ none
+none-further test i (suc m) none e =
+    let before = none-further test i m none (or-left (anyTo (λ k. test (i + k)) m) (test (i + m)) e) in
+    ap (firstTo test) (add-suc i m) ∙ simp (before, or-right (anyTo (λ k. test (i + k)) m) (test (i + m)) e)
 
 -- what passes g passes f: where f finds nothing, g doesn't, and the first of f that passes g is the first of g
 module _ (f g : ℕ → Bool) (n : ℕ) (tells : (i : ℕ) → i < n → g i ≡ true → f i ≡ true) where

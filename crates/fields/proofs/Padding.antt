@@ -1,4 +1,4 @@
--- The length of a padded field's value, by its bytes from the front; and that padding changes no value. Assumes nothing.
+-- The length of a padded field's value, by its bytes from the front or from the back; and that padding changes no value. Assumes nothing.
 use mathlib.Core.Path.{_≡_, refl, sym, _∙_, ap, ap₂}
 use mathlib.Core.Bool.{Bool, true, false, _&&_, cond, and-true, and-false, and-assoc}
 use mathlib.Core.List.{List, [], _∷_, _++_, append-nil}
@@ -6,7 +6,7 @@ use Prim.Native.Nat.{ℕ, zero, suc, _+_, _-_, _≤_, _<_}
 use native.Mathlib.Nat.{le-of-eq}
 use native.Mathlib.Numerals.{add-one}
 use native.Mathlib.Omega.{arith}
-use lib.Dec.{eqb, eqb·suc-zero}
+use lib.Dec.{eqb}
 use lib.ListN.{length, getD, take, replicate, length-append, length-replicate}
 use lib.Seq.{take-suc, take-all, take-length, take-append-le, length-take-le}
 use Rattle.fields.specs.Text.{blank, valueLength, unpadded, padded}
@@ -33,14 +33,14 @@ length-more s i h =
     ∙ length-snoc (take i s) (getD s i 0)
     ∙ ap (λ (k : ℕ). cond (eqb (getD s i 0) 0) (valueLength (take i s)) k) (ap suc (length-take-le i s (omega arith)) ∙ sym (add-one i))
 
--- a field is blank where its value has no length
-pub blank-length : (s : List ℕ) → eqb (valueLength s) 0 ≡ blank s
-blank-length [] = refl
-blank-length (x ∷ s) = go (eqb x 0 && blank s)
-  where
-    go : (b : Bool) → eqb (cond b 0 (suc (valueLength s))) 0 ≡ b
-    go true = refl
-    go false = eqb·suc-zero (valueLength s)
+-- the last of n bytes
+pub length-back : (s : List ℕ) (n : ℕ) → 0 < n → n ≤ length s
+    → valueLength (take n s) ≡ cond (eqb (getD s (n - 1) 0) 0) (valueLength (take (n - 1) s)) n
+length-back s n p h =
+    let n-is : n - 1 + 1 ≡ n = omega arith in
+    ap (λ (k : ℕ). valueLength (take k s)) (sym n-is)
+    ∙ length-more s (n - 1) (omega arith)
+    ∙ ap (cond (eqb (getD s (n - 1) 0) 0) (valueLength (take (n - 1) s))) n-is
 
 -- a field whose last byte is not zero is its value
 pub whole : (s : List ℕ) (i : ℕ) → i + 1 ≡ length s → eqb (getD s i 0) 0 ≡ false → unpadded s ≡ s

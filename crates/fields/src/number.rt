@@ -1,5 +1,6 @@
-// Big-endian numbers of two, four and eight bytes, read from and written to a place in a slice. A wider one is two of half its
-// width. A caller sees to it that the field lies within the slice.
+// Big-endian numbers of two, three, four and eight bytes, read from and written to a place in a slice. A caller sees to it that the field
+// lies within the slice. Read as here, four and eight bytes are each one load of the machine; with u32_at as two of u16_at, eight
+// are loaded byte by byte.
 ghost use mathlib.Core.Path.{_≡_};
 ghost use Prim.Native.Nat.{_+_, _≤_, _<_};
 ghost use lib.ListN.{length};
@@ -12,6 +13,12 @@ fn wide(b: u8) -> u16
     b as u16
 }
 
+fn wider(b: u8) -> u32
+    ensures { λ r. ⌜ (r ≡ b) × (r < 256) ⌝ }
+{
+    b as u32
+}
+
 pub fn u16_at(s: &[u8], at: usize) -> u16
     requires { ⌜ at + 2 ≤ length (now s) ⌝ }
     ensures { λ r. ⌜ r ≡ numberAt 2 at (now (s .entry)) ⌝ }
@@ -19,13 +26,18 @@ pub fn u16_at(s: &[u8], at: usize) -> u16
     wide(s[at]) * 256 + wide(s[at + 1])
 }
 
+pub fn u24_at(s: &[u8], at: usize) -> u32
+    requires { ⌜ at + 3 ≤ length (now s) ⌝ }
+    ensures { λ r. ⌜ r ≡ numberAt 3 at (now (s .entry)) ⌝ }
+{
+    wider(s[at]) * 65536 + wider(s[at + 1]) * 256 + wider(s[at + 2])
+}
+
 pub fn u32_at(s: &[u8], at: usize) -> u32
     requires { ⌜ at + 4 ≤ length (now s) ⌝ }
     ensures { λ r. ⌜ r ≡ numberAt 4 at (now (s .entry)) ⌝ }
 {
-    let high = u16_at(s, at) as u32;
-    let low = u16_at(s, at + 2) as u32;
-    high * 65536 + low
+    wider(s[at]) * 16777216 + wider(s[at + 1]) * 65536 + wider(s[at + 2]) * 256 + wider(s[at + 3])
 }
 
 pub fn u64_at(s: &[u8], at: usize) -> u64

@@ -2,19 +2,31 @@
 ghost use mathlib.Core.Path.{_≡_};
 ghost use Prim.Native.Nat.{_≤_};
 ghost use lib.ListN.{length};
-ghost use Rattle.fields.specs.Text.{valueLength, unpadded, same};
+ghost use Rattle.fields.specs.Text.{blank, valueLength, unpadded, same};
+
+// Whether all bytes of s are zero. All are looked at, sixteen at a time on the machine.
+pub fn blank(s: &[u8]) -> bool
+    ensures { λ r. ⌜ r ≡ blank (now (s .entry)) ⌝ }
+{
+    let mut zeros = true;
+    let mut i = 0;
+    while i < s.len() {
+        zeros = zeros & (s[i] == 0);
+        i += 1;
+    }
+    zeros
+}
 
 // How many bytes of s stand before its trailing zeros: 0 where all are zero.
 pub fn used(s: &[u8]) -> usize
     ensures { λ r. ⌜ (r ≡ valueLength (now (s .entry))) × (r ≤ length (now (s .entry))) ⌝ }
 {
-    let mut n = 0;
-    let mut i = 0;
-    while i < s.len() {
-        if s[i] != 0 {
-            n = i + 1;
+    let mut n = s.len();
+    while 0 < n {
+        if s[n - 1] != 0 {
+            return n;
         }
-        i += 1;
+        n -= 1;
     }
     n
 }
@@ -27,20 +39,20 @@ pub fn unpadded(s: &[u8]) -> &[u8]
     &s[0..n]
 }
 
+// All bytes are looked at: fields differ late as often as early.
 pub fn same_bytes(a: &[u8], b: &[u8]) -> bool
     ensures { λ r. ⌜ r ≡ same (now (a .entry)) (now (b .entry)) ⌝ }
 {
     if a.len() != b.len() {
         return false;
     }
+    let mut equal = true;
     let mut i = 0;
     while i < a.len() {
-        if a[i] != b[i] {
-            return false;
-        }
+        equal = equal & (a[i] == b[i]);
         i += 1;
     }
-    true
+    equal
 }
 
 // Fills dst with the bytes of src, which are as many.

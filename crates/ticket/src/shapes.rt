@@ -25,7 +25,7 @@ fn bic_if_listed(listed: bool, s: &[u8]) -> bool
     if listed {
         codes::zolfigar_bic_ok(s) == 1
     } else {
-        fields::used(s) == 0
+        fields::blank(s)
     }
 }
 
@@ -35,14 +35,14 @@ fn txid_if_listed(listed: bool, s: &[u8]) -> bool
     if listed {
         codes::zolfigar_txid_ok(fields::unpadded(s)) == 1
     } else {
-        fields::used(s) == 0
+        fields::blank(s)
     }
 }
 
 fn blank_unless_listed(listed: bool, s: &[u8]) -> bool
     ensures { λ r. ⌜ r ≡ blankUnlessListed listed (now (s .entry)) ⌝ }
 {
-    listed | (fields::used(s) == 0)
+    listed | fields::blank(s)
 }
 
 fn well_formed(form: Form, t: &[u8]) -> bool

@@ -2,7 +2,6 @@
 use native.Mathlib.Nat.{add-sub-cancel-left}
 use Rattle.fields.proofs.Reading.{span}
 use Rattle.codes.proofs.Answer.{answer-is-1}
-use Rattle.fields.proofs.Padding.{blank-length}
 use borrow.Author.Needs.{needs}
 use Rattle.dayfile.proofs.rows.participant_ok.Statement.{statement}
 use Rattle.dayfile.proofs.rows.participant_ok.Tie as tie
@@ -35,8 +34,7 @@ participant-ok-spec =
       bic .zolfigar-bic-ok .ensures,
       answer-is-1,
       opening .u64-at .ensures,
-      c .used .ensures .0,
-      blank-length,
+      c .blank .ensures,
       add-sub-cancel-left,
       span,
     )))

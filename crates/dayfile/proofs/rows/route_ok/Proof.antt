@@ -2,7 +2,6 @@
 use native.Mathlib.Nat.{add-sub-cancel-left}
 use Rattle.fields.proofs.Reading.{span}
 use Rattle.codes.proofs.Answer.{answer-is-1}
-use Rattle.fields.proofs.Padding.{blank-length}
 use borrow.Author.Needs.{needs}
 use Rattle.dayfile.proofs.rows.route_ok.Statement.{statement}
 use Rattle.dayfile.proofs.rows.route_ok.Tie as tie
@@ -37,8 +36,7 @@ route-ok-spec =
       answer-is-1,
       k .u16-at .ensures,
       bound .bound-of .ensures,
-      c .used .ensures .0,
-      blank-length,
+      c .blank .ensures,
       add-sub-cancel-left,
       span,
     )))

@@ -1,8 +1,7 @@
--- `fields::number::u32_at` meets its contract: the number is two halves. Assumes nothing.
-use mathlib.Core.Path.{sym, _∙_, ap₂}
-use Prim.Native.Nat.{ℕ, _+_, _*_}
+-- `fields::number::u32_at` meets its contract. Assumes nothing.
+use native.Mathlib.Omega.{arith}
 use denote.Ref.{now}
-use Rattle.fields.proofs.BigEndian.{numberAt-join}
+use Rattle.fields.proofs.BigEndian.{numberAt-four}
 use borrow.Author.Needs.{needs}
 use Rattle.fields.proofs.number.u32_at.Statement.{statement}
 use Rattle.fields.proofs.number.u32_at.Tie as tie
@@ -11,13 +10,27 @@ pub u32-at-spec : {M : Type 1} → statement M
 u32-at-spec =
     tie.close
     (tie.spec
-    (λ c κs. search needs)
-    (λ c. search needs)
     (λ c. search needs)
     (λ c κs. search needs)
     (λ c. search needs)
     (λ c. search needs)
+    (λ c. search needs)
+    (λ c κs. search needs)
+    (λ c. search needs)
+    (λ c. search needs)
+    (λ c. search needs)
+    (λ c. search needs)
+    (λ c κs. search needs)
+    (λ c. search needs)
+    (λ c. search needs)
+    (λ c. search needs)
+    (λ c. search needs)
+    (λ c κs. search needs)
     (λ c. search needs)
     (λ c.
-    let a = c .before .before .before .args in
-    ap₂ (λ (x y : ℕ). x * 65536 + y) (c .before .u16-at .ensures) (c .u16-at2 .ensures) ∙ sym (numberAt-join 2 2 (a .at) (now (a .s)) (search needs))))
+    let three = c .before .before in
+    let two = three .before .before in
+    let one = two .before .before in
+    let a = one .before .before .before .args in
+    let bytes = numberAt-four (a .at) (now (a .s)) (search needs) in
+    omega arith))

@@ -1,6 +1,5 @@
 -- `ticket::shapes::bic_if_listed` meets its contract. Assumes nothing.
 use Rattle.codes.proofs.Answer.{answer-is-1}
-use Rattle.fields.proofs.Padding.{blank-length}
 use borrow.Author.Needs.{needs}
 use Rattle.ticket.proofs.shapes.bic_if_listed.Statement.{statement}
 use Rattle.ticket.proofs.shapes.bic_if_listed.Tie as tie
@@ -12,4 +11,4 @@ bic-if-listed-spec =
     (λ c κs. search needs)
     (λ c κs. search needs)
     (λ c. simp (c .before .if1 .taken, c .zolfigar-bic-ok .ensures, answer-is-1))
-    (λ c. simp (c .before .if1 .left, c .used .ensures .0, blank-length)))
+    (λ c. simp (c .before .if1 .left, c .blank .ensures)))

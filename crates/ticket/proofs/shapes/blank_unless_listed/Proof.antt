@@ -1,5 +1,4 @@
 -- `ticket::shapes::blank_unless_listed` meets its contract. Assumes nothing.
-use Rattle.fields.proofs.Padding.{blank-length}
 use borrow.Author.Needs.{needs}
 use Rattle.ticket.proofs.shapes.blank_unless_listed.Statement.{statement}
 use Rattle.ticket.proofs.shapes.blank_unless_listed.Tie as tie
@@ -9,4 +8,4 @@ blank-unless-listed-spec =
     tie.close
     (tie.spec
     (λ c κs. search needs)
-    (λ c. simp (c .used .ensures .0, blank-length)))
+    (λ c. simp (c .blank .ensures)))
