@@ -1,5 +1,6 @@
 // The core: a book is kept over many tickets and changed in place.
 use index::row;
+use index::ways;
 use judging::decision;
 use judging::entry;
 use moves::cover;
@@ -37,6 +38,12 @@ pub fn run(mut b: Book, tickets: &[u8], answers: &mut [u8], reports: &mut [u8]) 
     let participants = roster.participants;
     let bics = index::bics_of(participants, size);
     let bic_keys = index::bic_keys_of(participants, size);
+    let rows = roster.rows;
+    let routes = roster.routes;
+    let route_bics = ways::route_bics_of(routes, rows);
+    let route_keys = ways::route_keys_of(routes, rows);
+    let payees = ways::payees_of(routes, rows);
+    let counts = ways::counts_of(routes, rows);
     let orders = b.orders;
     let mut txids = index::txids_of(orders, b.count);
     let mut keys = index::txid_keys_of(orders, b.count);
@@ -90,10 +97,8 @@ pub fn run(mut b: Book, tickets: &[u8], answers: &mut [u8], reports: &mut [u8]) 
         );
         let seeks = opens | terms::names_order(subject);
         let order = index::find_txid(seeks, &keys, &txids, b.count, &t[38..73]);
-        let mut way = find::no_way();
-        if opens {
-            way = find::way_to(roster, &t[27..38]);
-        }
+        let route = index::find_bic(opens, &route_keys, &route_bics, rows, &t[27..38]);
+        let end = ways::end_of(&payees, &counts, route);
         let flow = terms.flow;
         let mut sums = sums::none();
         if sums::seeks_sums(flow) {
@@ -107,8 +112,6 @@ pub fn run(mut b: Book, tickets: &[u8], answers: &mut [u8], reports: &mut [u8]) 
         let payee = about.payee;
         let mut txid = [0u8; 35];
         fields::copy(&t[38..73], &mut txid);
-        let route = way.route;
-        let end = way.end;
 
         // the judgement
         let judged = decision::judge(

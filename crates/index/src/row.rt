@@ -5,6 +5,7 @@ ghost use Prim.Native.Nat.{_+_, _*_, _≤_};
 ghost use lib.Dec.{eqb};
 ghost use lib.ListN.{length, getD};
 ghost use lib.Seq.{sets};
+ghost use Rattle.fields.specs.UpTo.{anyTo};
 ghost use Rattle.fields.specs.Search.{firstTo};
 ghost use Rattle.fields.specs.Rows.{firstRow, KeyTells};
 
@@ -32,11 +33,40 @@ pub fn find_row(rows: &[u8], width: usize, n: usize, field: &[u8]) -> Found
     Found::Nothing
 }
 
-fn find_key(keys: &[u64], n: usize, key: u64) -> Found
+// Whether one of the eight keys from a place on is the key.
+fn among_eight(keys: &[u32], at: usize, key: u32) -> bool
+    requires { ⌜ at + 8 ≤ length (now keys) ⌝ }
+    ensures { λ r. ⌜ r ≡ anyTo (λ k. eqb (getD (now (keys .entry)) (at + k) 0) key) 8 ⌝ }
+{
+    let mut found = false;
+    let mut k = 0;
+    while k < 8 {
+        found = found | (keys[at + k] == key);
+        k += 1;
+    }
+    found
+}
+
+// By eights, how many of the first n keys can be passed over.
+fn passed_over(keys: &[u32], n: usize, key: u32) -> usize
+    requires { ⌜ n ≤ length (now keys) ⌝ }
+    ensures { λ r. ⌜ (r ≤ n) × (firstTo (λ i. eqb (getD (now (keys .entry)) i 0) key) r ≡ Found.Nothing) ⌝ }
+{
+    let mut i = 0;
+    while 8 <= n - i {
+        if among_eight(keys, i, key) {
+            return i;
+        }
+        i += 8;
+    }
+    i
+}
+
+fn find_key(keys: &[u32], n: usize, key: u32) -> Found
     requires { ⌜ n ≤ length (now keys) ⌝ }
     ensures { λ r. ⌜ r ≡ firstTo (λ i. eqb (getD (now (keys .entry)) i 0) key) n ⌝ }
 {
-    let mut i = 0;
+    let mut i = passed_over(keys, n, key);
     while i < n {
         if keys[i] == key {
             return Found::At(i);
@@ -48,11 +78,11 @@ fn find_key(keys: &[u64], n: usize, key: u64) -> Found
 
 // As find_row, where rows that hold the field have its key. Of rows that share a key all are looked at.
 pub fn find_keyed(
-    keys: &[u64],
+    keys: &[u32],
     rows: &[u8],
     width: usize,
     n: usize,
-    key: u64,
+    key: u32,
     field: &[u8],
 ) -> Found
     requires { ⌜ (n ≤ length (now keys)) × (width * n ≤ length (now rows)) × KeyTells width n key (now field) (now keys) (now rows) ⌝ }

@@ -1,5 +1,5 @@
 -- What the code finds is what is sought: by rows of an index, and field by field. Assumes nothing.
-use mathlib.Core.Path.{_≡_, refl, _∙_, ap}
+use mathlib.Core.Path.{_≡_, refl, sym, _∙_, ap}
 use mathlib.Core.Bool.{Bool, true, false, cond}
 use mathlib.Core.List.{List}
 use mathlib.Core.Logic.{_⊎_, ⊎-elim}
@@ -7,16 +7,20 @@ use Prim.Native.Nat.{ℕ, zero, suc, _≤_, _<_}
 use native.Mathlib.Omega.{arith}
 use lib.ListN.{length}
 use lib.Seq.{getD-set-same, getD-set-other}
-use Rattle.fields.specs.Search.{numberOf}
+use Rattle.fields.specs.Search.{isFound, numberOf, firstTo}
 use Rattle.fields.specs.UpTo.{anyTo}
 use Rattle.fields.specs.Rows.{firstRow, Indexed}
 use Rattle.fields.specs.declared.search.Found.{Found}
+use Rattle.fields.specs.declared.search.Found.the-variants as found
+use Rattle.fields.proofs.Finding.{found-at}
 use Rattle.fields.proofs.Indexing.{found-indexed}
 use Rattle.ticket.specs.Layout.{senderOf, payeeOf, txidField}
-use Rattle.dayfile.specs.Roster.{participantIn}
-use Rattle.dayfile.specs.Route.{rowWith, followedBic}
+use Rattle.dayfile.specs.Roster.{participantIn, rowOf}
+use Rattle.dayfile.specs.Route.{hasBic, rowsIn, followedFrom}
 use Rattle.dayfile.specs.declared.roster.Roster.{Roster}
 use Rattle.dayfile.specs.declared.route.Followed.{Followed}
+use Rattle.dayfile.specs.declared.route.Followed.the-variants as followed
+use Rattle.dayfile.proofs.Arriving.{rows-in}
 use Rattle.rules.specs.Book.{noOrder, orderOf, coverOf, isBank}
 use Rattle.rules.specs.Cover.{totalOf, total}
 use Rattle.rules.specs.Find.{senderIn, orderIn, routeIn, wayIn, isOpen, anyOpen}
@@ -43,13 +47,23 @@ pub order-row : {rows : List ℕ} (os : List Order) (count : ℕ) → Indexed 35
 unfolding orderIn
 order-row os count h t = found-indexed h (txidField t)
 
-pub route-row : (r : Roster) (t : List ℕ) → rowWith r (payeeOf t) ≡ routeIn r t
+pub route-row : {bics : List ℕ} (r : Roster) → r .rows ≤ 64 → Indexed 11 (λ i. rowOf (r .routes) i .bic) (r .rows) bics → (t : List ℕ)
+    → firstRow 11 (r .rows) (payeeOf t) bics ≡ routeIn r t
 unfolding routeIn
-route-row r t = refl
+route-row r few h t = found-indexed h (payeeOf t) ∙ ap (firstTo (hasBic (r .routes) (payeeOf t))) (sym (rows-in r few))
 
-pub way-end : (r : Roster) (t : List ℕ) → followedBic r (payeeOf t) ≡ wayIn r t
-unfolding wayIn
-way-end r t = refl
+-- a row that is found is one of those in use
+pub route-below : (r : Roster) (z : Bool) (t : List ℕ) → r .rows ≤ 64 → isFound (cond z (routeIn r t) found.Nothing) ≡ true
+    → numberOf (cond z (routeIn r t) found.Nothing) < r .rows
+unfolding routeIn
+route-below r true t few e = let h = found-at (hasBic (r .routes) (payeeOf t)) (rowsIn r) e .below in let n = rows-in r few in omega arith
+route-below r false t few e = let z : _≡_ {A = ℕ} 0 1 = cc in absurd (omega arith)
+
+-- where the row leads, if it is sought
+pub way-if : (r : Roster) (z : Bool) (t : List ℕ) → followedFrom r (cond z (routeIn r t) found.Nothing) ≡ cond z (wayIn r t) followed.Nowhere
+unfolding routeIn wayIn
+way-if r true t = refl
+way-if r false t = refl
 
 pub open-sum : (b : Book) → anyTo (λ p. isOpen (coverOf (b .covers) p)) (b .roster .size) ≡ anyOpen b
 unfolding anyOpen

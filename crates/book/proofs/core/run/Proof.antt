@@ -10,7 +10,7 @@ use denote.Ref.{now}
 use lib.Dec.{eqb}
 use lib.ListN.{length, set, take, drop, length-append, length-set}
 use lib.Seq.{sets, length-sets}
-use Rattle.fields.specs.Search.{numberOf}
+use Rattle.fields.specs.Search.{isFound, numberOf}
 use Rattle.fields.specs.UpTo.{anyTo}
 use Rattle.fields.specs.Rows.{Indexed, Keyed}
 use Rattle.fields.specs.declared.search.Found.{Found}
@@ -18,7 +18,7 @@ use Rattle.fields.specs.declared.search.Found.the-variants as found
 use Rattle.fields.proofs.Indexing.{keyed-rows}
 use Rattle.fields.proofs.Stores.{length-part}
 use Rattle.index.specs.Keys.{txidKey}
-use Rattle.moves.specs.declared.find.Way.{Way}
+use Rattle.index.proofs.Leading.{backward, number-few, led-end}
 use Rattle.moves.specs.declared.sums.Sums.{Sums}
 use Rattle.codes.proofs.Whole.{bic-length}
 use Rattle.report.specs.Layout.{reportsBytes}
@@ -26,6 +26,9 @@ use Rattle.report.specs.Answer.{answerBytes}
 use Rattle.report.specs.declared.Report.{Report}
 use Rattle.report.specs.declared.answer.Answer.{Answer}
 use Rattle.report.proofs.Laws.{put-further}
+use Rattle.dayfile.specs.Roster.{routeOf}
+use Rattle.dayfile.specs.Route.{followedFrom}
+use Rattle.dayfile.specs.Guarantee.{Guaranteed}
 use Rattle.dayfile.specs.declared.roster.Roster.{Roster}
 use Rattle.dayfile.specs.declared.route.Followed.the-variants as followed
 use Rattle.rules.specs.Book.{orderOf, coverOf, isBank}
@@ -59,7 +62,7 @@ use Rattle.intake.specs.declared.Expiry.{Expiry}
 use Rattle.intake.specs.declared.Judged.{Judged}
 use Rattle.intake.proofs.Running.{RoomFor, room-left, started, answers-long, reports-long, ended, taken-on}
 use Rattle.intake.proofs.Looping.{Sweeping, begun, at-sound, at-count, at-roster, at-few, one-more, all-swept}
-use Rattle.intake.proofs.Seeking.{swept-txid, sender-row, order-row, route-row, way-end, open-sum, total-sum, made}
+use Rattle.intake.proofs.Seeking.{swept-txid, sender-row, order-row, route-row, route-below, way-if, open-sum, total-sum, made}
 use Rattle.intake.proofs.Fitting.{Freeable, expiry-fits, sender-below, order-below, any-payee, sought-judgeable}
 use Rattle.intake.proofs.Applying.{listed-few, covers, covers-kept, covers-uncut, covers-cut, told-uncut, told-cut, silent-cut, count-grows, passed-applied}
 use Rattle.intake.proofs.Turning.{start-sound, after, verdict, after-swept, after-few, applicable, step-is}
@@ -69,18 +72,18 @@ use Rattle.book.proofs.core.run.Statement.{statement}
 use Rattle.book.proofs.core.run.Tie as tie
 
 abbrev Inv-loop2 : tie.InvT-loop2
-Inv-loop2 tickets answers reports₀ b₀ roster size bics bic-keys txids keys mark₀ taken n₀ at t e before end reports b mark n =
+Inv-loop2 tickets answers reports₀ b₀ roster size bics bic-keys rows route-bics route-keys payees counts txids keys mark₀ taken n₀ at t e before end reports b mark n =
     Sweeping b₀ n₀ reports₀ b mark n reports × (mark₀ ≤ mark) × (mark ≤ end)
 
 abbrev μ-loop2 : tie.MeasureT-loop2
-μ-loop2 tickets answers reports₀ b₀ roster size bics bic-keys txids keys mark₀ taken n₀ at t e before end reports b mark n = end - mark
+μ-loop2 tickets answers reports₀ b₀ roster size bics bic-keys rows route-bics route-keys payees counts txids keys mark₀ taken n₀ at t e before end reports b mark n = end - mark
 
 abbrev Inv-loop : tie.InvT-loop
-Inv-loop tickets answers₀ reports₀ b₀ roster size bics bic-keys txids₀ keys₀ mark₀ taken₀ n₀ answers reports b txids keys mark taken n =
+Inv-loop tickets answers₀ reports₀ b₀ roster size bics bic-keys rows route-bics route-keys payees counts txids₀ keys₀ mark₀ taken₀ n₀ answers reports b txids keys mark taken n =
     Kept b₀ roster tickets answers₀ reports₀ b txids keys mark taken n answers reports
 
 abbrev μ-loop : tie.MeasureT-loop
-μ-loop tickets answers₀ reports₀ b₀ roster size bics bic-keys txids₀ keys₀ mark₀ taken₀ n₀ answers reports b txids keys mark taken n = length tickets - 108 * taken
+μ-loop tickets answers₀ reports₀ b₀ roster size bics bic-keys rows route-bics route-keys payees counts txids₀ keys₀ mark₀ taken₀ n₀ answers reports b txids keys mark taken n = length tickets - 108 * taken
 
 -- the loop over tickets
 module _ (l : tie.At-loop Inv-loop2 μ-loop2 Inv-loop μ-loop) where
@@ -88,16 +91,16 @@ module _ (l : tie.At-loop Inv-loop2 μ-loop2 Inv-loop μ-loop) where
   b = l .loop .b
 
   abbrev tickets : List ℕ
-  tickets = now (l .before .before .before .before .before .before .before .before .before .before .before .args .tickets)
+  tickets = now (l .before .before .before .before .before .before .before .before .before .before .before .before .before .before .before .before .args .tickets)
 
   abbrev answers₀ : List ℕ
-  answers₀ = now (l .before .before .before .before .before .before .before .before .before .before .before .args .answers)
+  answers₀ = now (l .before .before .before .before .before .before .before .before .before .before .before .before .before .before .before .before .args .answers)
 
   abbrev reports₀ : List ℕ
-  reports₀ = now (l .before .before .before .before .before .before .before .before .before .before .before .args .reports)
+  reports₀ = now (l .before .before .before .before .before .before .before .before .before .before .before .before .before .before .before .before .args .reports)
 
   abbrev roster : Roster
-  roster = l .before .before .before .before .before .before .before .before .before .before .before .args .t1 .roster
+  roster = l .before .before .before .before .before .before .before .before .before .before .before .before .before .before .before .before .args .t1 .roster
 
   sound : Sound b
   sound = l .loop .inv .going .sound
@@ -132,7 +135,7 @@ module _ (c : tie.Then1 Inv-loop2 μ-loop2 Inv-loop μ-loop) where
   room = room-left _ _ _ more
 
   next-fits : head .loop .taken + 1 < 18_446_744_073_709_551_616
-  next-fits = let h = room .ticket in omega arith
+  next-fits = let h = room .ticket in let g = head .before .before .before .before .before .before .before .before .before .before .before .before .before .before .before .before .good in omega arith
 
 -- there is none
 module _ (c : tie.Else1 Inv-loop2 μ-loop2 Inv-loop μ-loop) where
@@ -328,7 +331,7 @@ module _ (c : tie.After-find-bic Inv-loop2 μ-loop2 Inv-loop μ-loop) where
       c .find-bic .ensures
       ∙ ap₂ (λ (z : Bool) (f : Found). cond z f found.Nothing)
       (c .before .before .before .before .names-sender .ensures ∙ ap (λ (x : Terms). namesSender (x .subject)) (c .before .before .before .before .before .before .terms-of .ensures))
-      (sender-row (roster (top left-s)) (top left-s .before .before .before .before .before .bics-of .ensures .1) (ticket (top left-s))
+      (sender-row (roster (top left-s)) (top left-s .before .before .before .before .before .before .before .before .before .before .bics-of .ensures .1) (ticket (top left-s))
       ∙ ap (λ (r : Roster). senderIn r (ticket (top left-s))) (sym (swept-roster left-s)))
 
 -- the order
@@ -349,52 +352,66 @@ module _ (c : tie.After-find-txid Inv-loop2 μ-loop2 Inv-loop μ-loop) where
       (ap₂ (λ (x y : Bool). x || y) opens-is names-is)
       (order-row (swept-book left-o .orders) (swept-book left-o .count) (rows-now left-o) (ticket (top left-o)))
 
--- the way of the payee
-module _ (c : tie.Joined3 Inv-loop2 μ-loop2 Inv-loop μ-loop) where
+-- the route row of the payee
+module _ (c : tie.After-find-bic2 Inv-loop2 μ-loop2 Inv-loop μ-loop) where
+  abbrev sought-at : tie.After-find-txid Inv-loop2 μ-loop2 Inv-loop μ-loop
+  sought-at = c .before .before .before .before
+
   abbrev left-w : tie.Left-loop2 Inv-loop2 μ-loop2 Inv-loop μ-loop
-  left-w = c .before .before .before .before .before .before .before .before .before .before .before .before .before .before
+  left-w = left-o sought-at
 
   abbrev opens : Bool
   opens = opensOrder (termsOf (entry (at-end left-w) .kind) .subject)
 
-  route-is : c .if3 .way .route ≡ cond opens (routeIn (swept-book left-w .roster) (ticket (top left-w))) found.Nothing
-  route-is =
-      ⊎-elim
-      (λ x.
-      ap (λ (w : Way). w .route) (x .3 ∙ x .2 .ensures)
-      ∙ route-row (roster (top left-w)) (ticket (top left-w))
-      ∙ ap (λ (r : Roster). routeIn r (ticket (top left-w))) (sym (swept-roster left-w))
-      ∙ ap (λ (z : Bool). cond z (routeIn (swept-book left-w .roster) (ticket (top left-w))) found.Nothing) (sym (x .0 .taken) ∙ opens-is (c .before .before)))
-      (λ y.
-      ap (λ (w : Way). w .route) (y .1 ∙ c .before .no-way .ensures)
-      ∙ ap (λ (z : Bool). cond z (routeIn (swept-book left-w .roster) (ticket (top left-w))) found.Nothing) (sym (y .0 .left) ∙ opens-is (c .before .before)))
-      (c .if3 .came)
+  few-rows : roster (top left-w) .rows ≤ 64
+  few-rows = let h = swept-sound left-w .roster .rows in let e = ap (λ (r : Roster). r .rows) (swept-roster left-w) in omega arith
 
-  way-is : c .if3 .way .end ≡ cond opens (wayIn (swept-book left-w .roster) (ticket (top left-w))) followed.Nowhere
+  route-is : c .find-bic2 .result ≡ cond opens (routeIn (swept-book left-w .roster) (ticket (top left-w))) found.Nothing
+  route-is =
+      c .find-bic2 .ensures
+      ∙ ap₂ (λ (z : Bool) (f : Found). cond z f found.Nothing) (opens-is sought-at)
+      (route-row (roster (top left-w)) few-rows (top left-w .before .before .before .before .before .before .before .route-bics-of .ensures .1) (ticket (top left-w))
+      ∙ ap (λ (r : Roster). routeIn r (ticket (top left-w))) (sym (swept-roster left-w)))
+
+  row-below : isFound (c .find-bic2 .result) ≡ true → numberOf (c .find-bic2 .result) < roster (top left-w) .rows
+  row-below =
+      subst (λ (f : Found). isFound f ≡ true → numberOf f < roster (top left-w) .rows) (sym route-is)
+      (subst (λ (r : Roster). isFound (cond opens (routeIn r (ticket (top left-w))) found.Nothing) ≡ true → numberOf (cond opens (routeIn r (ticket (top left-w))) found.Nothing) < roster (top left-w) .rows)
+      (sym (swept-roster left-w)) (route-below (roster (top left-w)) opens (ticket (top left-w)) few-rows))
+
+  row-few : numberOf (c .find-bic2 .result) < 64
+  row-few = number-few (c .find-bic2 .result) 64 (omega arith) (λ e. let h = row-below e in let few = few-rows in omega arith)
+
+-- and where it leads
+module _ (c : tie.After-end-of Inv-loop2 μ-loop2 Inv-loop μ-loop) where
+  abbrev found-at : tie.After-find-bic2 Inv-loop2 μ-loop2 Inv-loop μ-loop
+  found-at = c .before .before .before
+
+  abbrev left-e : tie.Left-loop2 Inv-loop2 μ-loop2 Inv-loop μ-loop
+  left-e = left-w found-at
+
+  guaranteed : Guaranteed (roster (top left-e))
+  guaranteed = subst Guaranteed (swept-roster left-e) (swept-sound left-e .roster)
+
+  way-is : c .end-of .result ≡ cond (opens found-at) (wayIn (swept-book left-e .roster) (ticket (top left-e))) followed.Nowhere
   way-is =
-      ⊎-elim
-      (λ x.
-      ap (λ (w : Way). w .end) (x .3 ∙ x .2 .ensures)
-      ∙ way-end (roster (top left-w)) (ticket (top left-w))
-      ∙ ap (λ (r : Roster). wayIn r (ticket (top left-w))) (sym (swept-roster left-w))
-      ∙ ap (λ (z : Bool). cond z (wayIn (swept-book left-w .roster) (ticket (top left-w))) followed.Nowhere) (sym (x .0 .taken) ∙ opens-is (c .before .before)))
-      (λ y.
-      ap (λ (w : Way). w .end) (y .1 ∙ c .before .no-way .ensures)
-      ∙ ap (λ (z : Bool). cond z (wayIn (swept-book left-w .roster) (ticket (top left-w))) followed.Nowhere) (sym (y .0 .left) ∙ opens-is (c .before .before)))
-      (c .if3 .came)
+      c .end-of .ensures
+      ∙ led-end (roster (top left-e)) guaranteed _ _ (top left-e .before .before .before .before .before .payees-of .ensures .1) (top left-e .before .before .before .before .counts-of .ensures .1) (found-at .find-bic2 .result) (row-below found-at)
+      ∙ ap₂ followedFrom (sym (swept-roster left-e)) (route-is found-at)
+      ∙ way-if (swept-book left-e .roster) (opens found-at) (ticket (top left-e))
 
 -- all covers together
-module _ (c : tie.Joined4 Inv-loop2 μ-loop2 Inv-loop μ-loop) where
+module _ (c : tie.Joined3 Inv-loop2 μ-loop2 Inv-loop μ-loop) where
   abbrev left-t : tie.Left-loop2 Inv-loop2 μ-loop2 Inv-loop μ-loop
-  left-t = c .before .before .before .before .before .before .before .before .before .before .before .before .before .before .before .before .before
+  left-t = c .before .before .before .before .before .before .before .before .before .before .before .before .before .before .before .before .before .before .before .before .before .before
 
   abbrev seeks : Bool
   seeks = seeksSums (termsOf (entry (at-end left-t) .kind) .flow)
 
   seeks-is : c .before .seeks-sums .result ≡ seeks
-  seeks-is = c .before .seeks-sums .ensures ∙ ap (λ (x : Terms). seeksSums (x .flow)) (c .before .before .before .before .before .before .before .before .before .before .before .before .before .before .before .before .terms-of .ensures)
+  seeks-is = c .before .seeks-sums .ensures ∙ ap (λ (x : Terms). seeksSums (x .flow)) (c .before .before .before .before .before .before .before .before .before .before .before .before .before .before .before .before .before .before .before .before .before .terms-of .ensures)
 
-  open-is : c .if4 .sums .unconfirmed ≡ cond seeks (anyOpen (swept-book left-t)) false
+  open-is : c .if3 .sums .unconfirmed ≡ cond seeks (anyOpen (swept-book left-t)) false
   open-is =
       ⊎-elim
       (λ x.
@@ -403,9 +420,9 @@ module _ (c : tie.Joined4 Inv-loop2 μ-loop2 Inv-loop μ-loop) where
       ∙ open-sum (swept-book left-t)
       ∙ ap (λ (z : Bool). cond z (anyOpen (swept-book left-t)) false) (sym (x .0 .taken) ∙ seeks-is))
       (λ y. ap (λ (w : Sums). w .unconfirmed) (y .1 ∙ c .before .before .none .ensures) ∙ ap (λ (z : Bool). cond z (anyOpen (swept-book left-t)) false) (sym (y .0 .left) ∙ seeks-is))
-      (c .if4 .came)
+      (c .if3 .came)
 
-  total-is : c .if4 .sums .total ≡ cond seeks (total (swept-book left-t)) 0
+  total-is : c .if3 .sums .total ≡ cond seeks (total (swept-book left-t)) 0
   total-is =
       ⊎-elim
       (λ x.
@@ -414,22 +431,22 @@ module _ (c : tie.Joined4 Inv-loop2 μ-loop2 Inv-loop μ-loop) where
       ∙ total-sum (swept-book left-t)
       ∙ ap (λ (z : Bool). cond z (total (swept-book left-t)) 0) (sym (x .0 .taken) ∙ seeks-is))
       (λ y. ap (λ (w : Sums). w .total) (y .1 ∙ c .before .before .none .ensures) ∙ ap (λ (z : Bool). cond z (total (swept-book left-t)) 0) (sym (y .0 .left) ∙ seeks-is))
-      (c .if4 .came)
+      (c .if3 .came)
 
 -- the numbers of sender and order
 module _ (c : tie.After-number-of2 Inv-loop2 μ-loop2 Inv-loop μ-loop) where
   abbrev left-n : tie.Left-loop2 Inv-loop2 μ-loop2 Inv-loop μ-loop
-  left-n = c .before .before .before .before .before .before .before .before .before .before .before .before .before .before .before .before .before .before .before
+  left-n = c .before .before .before .before .before .before .before .before .before .before .before .before .before .before .before .before .before .before .before .before .before .before .before .before
 
   sender-number : c .before .number-of .result < 32
   sender-number =
-      let e = c .before .number-of .ensures ∙ ap numberOf (sender-is (c .before .before .before .before .before .before .before .before .before .before .before .before)) in
+      let e = c .before .number-of .ensures ∙ ap numberOf (sender-is (c .before .before .before .before .before .before .before .before .before .before .before .before .before .before .before .before .before)) in
       let h = sender-below (swept-book left-n) (swept-sound left-n) (entry (at-end left-n)) (ticket (top left-n)) in
       omega arith
 
   order-number : c .number-of2 .result < 256
   order-number =
-      let e = c .number-of2 .ensures ∙ ap numberOf (order-is (c .before .before .before .before .before .before .before)) in
+      let e = c .number-of2 .ensures ∙ ap numberOf (order-is (c .before .before .before .before .before .before .before .before .before .before .before .before)) in
       let h = order-below (swept-book left-n) (swept-sound left-n) (entry (at-end left-n)) (ticket (top left-n)) in
       omega arith
 
@@ -439,19 +456,19 @@ module _ (c : tie.After-number-of2 Inv-loop2 μ-loop2 Inv-loop μ-loop) where
 -- the finding
 module _ (c : tie.After-is-bank2 Inv-loop2 μ-loop2 Inv-loop μ-loop) where
   abbrev left-j : tie.Left-loop2 Inv-loop2 μ-loop2 Inv-loop μ-loop
-  left-j = c .before .before .before .before .before .before .before .before .before .before .before .before .before .before .before .before .before .before .before .before .before .before .before .before .before .before .before
+  left-j = c .before .before .before .before .before .before .before .before .before .before .before .before .before .before .before .before .before .before .before .before .before .before .before .before .before .before .before .before .before .before .before .before
 
   abbrev finding : (x : Finding) × (x ≡ sought (swept-book left-j) (entry (at-end left-j)) (ticket (top left-j)))
   finding = (
     _,
     made (swept-book left-j) (entry (at-end left-j)) (ticket (top left-j)) _ _ _ _ _ _ _ _ _ _
         (c .before .before .before .copy .ensures)
-        (sender-is (c .before .before .before .before .before .before .before .before .before .before .before .before .before .before .before .before .before .before .before .before))
-        (order-is (c .before .before .before .before .before .before .before .before .before .before .before .before .before .before .before))
+        (sender-is (c .before .before .before .before .before .before .before .before .before .before .before .before .before .before .before .before .before .before .before .before .before .before .before .before .before))
+        (order-is (c .before .before .before .before .before .before .before .before .before .before .before .before .before .before .before .before .before .before .before .before))
         (c .before .before .before .before .before .before .before .before .before .number-of .ensures)
         (c .before .before .before .before .before .before .before .before .number-of2 .ensures)
         (c .is-bank2 .ensures ∙ ap (λ (r : Roster). isBank r (orderOf (swept-book left-j .orders) (c .before .before .before .before .before .before .before .before .number-of2 .result) .payee)) (sym (swept-roster left-j)))
-        (route-is (c .before .before .before .before .before .before .before .before .before .before .before .before .before))
+        (route-is (c .before .before .before .before .before .before .before .before .before .before .before .before .before .before .before .before))
         (way-is (c .before .before .before .before .before .before .before .before .before .before .before .before .before))
         (open-is (c .before .before .before .before .before .before .before .before .before .before))
         (total-is (c .before .before .before .before .before .before .before .before .before .before)),
@@ -539,7 +556,7 @@ module _ (c : tie.After-put-cut-arg Inv-loop2 μ-loop2 Inv-loop μ-loop) where
   cut-fits : 12 * told-at .before .before .put-told2 .result + 12 * roster (top (left-a told-at)) .size ≤ length (told-at .before .before .put-told2 .last .0)
   cut-fits =
       let n = told-count told-at in
-      let silent = ap length (silent-cut (now-book told-at) (e told-at) (fits (judged-at told-at)) (c .before .before .if5 .taken)) in
+      let silent = ap length (silent-cut (now-book told-at) (e told-at) (fits (judged-at told-at)) (c .before .before .if4 .taken)) in
       let few = told-few told-at in
       let size = few-participants told-at in
       let has = room (at-end (left-a told-at) .before .before .before) .report in
@@ -547,7 +564,7 @@ module _ (c : tie.After-put-cut-arg Inv-loop2 μ-loop2 Inv-loop μ-loop) where
       omega arith
 
 -- carried out
-module _ (c : tie.Joined5 Inv-loop2 μ-loop2 Inv-loop μ-loop) where
+module _ (c : tie.Joined4 Inv-loop2 μ-loop2 Inv-loop μ-loop) where
   abbrev told-now : tie.After-slice-known4 Inv-loop2 μ-loop2 Inv-loop μ-loop
   told-now = c .before
 
@@ -566,7 +583,7 @@ module _ (c : tie.Joined5 Inv-loop2 μ-loop2 Inv-loop μ-loop) where
   abbrev with-covers : List Cover → Book
   with-covers cs = record { clock = w .clock; covers = cs; orders = set (w .orders) (f .number) (f .order); count = f .count; roster = w .roster }
 
-  book-after : c .if5 .b ≡ applied w f
+  book-after : c .if4 .b ≡ applied w f
   book-after =
       ⊎-elim
       (λ x.
@@ -576,9 +593,9 @@ module _ (c : tie.Joined5 Inv-loop2 μ-loop2 Inv-loop μ-loop) where
       ∙ ap₂ (λ (r : Roster) (cs : List Cover). cutTo r cs (r .size)) (sym (swept-roster left-f)) (both-moved told-now)
       ∙ sym (covers-cut w f ok (x .0 .taken))))
       (λ y. y .2 ∙ ap with-covers (both-moved told-now ∙ sym (covers-uncut w f ok (y .0 .left))))
-      (c .if5 .came)
+      (c .if4 .came)
 
-  count-after : c .if5 .n ≡ left-f .before .loop2 .n + length (toldBy w f)
+  count-after : c .if4 .n ≡ left-f .before .loop2 .n + length (toldBy w f)
   count-after =
       ⊎-elim
       (λ x.
@@ -589,9 +606,9 @@ module _ (c : tie.Joined5 Inv-loop2 μ-loop2 Inv-loop μ-loop) where
       ∙ add-assoc (left-f .before .loop2 .n) (length (listed (f .told))) _
       ∙ ap (λ (n : ℕ). left-f .before .loop2 .n + n) (sym (length-append (listed (f .told)) _) ∙ ap length (sym (told-cut w f ok (x .0 .taken)))))
       (λ y. y .3 ∙ told-count told-now ∙ ap (λ (rs : List Report). left-f .before .loop2 .n + length rs) (sym (told-uncut w f ok (y .0 .left))))
-      (c .if5 .came)
+      (c .if4 .came)
 
-  text-after : c .if5 .reports ≡ sets (left-f .before .loop2 .reports) (12 * left-f .before .loop2 .n) (reportsBytes (toldBy w f))
+  text-after : c .if4 .reports ≡ sets (left-f .before .loop2 .reports) (12 * left-f .before .loop2 .n) (reportsBytes (toldBy w f))
   text-after =
       ⊎-elim
       (λ x.
@@ -606,7 +623,7 @@ module _ (c : tie.Joined5 Inv-loop2 μ-loop2 Inv-loop μ-loop) where
       y .1
       ∙ told-text told-now
       ∙ ap (λ (rs : List Report). sets (left-f .before .loop2 .reports) (12 * left-f .before .loop2 .n) (reportsBytes rs)) (sym (told-uncut w f ok (y .0 .left))))
-      (c .if5 .came)
+      (c .if4 .came)
 
   -- which is the step of the rules
   abbrev step : Step
@@ -621,20 +638,20 @@ module _ (c : tie.Joined5 Inv-loop2 μ-loop2 Inv-loop μ-loop) where
   reports-are : done left-f .reports ++ toldBy w f ≡ step .reports
   reports-are = ap (λ (rs : List Report). done left-f .reports ++ rs) told-by ∙ ap (λ (x : Step). x .reports) (sym step-is-carried)
 
-  book-step : c .if5 .b ≡ step .book
+  book-step : c .if4 .b ≡ step .book
   book-step =
       book-after
       ∙ ap₂ (λ (v : Book) (x : Judged). applied v (x .decision)) (book-is left-f) (verdict-is (judged-at told-now))
       ∙ ap (λ (x : Step). x .book) (sym step-is-carried)
 
-  count-step : c .if5 .n ≡ top left-f .loop .n + length (step .reports)
+  count-step : c .if4 .n ≡ top left-f .loop .n + length (step .reports)
   count-step =
       count-after
       ∙ ap (λ (n : ℕ). n + length (toldBy w f)) (told-is left-f)
       ∙ add-assoc (top left-f .loop .n) (length (done left-f .reports)) (length (toldBy w f))
       ∙ ap (λ (n : ℕ). top left-f .loop .n + n) (sym (length-append (done left-f .reports) (toldBy w f)) ∙ ap length reports-are)
 
-  text-step : c .if5 .reports ≡ sets (top left-f .loop .reports) (12 * top left-f .loop .n) (reportsBytes (step .reports))
+  text-step : c .if4 .reports ≡ sets (top left-f .loop .reports) (12 * top left-f .loop .n) (reportsBytes (step .reports))
   text-step =
       text-after
       ∙ ap₂ (λ (l : List ℕ) (n : ℕ). sets l (12 * n) (reportsBytes (toldBy w f))) (text-is left-f) (told-is left-f)
@@ -646,10 +663,10 @@ module _ (c : tie.Joined5 Inv-loop2 μ-loop2 Inv-loop μ-loop) where
 
   -- the answer
   answer-is : _≡_ {A = Answer}
-      (record { refusal = judged-at told-now .judge .result .refusal; reports = c .if5 .n - top left-f .loop .n; rows = f .rows }) (answerOf step)
+      (record { refusal = judged-at told-now .judge .result .refusal; reports = c .if4 .n - top left-f .loop .n; rows = f .rows }) (answerOf step)
   answer-is =
       let n = count-step in
-      let count : c .if5 .n - top left-f .loop .n ≡ length (step .reports) = omega arith in
+      let count : c .if4 .n - top left-f .loop .n ≡ length (step .reports) = omega arith in
       λ i. record {
         refusal = (ap (λ (x : Judged). x .refusal) (verdict-is (judged-at told-now)) ∙ ap (λ (x : Step). x .refusal) (sym step-is-carried)) i;
         reports = count i;
@@ -670,11 +687,15 @@ run-spec =
     μ-loop
     (λ c κs. let a = c .before .before .before .before .before in (a .pre .roster .size, λ p h. bic-length _ (a .pre .roster .bic p h)))
     (λ c κs. let a = c .before .before .before .before .before .before in (a .pre .roster .size, λ p h. bic-length _ (a .pre .roster .bic p h)))
+    (λ c κs. let a = c .before .before .before .before .before .before .before .before in (a .pre .roster .rows, λ i h. bic-length _ (a .pre .roster .routeBic i h)))
+    (λ c κs. let a = c .before .before .before .before .before .before .before .before .before in (a .pre .roster .rows, λ i h. bic-length _ (a .pre .roster .routeBic i h)))
+    (λ c κs. let a = c .before .before .before .before .before .before .before .before .before .before in (a .pre .roster .rows, λ i h. backward (a .args .t1 .roster .size) i (routeOf (a .args .t1 .roster) i .target) (a .pre .roster .leads i h)))
+    (λ c κs. let a = c .before .before .before .before .before .before .before .before .before .before .before in (a .pre .roster .rows, λ i h. backward (a .args .t1 .roster .size) i (routeOf (a .args .t1 .roster) i .target) (a .pre .roster .leads i h)))
     (λ c κs. search needs)
     (λ c κs. search needs)
     -- loop-holds
     (λ c.
-    let a = c .before .before .before .before .before .before .before .before .before .before in
+    let a = c .before .before .before .before .before .before .before .before .before .before .before .before .before .before .before in
     record {
       going = started (a .args .t1) (now (a .args .tickets)) (now (a .args .answers)) (now (a .args .reports)) (a .pre);
       roster = refl;
@@ -685,18 +706,18 @@ run-spec =
       keys = c .txid-keys-of .ensures .1;
       many = c .txid-keys-of .ensures .0;
     })
-    (λ c. search needs)
-    (λ c. search needs)
-    (λ c. search needs)
+    (λ c. let g = c .before .before .before .before .before .before .before .before .before .before .before .before .before .before .before .before .good in search needs)
+    (λ c. let g = c .before .before .before .before .before .before .before .before .before .before .before .before .before .before .before .before .good in search needs)
+    (λ c. let g = c .before .before .before .before .before .before .before .before .before .before .before .before .before .before .before .before .good in search needs)
     (λ c. let g = c .loop .inv .going .answersLeft in let e = long-answers c in omega arith)
-    (λ c. search needs)
+    (λ c. let g = c .before .before .before .before .before .before .before .before .before .before .before .before .before .before .before .before .good in search needs)
     (λ c. let g = c .loop .inv .going .reportsLeft in let e = long-reports c in omega arith)
     (λ c κs. search needs)
-    (λ c. search needs)
-    (λ c. search needs)
-    (λ c. search needs)
-    (λ c. search needs)
-    (λ c. let h = room c .ticket in search needs)
+    (λ c. let g = c .before .before .before .before .before .before .before .before .before .before .before .before .before .before .before .before .before .before .good in search needs)
+    (λ c. let g = c .before .before .before .before .before .before .before .before .before .before .before .before .before .before .before .before .before .before .good in search needs)
+    (λ c. let g = c .before .before .before .before .before .before .before .before .before .before .before .before .before .before .before .before .before .before .good in search needs)
+    (λ c. let g = c .before .before .before .before .before .before .before .before .before .before .before .before .before .before .before .before .before .before .good in search needs)
+    (λ c. let h = room c .ticket in let g = c .before .before .before .before .before .before .before .before .before .before .before .before .before .before .before .before .before .before .good in search needs)
     (λ c κs. search needs)
     (λ c κs. search needs)
     -- loop2-holds
@@ -755,8 +776,8 @@ run-spec =
     (λ c κs. search needs)
     (λ c κs. search needs)
     (λ c κs. search needs)
-    (λ c. let h = top (c .before .before .before .before) .before .before .before .before .bic-keys-of .ensures .0 in search needs)
-    (λ c. let h = top (c .before .before .before .before .before) .before .before .before .before .before .bics-of .ensures .0 in search needs)
+    (λ c. let h = top (c .before .before .before .before) .before .before .before .before .before .before .before .before .before .bic-keys-of .ensures .0 in search needs)
+    (λ c. let h = top (c .before .before .before .before .before) .before .before .before .before .before .before .before .before .before .before .bics-of .ensures .0 in search needs)
     (λ c. search needs)
     (λ c. search needs)
     (λ c. search needs)
@@ -765,8 +786,8 @@ run-spec =
     let l = c .before .before .before .before .before .before in
     let few = swept-sound l .roster .size in
     let e = ap (λ (r : Roster). r .size) (swept-roster l) in
-    let k = top l .before .before .before .before .bic-keys-of .ensures in
-    let r = top l .before .before .before .before .before .bics-of .ensures in
+    let k = top l .before .before .before .before .before .before .before .before .before .bic-keys-of .ensures in
+    let r = top l .before .before .before .before .before .before .before .before .before .before .bics-of .ensures in
     let long = k .0 in
     let wide = r .0 in
     (omega arith, omega arith, length-part 11 16 (ticket (top l)) (rw (whole-ticket l) (omega arith)), keyed-rows (r .1) (k .1)))
@@ -783,16 +804,35 @@ run-spec =
     let long = top l .loop .inv .long in
     let many = top l .loop .inv .many in
     (omega arith, omega arith, length-part 35 38 (ticket (top l)) (rw (whole-ticket l) (omega arith)), keyed-rows (rows-now l) (keys-now l)))
-    (λ c κs. search needs)
+    (λ c. let h = top (c .before .before .before .before .before .before .before .before .before .before .before .before .before) .before .before .before .before .before .before .route-keys-of .ensures .0 in search needs)
+    (λ c. let h = top (c .before .before .before .before .before .before .before .before .before .before .before .before .before .before) .before .before .before .before .before .before .before .route-bics-of .ensures .0 in search needs)
     (λ c. search needs)
     (λ c. search needs)
     (λ c. search needs)
-    (λ c κs. search needs)
+    -- find-bic-requires-2
+    (λ c κs.
+    let l = c .before .before .before .before .before .before .before .before .before .before .before .before .before .before .before in
+    let few = swept-sound l .roster .rows in
+    let e = ap (λ (r : Roster). r .rows) (swept-roster l) in
+    let k = top l .before .before .before .before .before .before .route-keys-of .ensures in
+    let r = top l .before .before .before .before .before .before .before .route-bics-of .ensures in
+    let long = k .0 in
+    let wide = r .0 in
+    (omega arith, omega arith, length-part 11 27 (ticket (top l)) (rw (whole-ticket l) (omega arith)), keyed-rows (r .1) (k .1)))
+    (λ c. let h = top (c .before .before .before .before .before .before .before .before .before .before .before .before .before .before .before .before .before) .before .before .before .before .before .payees-of .ensures .0 in search needs)
+    (λ c. let h = top (c .before .before .before .before .before .before .before .before .before .before .before .before .before .before .before .before .before .before) .before .before .before .before .counts-of .ensures .0 in search needs)
+    -- end-of-requires
+    (λ c κs.
+    let l = c .before .before .before .before .before .before .before .before .before .before .before .before .before .before .before .before .before .before in
+    let p = top l .before .before .before .before .before .payees-of .ensures .0 in
+    let k = top l .before .before .before .before .counts-of .ensures .0 in
+    let f = row-few (c .before .before) in
+    (omega arith, omega arith))
     (λ c κs. search needs)
     (λ c κs. search needs)
     -- sums-of-requires
     (λ c κs.
-    let l = c .before .before .before .before .before .before .before .before .before .before .before .before .before .before .before .before .before .before in
+    let l = c .before .before .before .before .before .before .before .before .before .before .before .before .before .before .before .before .before .before .before .before .before .before .before in
     subst (λ (r : Roster). (r .size ≤ 32) × (totalOf (r .size) (swept-book l .covers) ≤ mostTotal)) (swept-roster l)
     (swept-sound l .roster .size, rw (total-sum (swept-book l)) (swept-sound l .limited)))
     (λ c κs. search needs)
@@ -803,7 +843,7 @@ run-spec =
     (λ c. order-number (c .before))
     (λ c. search needs)
     (λ c. search needs)
-    (λ c. let h = whole-ticket (c .before .before .before .before .before .before .before .before .before .before .before .before .before .before .before .before .before .before .before .before .before) in search needs)
+    (λ c. let h = whole-ticket (c .before .before .before .before .before .before .before .before .before .before .before .before .before .before .before .before .before .before .before .before .before .before .before .before .before .before) in search needs)
     (λ c. search needs)
     (λ c κs. search needs)
     (λ c. let h = payee-number (c .before .before .before .before .before .before) in search needs)
@@ -853,12 +893,12 @@ run-spec =
     let e = text-length l in
     omega arith)
     (λ c κs. (few-participants (told-at c), cut-fits c))
-    (λ c κs. let t = c .before .before .before .before .before .before in (few-participants t, uncut-whole t (c .before .before .before .before .before .if5 .taken)))
+    (λ c κs. let t = c .before .before .before .before .before .before in (few-participants t, uncut-whole t (c .before .before .before .before .before .if4 .taken)))
     (λ c. let h = count-step (c .before .before) in omega arith)
     (λ c. let h = count-step (c .before .before) in let few = few-reports (c .before .before) in omega arith)
     (λ c. let h = ok (c .before .before .before) .rows in omega arith)
     (λ c κs. let j = c .before .before .before in let h = has-room j .answer in let e = long-answers (top (left-f j)) in omega arith)
-    (λ c. let h = next-fits (c .before .before .before .before .before .before .before .before .before .before .before .before .before .before .before .before .before .before .before .before .before .before .before .before .before .before .before .before .before .before .before .before .before .before .before .before .before .before .before .before .before .before .before .before .before .before .before .before .before .before .before .before .before .before .before .before .before .before .before) in omega arith)
+    (λ c. let h = next-fits (c .before .before .before .before .before .before .before .before .before .before .before .before .before .before .before .before .before .before .before .before .before .before .before .before .before .before .before .before .before .before .before .before .before .before .before .before .before .before .before .before .before .before .before .before .before .before .before .before .before .before .before .before .before .before .before .before .before .before .before .before .before .before .before .before) in omega arith)
     (λ c. let h = has-room (c .before .before .before .before .before .before) .ticket in omega arith)
     -- loop-again
     (λ c.

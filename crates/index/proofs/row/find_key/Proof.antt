@@ -32,22 +32,23 @@ find-key-spec =
     (tie.spec
     Inv-loop
     μ-loop
+    (λ c κs. search needs)
     (λ c. search needs)
     (λ c. search needs)
     (λ c. search needs)
     (λ c.
     let l = c .before .before .before in
-    let a = l .before .args in
+    let a = l .before .before .before .args in
     sym (first-at (has (now (a .keys)) (a .key)) (l .loop .i) (a .n) (search needs) (l .loop .inv .2)
     (eq-eqb (getD (now (a .keys)) (l .loop .i) 0) (a .key) (c .if1 .taken))))
     (λ c. search needs)
     (λ c. search needs)
     (λ c.
     let l = c .before .before .before in
-    let a = l .before .args in
+    let a = l .before .before .before .args in
     (search needs, search needs, simp (add-one, l .loop .inv .2, ne-eqb (getD (now (a .keys)) (l .loop .i) 0) (a .key) (c .if1 .left))))
     (λ c.
     let l = c .before in
-    let a = l .before .args in
+    let a = l .before .before .before .args in
     let end : l .loop .i ≡ a .n = omega arith in
     sym (l .loop .inv .2) ∙ ap (firstTo (has (now (a .keys)) (a .key))) end))
