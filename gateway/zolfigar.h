@@ -1,11 +1,12 @@
-/* The checks of BIC, IBAN and TxId, for the banks' gateway.
+/* The proved functions for programs in C: the checks of BIC, IBAN and TxId, for the banks' gateway, and a whole day, for a host.
  *
- * Each takes the bytes of one code without padding, and their count, and answers 1 if they are such a code and 0 if
+ * Each check takes the bytes of one code without padding, and their count, and answers 1 if they are such a code and 0 if
  * they are not. Any bytes and any count are taken. A caller passes a pointer to at least `length` readable bytes that
  * nobody writes before the call returns; where `length` is 0 the pointer may be null. Nothing is written, kept or
  * allocated, and calls from several threads don't disturb each other.
  *
- * Link with libcodes.a, which `rt staticlib codes` writes. */
+ * For the checks link with libcodes.a, which `rt staticlib codes` writes, for a day with libhost.a, which `rt staticlib host`
+ * writes. */
 #ifndef ZOLFIGAR_H
 #define ZOLFIGAR_H
 
@@ -26,6 +27,24 @@ uint8_t zolfigar_iban_ok(const uint8_t *bytes, size_t length);
 
 /* A TxId: 1 to 35 of A-Z a-z 0-9 / - ? : ( ) . , ' + and no space. */
 uint8_t zolfigar_txid_ok(const uint8_t *bytes, size_t length);
+
+/* A whole day: what the clearing program prints of a day file, of any bytes and any length. The answer is how many bytes that
+ * is. The text has them from its start on, as many as it has room for, and keeps its bytes behind them; so a caller whose text
+ * was too short calls again with one of the answered length. No text is longer than 29,154,816 bytes; that of a usual day of
+ * 512 tickets has some 15,000.
+ *
+ * The file and the text may not overlap, and nobody else reads or writes the text before the call returns; either pointer may be
+ * null where its length is 0. Nothing is kept or allocated; some 220,000 bytes of stack are used. Calls from several threads
+ * don't disturb each other. */
+size_t zolfigar_day(const uint8_t *file, size_t file_length, uint8_t *text, size_t text_length);
+
+/* A day's tickets, as bytes: of each ticket taken its answer (refusal 1, report count 2, rows 1) and its reports (to 1, code 1,
+ * order 2, amount 8), each after those of the ticket before, numbers with the highest byte first. A ticket is taken as long as
+ * there are 4 bytes for its answer and 6,528 for its reports. The answer is how many were taken, 0 of a refused day file; bytes
+ * behind the last answer and the last report stay as they are. For a day's 512 tickets 2,048 bytes of answers are enough. Link
+ * with libsteps.a, which `rt staticlib steps` writes. The rest is as for a whole day. */
+size_t zolfigar_steps(const uint8_t *file, size_t file_length, uint8_t *answers, size_t answers_length, uint8_t *reports,
+                      size_t reports_length);
 
 #ifdef __cplusplus
 }

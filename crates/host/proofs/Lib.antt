@@ -1,0 +1,2 @@
+mod Lending
+mod Going
