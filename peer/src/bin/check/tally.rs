@@ -1,0 +1,383 @@
+//! Counts what the days met: refusals, accepted kinds, report codes, steps and faults of files.
+
+use crate::damage::FAULTS;
+use peer::book::{Answer, Book, Cover, Recall, Status, WAIT};
+use peer::dayfile::{DayFile, MOST_OPENING};
+use peer::report::{reports, Report, BUFFER_LEN, MOST_REPORTS};
+use peer::ticket::{Kind, Ticket, MOST_PAID, TICKET_LEN};
+use peer::MOST_COVER;
+use std::collections::BTreeMap;
+
+/// Everything a ticket can do that is counted by name.
+const STEPS: &[&str] = &[
+    "cover in",
+    "cover in that takes all cover to 10^18",
+    "cover out",
+    "cover out of all available",
+    "order to a bank",
+    "order to a linked system",
+    "order to oneself",
+    "order of all available",
+    "order of one cent more than available",
+    "order of 99,999,999,999",
+    "order that fills the book",
+    "route of 1 row",
+    "route of 2 to 9 rows",
+    "route of 10 to 63 rows",
+    "route of 64 rows",
+    "yes by a bank",
+    "yes by a linked system",
+    "yes by the payer itself",
+    "no by a bank",
+    "no by a linked system",
+    "recall",
+    "return",
+    "return by the payer itself",
+    "recall declined",
+    "inquiry: waiting for a bank",
+    "inquiry: waiting for a linked system",
+    "inquiry: refused",
+    "inquiry: expired before",
+    "inquiry: expired by the inquiry",
+    "inquiry: returned",
+    "inquiry: settled",
+    "inquiry: settled, recall asked",
+    "inquiry: settled, recall declined",
+    "cut: available above the opening cover",
+    "cut: available below the opening cover",
+    "cut: available equal to the opening cover",
+    "cut: no opening cover",
+    "cut: opening cover 0",
+    "cut: opening cover 10^15",
+    "cut: cover reserved",
+    "confirmed credit",
+    "confirmed debit in full",
+    "confirmed debit in part",
+    "confirmed debit of 0",
+    "confirm off by one",
+    "expiry by an accepted ticket",
+    "expiry by a refused ticket",
+    "expiry after 20 seconds",
+    "expiry after more than 20 seconds",
+    "expiry of 10 orders or more at once",
+    "expiry of 256 orders at once",
+    "no expiry after 19 seconds",
+    "no expiry of a linked system's order after 20 seconds or more",
+    "order waiting whose time plus 20 is above 32 bits",
+    "ticket in the same second as the one before",
+    "ticket at the last second of 32 bits",
+    "ticket with 544 reports",
+];
+
+/// The kinds of ticket that can meet each refusal from 7 on; 0 stands for all other bytes.
+fn kinds_with(refusal: usize) -> &'static [usize] {
+    match refusal {
+        7 => &[0, 1, 2, 3, 4, 5, 6, 7, 8, 9, 10, 11],
+        8 => &[3],
+        9 => &[1, 2, 3, 6],
+        10 => &[1, 2, 3, 6, 10],
+        0 | 11 => &[1, 2, 3, 4, 5, 6, 7, 8, 9, 10, 11],
+        12 => &[1, 2, 3, 4, 5, 6, 7, 8, 10],
+        13..=15 => &[3],
+        16 | 17 => &[4, 5, 6, 7, 8],
+        18 => &[4, 5, 6, 7],
+        19 => &[6],
+        20 => &[2, 3, 6],
+        21 => &[9, 10],
+        22 => &[1, 10],
+        _ => &[],
+    }
+}
+
+pub struct Tally {
+    pub days: u64,
+    pub tickets: u64,
+    /// By refusal, 0 for files that are read.
+    files: [u64; 6],
+    /// By refusal, 0 for accepted tickets, and by kind.
+    answers: [[u64; 12]; 23],
+    /// By code.
+    reports: [u64; 12],
+    steps: BTreeMap<&'static str, u64>,
+    faults: Vec<u64>,
+}
+
+impl Tally {
+    pub fn new() -> Self {
+        Tally {
+            days: 0,
+            tickets: 0,
+            files: [0; 6],
+            answers: [[0; 12]; 23],
+            reports: [0; 12],
+            steps: STEPS.iter().map(|name| (*name, 0)).collect(),
+            faults: vec![0; FAULTS.len()],
+        }
+    }
+
+    /// Counts a day, made with the fault of that number or with none.
+    pub fn day(&mut self, file: &[u8], fault: Option<usize>) {
+        let read = DayFile::read(file);
+        let refusal = read.as_ref().err().map_or(0, |refusal| refusal.number());
+        self.days += 1;
+        self.files[usize::from(refusal)] += 1;
+        if let Some(number) = fault.filter(|&number| FAULTS[number].refusal == refusal) {
+            self.faults[number] += 1;
+        }
+        let Ok(day) = read else {
+            return;
+        };
+        let tickets = day.tickets();
+        let mut book = Book::new(day.roster);
+        let mut buffer = [0; BUFFER_LEN];
+        for ticket in tickets {
+            self.ticket(&mut book, ticket, &mut buffer);
+        }
+    }
+
+    fn ticket(&mut self, book: &mut Book, bytes: &[u8; TICKET_LEN], buffer: &mut [u8; BUFFER_LEN]) {
+        let clock = book.clock();
+        let ticket = Ticket::read(bytes).ok();
+        let sender = ticket.and_then(|ticket| book.roster().participant_with(ticket.sender));
+        let cover = sender.map_or(Cover::default(), |sender| book.covers()[usize::from(sender)]);
+        let answer = book.hand_in(bytes, buffer);
+        let refusal = usize::from(answer.refusal_number());
+        let kind = usize::from(bytes[0]);
+        self.tickets += 1;
+        self.answers[refusal][if kind < 12 { kind } else { 0 }] += 1;
+        for report in reports(buffer, answer.reports) {
+            self.reports[usize::from(report.code)] += 1;
+        }
+        if let Some(ticket) = ticket.filter(|_| !(7..=11).contains(&refusal)) {
+            let seen = Seen { book, ticket: &ticket, answer, buffer, cover_before: cover, clock_before: clock };
+            self.waits(&seen);
+            match refusal {
+                0 => self.step(&seen),
+                20 => self.count_if(is_one_cent_more(&seen), "order of one cent more than available"),
+                21 => self.count_if(is_off_by_one(&seen), "confirm off by one"),
+                _ => (),
+            }
+        }
+    }
+
+    fn count(&mut self, name: &'static str) {
+        *self.steps.get_mut(name).expect("the list has every name") += 1;
+    }
+
+    fn count_if(&mut self, is_met: bool, name: &'static str) {
+        if is_met {
+            self.count(name);
+        }
+    }
+
+    /// What the ticket's time does, before its own step.
+    fn waits(&mut self, seen: &Seen) {
+        let clock = seen.ticket.time;
+        self.count_if(clock == seen.clock_before, "ticket in the same second as the one before");
+        self.count_if(clock == u32::MAX, "ticket at the last second of 32 bits");
+        self.count_if(seen.answer.reports == MOST_REPORTS, "ticket with 544 reports");
+        let expired = seen.expired();
+        if !expired.is_empty() {
+            let is_accepted = seen.answer.refusal.is_none();
+            self.count(if is_accepted { "expiry by an accepted ticket" } else { "expiry by a refused ticket" });
+            let is_at_20 = |number: &u16| clock - seen.book.orders()[usize::from(*number)].time == WAIT;
+            self.count_if(expired.iter().any(is_at_20), "expiry after 20 seconds");
+            self.count_if(!expired.iter().all(is_at_20), "expiry after more than 20 seconds");
+            self.count_if(expired.len() >= 10, "expiry of 10 orders or more at once");
+            self.count_if(expired.len() == 256, "expiry of 256 orders at once");
+        }
+        self.still_waiting(seen, clock);
+    }
+
+    fn still_waiting(&mut self, seen: &Seen, clock: u32) {
+        let is_bank = |payee: u8| seen.is_bank(payee);
+        let waiting = || seen.book.orders().iter().filter(|order| order.status == Status::Waiting);
+        let is_at_19 = waiting().any(|order| is_bank(order.payee) && clock - order.time == WAIT - 1);
+        let is_linked = waiting().any(|order| !is_bank(order.payee) && clock - order.time >= WAIT);
+        let is_late = waiting().any(|order| is_bank(order.payee) && clock > order.time && order.time > u32::MAX - WAIT);
+        self.count_if(is_at_19, "no expiry after 19 seconds");
+        self.count_if(is_linked, "no expiry of a linked system's order after 20 seconds or more");
+        self.count_if(is_late, "order waiting whose time plus 20 is above 32 bits");
+    }
+
+    /// An accepted ticket's own step.
+    fn step(&mut self, seen: &Seen) {
+        let sender = seen.book.roster().participant_with(seen.ticket.sender);
+        let available = sender.map_or(0, |sender| seen.book.covers()[usize::from(sender)].available);
+        match seen.ticket.kind {
+            Kind::CoverIn => {
+                self.count("cover in");
+                self.count_if(seen.book.total() == MOST_COVER, "cover in that takes all cover to 10^18");
+            }
+            Kind::CoverOut => {
+                self.count("cover out");
+                self.count_if(available == 0, "cover out of all available");
+            }
+            Kind::Order => {
+                self.order(seen);
+                self.count_if(available == 0, "order of all available");
+            }
+            Kind::Cut => self.cut(seen),
+            Kind::Confirm => self.confirm(seen),
+            Kind::Tick => (),
+            _ => self.held_order(seen),
+        }
+    }
+
+    fn order(&mut self, seen: &Seen) {
+        let Some(order) = seen.book.orders().last() else {
+            return;
+        };
+        self.count(if seen.is_bank(order.payee) { "order to a bank" } else { "order to a linked system" });
+        self.count_if(order.payer == order.payee, "order to oneself");
+        self.count_if(order.amount == MOST_PAID, "order of 99,999,999,999");
+        self.count_if(seen.book.orders().len() == 256, "order that fills the book");
+        self.count(match seen.answer.rows {
+            0 | 1 => "route of 1 row",
+            2..=9 => "route of 2 to 9 rows",
+            10..=63 => "route of 10 to 63 rows",
+            _ => "route of 64 rows",
+        });
+    }
+
+    fn held_order(&mut self, seen: &Seen) {
+        let Some(number) = seen.book.order_with(seen.ticket.tx_id) else {
+            return;
+        };
+        let order = &seen.book.orders()[number];
+        let is_bank = seen.is_bank(order.payee);
+        let is_own = order.payer == order.payee;
+        match seen.ticket.kind {
+            Kind::Yes => {
+                self.count(if is_bank { "yes by a bank" } else { "yes by a linked system" });
+                self.count_if(is_own, "yes by the payer itself");
+            }
+            Kind::No => self.count(if is_bank { "no by a bank" } else { "no by a linked system" }),
+            Kind::Recall => self.count("recall"),
+            Kind::Return => {
+                self.count("return");
+                self.count_if(is_own, "return by the payer itself");
+            }
+            Kind::Decline => self.count("recall declined"),
+            _ => self.count(match order.status {
+                Status::Waiting if is_bank => "inquiry: waiting for a bank",
+                Status::Waiting => "inquiry: waiting for a linked system",
+                Status::Refused => "inquiry: refused",
+                Status::Expired if seen.expired().contains(&(number as u16)) => "inquiry: expired by the inquiry",
+                Status::Expired => "inquiry: expired before",
+                Status::Returned => "inquiry: returned",
+                Status::Settled(Recall::None) => "inquiry: settled",
+                Status::Settled(Recall::Asked) => "inquiry: settled, recall asked",
+                Status::Settled(Recall::Declined) => "inquiry: settled, recall declined",
+            }),
+        }
+    }
+
+    fn cut(&mut self, seen: &Seen) {
+        for (participant, cover) in seen.book.roster().participants().iter().zip(seen.book.covers()) {
+            self.count(match cover {
+                _ if participant.opening.is_none() => "cut: no opening cover",
+                Cover { held: 1.., .. } => "cut: available above the opening cover",
+                Cover { open_debit: 1.., .. } => "cut: available below the opening cover",
+                _ => "cut: available equal to the opening cover",
+            });
+            self.count_if(participant.opening == Some(0), "cut: opening cover 0");
+            self.count_if(participant.opening == Some(MOST_OPENING), "cut: opening cover 10^15");
+            self.count_if(participant.opening.is_some() && cover.reserved != 0, "cut: cover reserved");
+        }
+    }
+
+    fn confirm(&mut self, seen: &Seen) {
+        let debit = seen.cover_before.open_debit;
+        self.count(match seen.ticket.amount {
+            _ if seen.cover_before.held != 0 => "confirmed credit",
+            0 => "confirmed debit of 0",
+            amount if amount < debit => "confirmed debit in part",
+            _ => "confirmed debit in full",
+        });
+    }
+
+    /// Prints the table and gives the names of what was never met, or met where it can't be.
+    pub fn print(&self) -> Vec<String> {
+        let mut missing = Vec::new();
+        println!("days {}, tickets {}\n", self.days, self.tickets);
+        println!("files");
+        for (refusal, &count) in self.files.iter().enumerate() {
+            let name = if refusal == 0 { "read".to_string() } else { format!("refusal {refusal}") };
+            print_row(&name, count, &mut missing);
+        }
+        self.print_answers(&mut missing);
+        println!("\nreports by code");
+        for (code, &count) in self.reports.iter().enumerate().skip(1) {
+            print_row(&format!("code {code}"), count, &mut missing);
+        }
+        println!("\nsteps");
+        for name in STEPS {
+            print_row(name, self.steps[name], &mut missing);
+        }
+        println!("\nfiles with a fault or at an edge");
+        for (fault, &count) in FAULTS.iter().zip(&self.faults) {
+            let outcome = if fault.refusal == 0 { "read".to_string() } else { format!("refusal {}", fault.refusal) };
+            print_row(&format!("{}, {outcome}", fault.name), count, &mut missing);
+        }
+        missing
+    }
+
+    fn print_answers(&self, missing: &mut Vec<String>) {
+        let heads: Vec<String> = (1..12).map(|kind| format!("{:>9}", format!("kind {kind}"))).collect();
+        println!("\n{:<11}{:>10}{}{:>9}", "tickets", "all", heads.concat(), "other");
+        for refusal in (0..23).filter(|refusal| *refusal == 0 || *refusal > 6) {
+            let name = if refusal == 0 { "accepted".to_string() } else { format!("refusal {refusal}") };
+            let cell = |kind: usize| match (self.answers[refusal][kind], kinds_with(refusal).contains(&kind)) {
+                (0, false) => format!("{:>9}", "-"),
+                (count, _) => format!("{count:>9}"),
+            };
+            let cells: String = (1..12).chain([0]).map(cell).collect();
+            println!("{name:<11}{:>10}{cells}", self.answers[refusal].iter().sum::<u64>());
+            let is_wrong = |kind: &usize| (self.answers[refusal][*kind] == 0) == kinds_with(refusal).contains(kind);
+            missing.extend((0..12).filter(is_wrong).map(|kind| format!("{name} of kind {kind}")));
+        }
+    }
+}
+
+fn print_row(name: &str, count: u64, missing: &mut Vec<String>) {
+    println!("  {name:<62}{count:>10}");
+    if count == 0 {
+        missing.push(name.to_string());
+    }
+}
+
+/// A ticket past refusals 7 to 11, with the book after it.
+struct Seen<'a> {
+    book: &'a Book,
+    ticket: &'a Ticket<'a>,
+    answer: Answer,
+    buffer: &'a [u8; BUFFER_LEN],
+    /// The sender's cover before the ticket.
+    cover_before: Cover,
+    clock_before: u32,
+}
+
+impl Seen<'_> {
+    fn is_bank(&self, participant: u8) -> bool {
+        self.book.roster().participants()[usize::from(participant)].is_bank
+    }
+
+    /// The numbers of the orders that the ticket's time lets expire: two reports 4 each, payer then payee, before all others.
+    fn expired(&self) -> Vec<u16> {
+        let all: Vec<Report> = reports(self.buffer, self.answer.reports).take_while(|report| report.code == 4).collect();
+        all.chunks_exact(2).map(|two| two[0].order).collect()
+    }
+}
+
+fn is_one_cent_more(seen: &Seen) -> bool {
+    let sender = seen.book.roster().participant_with(seen.ticket.sender);
+    let is_order = seen.ticket.kind == Kind::Order;
+    is_order && sender.is_some_and(|sender| seen.book.covers()[usize::from(sender)].available + 1 == seen.ticket.amount)
+}
+
+fn is_off_by_one(seen: &Seen) -> bool {
+    let Cover { held, open_debit, .. } = seen.cover_before;
+    let due = held.max(open_debit);
+    seen.ticket.kind == Kind::Confirm && due != 0 && seen.ticket.amount.abs_diff(due) == 1
+}

@@ -1,0 +1,220 @@
+//! The codes that name banks, accounts and orders: BIC, IBAN and TxId.
+
+pub const BIC_LEN: usize = 11;
+pub const IBAN_LEN: usize = 34;
+pub const TX_ID_LEN: usize = 35;
+
+/// The eleven bytes where a BIC stands.
+pub type Bic = [u8; BIC_LEN];
+/// A TxId with its padding.
+pub type TxId = [u8; TX_ID_LEN];
+/// An IBAN with its padding.
+pub type Iban = [u8; IBAN_LEN];
+
+// The classes a byte can belong to, one bit each.
+const UPPER: u8 = 1;
+const UPPER_BUT_O: u8 = 2;
+const LOWER: u8 = 4;
+const DIGIT: u8 = 8;
+const DIGIT_FROM_2: u8 = 16;
+const MARK: u8 = 32;
+
+const BIC_FORM: [u8; BIC_LEN] = [
+    UPPER,
+    UPPER,
+    UPPER,
+    UPPER,
+    UPPER,
+    UPPER,
+    UPPER | DIGIT_FROM_2,
+    UPPER_BUT_O | DIGIT,
+    UPPER | DIGIT,
+    UPPER | DIGIT,
+    UPPER | DIGIT,
+];
+
+const CLASSES: [u8; 256] = all_classes();
+
+const fn all_classes() -> [u8; 256] {
+    let mut classes = [0; 256];
+    let mut byte = 0;
+    while byte < 256 {
+        classes[byte] = class_of(byte as u8);
+        byte += 1;
+    }
+    classes
+}
+
+const fn class_of(byte: u8) -> u8 {
+    match byte {
+        b'O' => UPPER,
+        b'A'..=b'Z' => UPPER | UPPER_BUT_O,
+        b'a'..=b'z' => LOWER,
+        b'0' | b'1' => DIGIT,
+        b'2'..=b'9' => DIGIT | DIGIT_FROM_2,
+        b'/' | b'-' | b'?' | b':' | b'(' | b')' | b'.' | b',' | b'\'' | b'+' => MARK,
+        _ => 0,
+    }
+}
+
+fn is_in(byte: u8, classes: u8) -> bool {
+    CLASSES[byte as usize] & classes != 0
+}
+
+fn all_in(bytes: &[u8], classes: u8) -> bool {
+    bytes.iter().all(|&byte| is_in(byte, classes))
+}
+
+/// Whether the bytes are a BIC of eleven characters.
+pub fn is_bic(bytes: &[u8]) -> bool {
+    bytes.len() == BIC_LEN && bytes.iter().zip(&BIC_FORM).all(|(&byte, &classes)| is_in(byte, classes))
+}
+
+/// Whether the bytes are a TxId, without padding.
+pub fn is_tx_id(bytes: &[u8]) -> bool {
+    (1..=TX_ID_LEN).contains(&bytes.len()) && all_in(bytes, UPPER | LOWER | DIGIT | MARK)
+}
+
+/// Whether the bytes are an IBAN, without padding.
+pub fn is_iban(bytes: &[u8]) -> bool {
+    (5..=IBAN_LEN).contains(&bytes.len())
+        && all_in(&bytes[..2], UPPER)
+        && all_in(&bytes[2..4], DIGIT)
+        && all_in(&bytes[4..], UPPER | LOWER | DIGIT)
+        && iban_remainder(bytes) == 1
+}
+
+/// What the number of an IBAN leaves on division by 97. All bytes are letters or digits, at least four of them.
+pub fn iban_remainder(iban: &[u8]) -> u64 {
+    let (first_four, rest) = iban.split_at(4);
+    let rest = rest.chunks(8).fold(0, read_on);
+    read_on(rest, first_four)
+}
+
+/// Reads at most eight more characters after a number below 97; the number stays below 10^18 before it is divided.
+fn read_on(before: u64, part: &[u8]) -> u64 {
+    let number = part.iter().fold(before, |number, &byte| {
+        if byte.is_ascii_digit() {
+            number * 10 + u64::from(byte - b'0')
+        } else {
+            number * 100 + u64::from(byte.to_ascii_lowercase() - b'a') + 10
+        }
+    });
+    number % 97
+}
+
+/// All before the trailing zero bytes.
+pub fn unpadded(field: &[u8]) -> &[u8] {
+    let end = field.iter().rposition(|&byte| byte != 0).map_or(0, |last| last + 1);
+    &field[..end]
+}
+
+#[cfg(test)]
+mod tests {
+    use super::*;
+
+    #[test]
+    fn bic_places() {
+        assert!(is_bic(b"AAAALV22XXX"));
+        assert!(is_bic(b"ZZZZZZ9Z000"));
+        assert!(is_bic(b"AAAALVA0A9Z"));
+        assert!(!is_bic(b"AAAALV22"));
+        assert!(!is_bic(b"AAAALV22XXXX"));
+        assert!(!is_bic(b""));
+        for (at, wrong) in
+            [(0, b'0'), (5, b'2'), (5, b'a'), (6, b'0'), (6, b'1'), (7, b'O'), (7, b'o'), (8, b'x'), (10, b' '), (10, 0)]
+        {
+            let mut bic = *b"AAAALV22XXX";
+            bic[at] = wrong;
+            assert!(!is_bic(&bic), "{wrong} at {at}");
+        }
+        for (at, right) in [(6, b'O'), (6, b'2'), (7, b'0'), (7, b'1'), (7, b'N'), (7, b'P'), (8, b'O'), (10, b'0')] {
+            let mut bic = *b"AAAALV22XXX";
+            bic[at] = right;
+            assert!(is_bic(&bic), "{right} at {at}");
+        }
+    }
+
+    #[test]
+    fn every_byte_at_every_place_of_a_bic() {
+        let allowed = |at: usize, byte: u8| match at {
+            0..=5 => byte.is_ascii_uppercase(),
+            6 => byte.is_ascii_uppercase() || (b'2'..=b'9').contains(&byte),
+            7 => (byte.is_ascii_uppercase() && byte != b'O') || byte.is_ascii_digit(),
+            _ => byte.is_ascii_uppercase() || byte.is_ascii_digit(),
+        };
+        for at in 0..BIC_LEN {
+            for byte in 0..=255 {
+                let mut bic = *b"AAAALV22XXX";
+                bic[at] = byte;
+                assert_eq!(is_bic(&bic), allowed(at, byte), "{byte} at {at}");
+            }
+        }
+    }
+
+    #[test]
+    fn tx_id_bytes_and_lengths() {
+        for byte in 0..=255u8 {
+            let allowed = byte.is_ascii_alphanumeric() || b"/-?:().,'+".contains(&byte);
+            assert_eq!(is_tx_id(&[byte]), allowed, "{byte}");
+            assert_eq!(is_tx_id(&[b'A', byte, b'A']), allowed, "{byte}");
+        }
+        assert!(!is_tx_id(b""));
+        assert!(is_tx_id(&[b'a'; 35]));
+        assert!(!is_tx_id(&[b'a'; 36]));
+    }
+
+    #[test]
+    fn iban_examples() {
+        for iban in [
+            "LV80BANK0000435195001",
+            "DE89370400440532013000",
+            "GB29NWBK60161331926819",
+            "MT84MALT011000012345MTLCAST001S",
+            "NO9386011117947",
+            "LV80bank0000435195001",
+        ] {
+            assert!(is_iban(iban.as_bytes()), "{iban}");
+        }
+        for iban in
+            ["LV81BANK0000435195001", "lv80BANK0000435195001", "LVA0BANK0000435195001", "LV80BANK0000435195 01", "LV80", ""]
+        {
+            assert!(!is_iban(iban.as_bytes()), "{iban}");
+        }
+    }
+
+    #[test]
+    fn iban_lengths() {
+        for length in 4..=40 {
+            let mut iban = vec![b'0'; length];
+            iban[..2].copy_from_slice(b"AA");
+            let remainder = iban_remainder(&iban);
+            let check = (1 + 97 - remainder) % 97;
+            iban[2..4].copy_from_slice(format!("{check:02}").as_bytes());
+            assert_eq!(iban_remainder(&iban), 1);
+            assert_eq!(is_iban(&iban), (5..=34).contains(&length), "{length}");
+        }
+    }
+
+    /// The remainder as long division on the written-out digits gives it.
+    fn plain_remainder(iban: &[u8]) -> u32 {
+        let moved = [&iban[4..], &iban[..4]].concat();
+        let digits: String = moved.iter().map(|&byte| (byte as char).to_digit(36).unwrap().to_string()).collect();
+        digits.bytes().fold(0, |left, digit| (left * 10 + u32::from(digit - b'0')) % 97)
+    }
+
+    #[test]
+    fn remainder_agrees_with_long_division() {
+        for iban in ["ZZ99zzzzzzzzzzzzzzzzzzzzzzzzzzzzzz", "AB12c", "XY00ABCDefgh1234", "LV80BANK0000435195001"] {
+            assert_eq!(iban_remainder(iban.as_bytes()), u64::from(plain_remainder(iban.as_bytes())), "{iban}");
+        }
+    }
+
+    #[test]
+    fn padding() {
+        assert_eq!(unpadded(b"AB\0\0"), b"AB");
+        assert_eq!(unpadded(b"A\0B\0"), b"A\0B");
+        assert_eq!(unpadded(b"\0\0"), b"");
+        assert_eq!(unpadded(b"AB"), b"AB");
+    }
+}

@@ -1,0 +1,35 @@
+//! The refusals, by the paper's numbers.
+
+/// Why a file or a ticket is turned back.
+#[derive(Clone, Copy, PartialEq, Eq, Debug)]
+#[repr(u8)]
+pub enum Refusal {
+    ShortFile = 1,
+    Counts = 2,
+    Layout = 3,
+    ParticipantRow = 4,
+    RouteRow = 5,
+    ShortBuffer = 6,
+    Form = 7,
+    Iban = 8,
+    NoAmount = 9,
+    AmountAboveLimit = 10,
+    TimeBeforeClock = 11,
+    Sender = 12,
+    TxIdHeld = 13,
+    NoRoute = 14,
+    BookFull = 15,
+    TxIdNotHeld = 16,
+    WrongParty = 17,
+    Status = 18,
+    AmountDiffers = 19,
+    TooLittleCover = 20,
+    CutOrConfirm = 21,
+    TooMuchCover = 22,
+}
+
+impl Refusal {
+    pub fn number(self) -> u8 {
+        self as u8
+    }
+}

@@ -1,0 +1,602 @@
+//! Cases of the paper: D and E to the byte, its marked edges, the order of refusals, and what refusals leave.
+
+use crate::book::{Answer, Book, Cover, Recall, Status};
+use crate::dayfile::{DayFile, Roster};
+use crate::printing::print_day;
+use crate::refusal::Refusal;
+use crate::report::{reports, Report, BUFFER_LEN};
+use crate::ticket::tx_id_of;
+use crate::writing::{padded, participant_row, route_row, Day, TicketFields};
+
+const A: &[u8; 11] = b"AAAALV22XXX";
+const B: &[u8; 11] = b"BBBBLV22XXX";
+const SYSTEM: &[u8; 11] = b"CCCCLV22XXX";
+const STRANGER: &[u8; 11] = b"DDDDLV22XXX";
+const IBAN: &[u8] = b"LV80BANK0000435195001";
+const MOST_PAID: u64 = 99_999_999_999;
+const MOST_COVER: u64 = 1_000_000_000_000_000_000;
+/// What stands in the buffer before a ticket.
+const OLD: u8 = 0xA5;
+
+fn fields(kind: u8, time: u32, sender: &[u8; 11], amount: u64) -> TicketFields {
+    TicketFields { sender: *sender, amount, ..TicketFields::new(kind, time) }
+}
+
+fn order_fields(time: u32, payer: &[u8; 11], payee: &[u8; 11], amount: u64, tx_id: &str) -> TicketFields {
+    TicketFields { payee: *payee, tx_id: padded(tx_id.as_bytes()), iban: padded(IBAN), ..fields(3, time, payer, amount) }
+}
+
+/// A ticket of kinds 4 to 8.
+fn about_fields(kind: u8, flag: u8, time: u32, sender: &[u8; 11], tx_id: &str) -> TicketFields {
+    TicketFields { flag, tx_id: padded(tx_id.as_bytes()), ..fields(kind, time, sender, 0) }
+}
+
+/// Banks A and B and a linked system, with the openings given, a direct route each.
+fn day_with(openings: [Option<u64>; 3]) -> Day {
+    let rows = [(A, 0), (B, 0), (SYSTEM, 1)];
+    Day {
+        participants: rows.iter().zip(openings).map(|((bic, kind), opening)| participant_row(bic, *kind, opening)).collect(),
+        routes: (0..).zip(rows).map(|(k, (bic, _))| route_row(bic, 0, k)).collect(),
+        tickets: vec![],
+    }
+}
+
+/// A book and the buffer that each of its tickets gets.
+struct Trial {
+    book: Book,
+    buffer: [u8; BUFFER_LEN],
+}
+
+impl Trial {
+    fn new(day: &Day) -> Self {
+        Trial { book: Book::new(DayFile::read(&day.bytes()).ok().unwrap().roster), buffer: [OLD; BUFFER_LEN] }
+    }
+
+    fn without_openings() -> Self {
+        Trial::new(&day_with([None; 3]))
+    }
+
+    fn answer(&mut self, ticket: &TicketFields) -> Answer {
+        self.buffer.fill(OLD);
+        let answer = self.book.hand_in(&ticket.bytes(), &mut self.buffer);
+        assert!(self.buffer[12 * answer.reports..].iter().all(|&byte| byte == OLD));
+        answer
+    }
+
+    fn refusal(&mut self, ticket: &TicketFields) -> u8 {
+        self.answer(ticket).refusal_number()
+    }
+
+    /// The refusal and the reports as (to, code, order, amount).
+    fn all(&mut self, ticket: &TicketFields) -> (u8, Vec<(u8, u8, u16, u64)>) {
+        let answer = self.answer(ticket);
+        let told = |report: Report| (report.to, report.code, report.order, report.amount);
+        (answer.refusal_number(), reports(&self.buffer, answer.reports).map(told).collect())
+    }
+
+    fn accept(&mut self, ticket: &TicketFields) {
+        assert_eq!(self.refusal(ticket), 0, "{ticket:?}");
+    }
+
+    fn cover(&self, participant: usize) -> Cover {
+        self.book.covers()[participant]
+    }
+
+    fn set_up_order(payee: &[u8; 11]) -> Self {
+        let mut trial = Trial::without_openings();
+        trial.accept(&fields(1, 0, A, 1000));
+        trial.accept(&order_fields(5, A, payee, 400, "X"));
+        trial
+    }
+
+    fn set_up_settled(payee: &[u8; 11]) -> Self {
+        let mut trial = Trial::set_up_order(payee);
+        trial.accept(&about_fields(4, 1, 6, payee, "X"));
+        trial
+    }
+}
+
+fn case(yes_at: u32) -> String {
+    let mut day = day_with([None; 3]);
+    day.participants.pop();
+    day.routes.pop();
+    day.tickets = vec![
+        fields(1, 0, A, 1000).bytes(),
+        order_fields(5, A, B, 400, "X").bytes(),
+        about_fields(4, 1, yes_at, B, "X").bytes(),
+        about_fields(8, 0, 30, A, "X").bytes(),
+    ];
+    text_of(&day.bytes())
+}
+
+fn text_of(file: &[u8]) -> String {
+    let mut text = Vec::new();
+    print_day(file, &mut text);
+    String::from_utf8(text).unwrap()
+}
+
+#[test]
+fn case_d() {
+    let expected = "T 0 0 0 0\nT 1 0 1 1\nR 1 1 0 400\nT 2 0 2 0\nR 0 2 0 400\nR 1 2 0 400\nT 3 0 1 0\nR 0 2 0 400\n\
+                    C 0 600 0 0\nC 1 400 0 0\n";
+    assert_eq!(case(24), expected);
+}
+
+#[test]
+fn case_e() {
+    let expected = "T 0 0 0 0\nT 1 0 1 1\nR 1 1 0 400\nT 2 18 2 0\nR 0 4 0 400\nR 1 4 0 400\nT 3 0 1 0\nR 0 4 0 400\n\
+                    C 0 1000 0 0\nC 1 0 0 0\n";
+    assert_eq!(case(25), expected);
+}
+
+#[test]
+fn iban_of_an_order() {
+    let mut trial = Trial::without_openings();
+    trial.accept(&fields(1, 0, A, 1000));
+    let mut order = order_fields(0, A, B, 1, "X");
+    order.iban[..4].copy_from_slice(b"LV81");
+    assert_eq!(trial.refusal(&order), 8);
+    order.iban = [0; 34];
+    assert_eq!(trial.refusal(&order), 8);
+    trial.accept(&order_fields(0, A, B, 1, "X"));
+}
+
+#[test]
+fn order_up_to_available() {
+    let mut trial = Trial::without_openings();
+    trial.accept(&fields(1, 0, A, 1000));
+    assert_eq!(trial.refusal(&order_fields(0, A, B, 1001, "X")), 20);
+    trial.accept(&order_fields(0, A, B, 1000, "X"));
+    assert_eq!(trial.cover(0), Cover { reserved: 1000, ..Cover::default() });
+}
+
+#[test]
+fn amounts_at_their_limits() {
+    let mut trial = Trial::without_openings();
+    assert_eq!(trial.refusal(&fields(1, 0, A, MOST_COVER + 1)), 10);
+    assert_eq!(trial.refusal(&fields(2, 0, A, MOST_COVER + 1)), 10);
+    assert_eq!(trial.refusal(&fields(10, 0, A, MOST_COVER + 1)), 10);
+    assert_eq!(trial.refusal(&fields(10, 0, A, MOST_COVER)), 21);
+    for kind in [1, 2] {
+        assert_eq!(trial.refusal(&fields(kind, 0, A, 0)), 9);
+    }
+    trial.accept(&fields(1, 0, A, MOST_COVER));
+    assert_eq!(trial.refusal(&fields(1, 0, B, 1)), 22);
+    assert_eq!(trial.refusal(&order_fields(0, A, B, 0, "X")), 9);
+    assert_eq!(trial.refusal(&order_fields(0, A, B, MOST_PAID + 1, "X")), 10);
+    trial.accept(&order_fields(0, A, B, MOST_PAID, "X"));
+    trial.accept(&fields(2, 0, A, MOST_COVER - MOST_PAID));
+    assert_eq!(trial.refusal(&fields(1, 0, B, MOST_COVER - MOST_PAID + 1)), 22);
+    trial.accept(&fields(1, 0, B, MOST_COVER - MOST_PAID));
+}
+
+#[test]
+fn cut_and_confirm() {
+    let mut trial = Trial::new(&day_with([Some(100), Some(100), None]));
+    trial.accept(&fields(1, 0, A, 150));
+    trial.accept(&fields(1, 0, B, 40));
+    trial.accept(&fields(1, 0, SYSTEM, 7));
+    assert_eq!(trial.all(&TicketFields::new(9, 0)), (0, vec![(0, 11, 65_535, 50), (1, 10, 65_535, 60)]));
+    assert_eq!(trial.cover(0), Cover { available: 100, held: 50, ..Cover::default() });
+    assert_eq!(trial.cover(1), Cover { available: 40, open_debit: 60, ..Cover::default() });
+    assert_eq!(trial.cover(2), Cover { available: 7, ..Cover::default() });
+    assert_eq!(trial.refusal(&TicketFields::new(9, 0)), 21);
+    assert_eq!(trial.refusal(&fields(10, 0, A, 49)), 21);
+    assert_eq!(trial.refusal(&fields(10, 0, A, 51)), 21);
+    assert_eq!(trial.all(&fields(10, 0, A, 50)), (0, vec![]));
+    assert_eq!(trial.refusal(&fields(10, 0, A, 0)), 21);
+    assert_eq!(trial.refusal(&TicketFields::new(9, 0)), 21);
+    assert_eq!(trial.refusal(&fields(10, 0, B, 61)), 21);
+    assert_eq!(trial.all(&fields(10, 0, B, 0)), (0, vec![]));
+    assert_eq!(trial.cover(1), Cover { available: 40, ..Cover::default() });
+    assert_eq!(trial.all(&TicketFields::new(9, 0)), (0, vec![(1, 10, 65_535, 60)]));
+    trial.accept(&fields(10, 0, B, 60));
+    assert_eq!(trial.all(&TicketFields::new(9, 0)), (0, vec![]));
+}
+
+#[test]
+fn reserved_is_left_out_of_a_cut() {
+    let mut trial = Trial::new(&day_with([Some(100), None, None]));
+    trial.accept(&fields(1, 0, A, 150));
+    trial.accept(&order_fields(0, A, B, 80, "X"));
+    assert_eq!(trial.all(&TicketFields::new(9, 0)), (0, vec![(0, 10, 65_535, 30)]));
+    assert_eq!(trial.cover(0), Cover { available: 70, reserved: 80, held: 0, open_debit: 30 });
+}
+
+#[test]
+fn confirmed_debit_up_to_the_limit_of_all_cover() {
+    let mut trial = Trial::new(&day_with([Some(100), None, None]));
+    trial.accept(&fields(1, 0, B, MOST_COVER - 30));
+    trial.accept(&TicketFields::new(9, 0));
+    assert_eq!(trial.refusal(&fields(10, 0, A, 101)), 21);
+    assert_eq!(trial.refusal(&fields(10, 0, A, 31)), 22);
+    trial.accept(&fields(10, 0, A, 30));
+}
+
+#[test]
+fn held_cover_counts_until_it_is_confirmed() {
+    let mut trial = Trial::new(&day_with([Some(0), None, None]));
+    trial.accept(&fields(1, 0, A, MOST_COVER));
+    trial.accept(&TicketFields::new(9, 0));
+    assert_eq!(trial.refusal(&fields(1, 0, B, 1)), 22);
+    trial.accept(&fields(10, 0, A, MOST_COVER));
+    trial.accept(&fields(1, 0, B, MOST_COVER));
+}
+
+#[test]
+fn yes_twice() {
+    let mut trial = Trial::set_up_order(B);
+    trial.accept(&about_fields(4, 1, 6, B, "X"));
+    assert_eq!(trial.refusal(&about_fields(4, 1, 6, B, "X")), 18);
+    assert_eq!(trial.refusal(&about_fields(4, 2, 6, B, "X")), 18);
+}
+
+#[test]
+fn answers_to_an_order() {
+    let mut trial = Trial::set_up_order(SYSTEM);
+    assert_eq!(trial.all(&about_fields(4, 1, 5000, SYSTEM, "X")), (0, vec![(0, 2, 0, 400)]));
+    assert_eq!(trial.cover(2).available, 400);
+    let mut trial = Trial::set_up_order(B);
+    assert_eq!(trial.all(&about_fields(4, 2, 5, B, "X")), (0, vec![(0, 3, 0, 400)]));
+    assert_eq!(trial.cover(0), Cover { available: 1000, ..Cover::default() });
+}
+
+#[test]
+fn recalls() {
+    let mut trial = Trial::set_up_settled(B);
+    assert_eq!(trial.refusal(&about_fields(7, 1, 7, B, "X")), 18);
+    assert_eq!(trial.all(&about_fields(5, 1, 7, A, "X")), (0, vec![(1, 5, 0, 400)]));
+    assert_eq!(trial.refusal(&about_fields(5, 1, 7, A, "X")), 18);
+    assert_eq!(trial.all(&about_fields(8, 0, 7, A, "X")), (0, vec![(0, 2, 0, 400), (1, 8, 0, 400)]));
+    assert_eq!(trial.all(&about_fields(7, 7, 7, B, "X")), (0, vec![(0, 7, 0, 400)]));
+    assert_eq!(trial.book.orders()[0].status, Status::Settled(Recall::Declined));
+    assert_eq!(trial.all(&about_fields(8, 0, 7, A, "X")), (0, vec![(0, 2, 0, 400), (0, 7, 0, 400)]));
+    assert_eq!(trial.refusal(&about_fields(5, 1, 7, A, "X")), 18);
+}
+
+#[test]
+fn returns() {
+    let mut trial = Trial::set_up_settled(B);
+    let return_of = |amount| TicketFields { amount, ..about_fields(6, 0, 7, B, "X") };
+    assert_eq!(trial.refusal(&return_of(399)), 18);
+    trial.accept(&about_fields(5, 4, 7, A, "X"));
+    trial.accept(&fields(2, 7, B, 1));
+    assert_eq!(trial.refusal(&return_of(399)), 19);
+    assert_eq!(trial.refusal(&return_of(400)), 20);
+    trial.accept(&fields(1, 7, B, 1));
+    assert_eq!(trial.all(&return_of(400)), (0, vec![(0, 6, 0, 400)]));
+    assert_eq!(trial.cover(0), Cover { available: 1000, ..Cover::default() });
+    assert_eq!(trial.cover(1), Cover::default());
+    assert_eq!(trial.all(&about_fields(8, 0, 7, A, "X")), (0, vec![(0, 6, 0, 400)]));
+    assert_eq!(trial.refusal(&return_of(400)), 18);
+}
+
+#[test]
+fn inquiries_of_waiting_orders() {
+    let mut trial = Trial::set_up_order(B);
+    assert_eq!(trial.all(&about_fields(8, 0, 24, A, "X")), (0, vec![(0, 9, 0, 400)]));
+    assert_eq!(trial.all(&about_fields(8, 0, 25, A, "X")), (0, vec![(0, 4, 0, 400), (1, 4, 0, 400), (0, 4, 0, 400)]));
+    let mut trial = Trial::set_up_order(SYSTEM);
+    assert_eq!(trial.all(&about_fields(8, 0, 4_000_000_000, A, "X")), (0, vec![(2, 8, 0, 400)]));
+}
+
+#[test]
+fn payer_pays_itself() {
+    let mut trial = Trial::set_up_order(A);
+    assert_eq!(trial.cover(0), Cover { available: 600, reserved: 400, ..Cover::default() });
+    assert_eq!(trial.all(&about_fields(4, 1, 6, A, "X")), (0, vec![(0, 2, 0, 400), (0, 2, 0, 400)]));
+    assert_eq!(trial.cover(0), Cover { available: 1000, ..Cover::default() });
+    trial.accept(&about_fields(5, 1, 6, A, "X"));
+    trial.accept(&TicketFields { amount: 400, ..about_fields(6, 0, 6, A, "X") });
+    assert_eq!(trial.cover(0), Cover { available: 1000, ..Cover::default() });
+}
+
+#[test]
+fn expiry_near_the_top_of_32_bits() {
+    let mut trial = Trial::without_openings();
+    trial.accept(&fields(1, 0, A, 1000));
+    trial.accept(&order_fields(u32::MAX - 20, A, B, 1, "X"));
+    trial.accept(&order_fields(u32::MAX - 19, A, B, 2, "Y"));
+    assert_eq!(trial.all(&TicketFields::new(11, u32::MAX - 1)), (0, vec![]));
+    assert_eq!(trial.all(&TicketFields::new(11, u32::MAX)), (0, vec![(0, 4, 0, 1), (1, 4, 0, 1)]));
+}
+
+#[test]
+fn linked_systems_hold_up_no_expiry() {
+    let mut trial = Trial::without_openings();
+    trial.accept(&fields(1, 0, A, 1000));
+    for (payee, tx_id) in [(SYSTEM, "1"), (B, "2"), (SYSTEM, "3"), (B, "4")] {
+        trial.accept(&order_fields(0, A, payee, 10, tx_id));
+    }
+    trial.accept(&about_fields(4, 2, 10, B, "2"));
+    trial.accept(&order_fields(10, A, B, 5, "5"));
+    assert_eq!(trial.all(&TicketFields::new(11, 20)), (0, vec![(0, 4, 3, 10), (1, 4, 3, 10)]));
+    assert_eq!(trial.all(&TicketFields::new(11, 30)), (0, vec![(0, 4, 4, 5), (1, 4, 4, 5)]));
+}
+
+#[test]
+fn orders_up_to_256() {
+    let mut trial = Trial::without_openings();
+    trial.accept(&fields(1, 0, A, 1000));
+    for number in 0..256 {
+        trial.accept(&order_fields(0, A, B, 1, &number.to_string()));
+    }
+    assert_eq!(trial.refusal(&order_fields(0, A, B, 2000, "0")), 13);
+    assert_eq!(trial.refusal(&order_fields(0, A, STRANGER, 2000, "X")), 14);
+    assert_eq!(trial.refusal(&order_fields(0, A, B, 2000, "X")), 15);
+    let answer = trial.answer(&order_fields(20, A, B, 1, "X"));
+    assert_eq!((answer.refusal_number(), answer.reports, answer.rows), (15, 512, 0));
+    assert_eq!(trial.cover(0), Cover { available: 1000, ..Cover::default() });
+}
+
+#[test]
+fn most_reports_of_a_ticket() {
+    let bics: Vec<[u8; 11]> =
+        (b'A'..=b'Z').chain(b'2'..=b'7').map(|byte| padded(&[b"AAAALV", &[byte][..], b"2XXX"].concat())).collect();
+    let day = Day {
+        participants: bics.iter().map(|bic| participant_row(bic, 0, Some(1))).collect(),
+        routes: vec![route_row(B, 0, 31)],
+        tickets: vec![],
+    };
+    let mut trial = Trial::new(&day);
+    trial.accept(&fields(1, 0, &bics[0], 1000));
+    for number in 0..256 {
+        trial.accept(&order_fields(7, &bics[0], B, 1, &number.to_string()));
+    }
+    assert_eq!(trial.answer(&TicketFields::new(9, 27)).reports, 544);
+}
+
+#[test]
+fn buffers_and_refusal_6() {
+    let mut book = Trial::set_up_order(B).book;
+    let tick = TicketFields::new(11, 1000).bytes();
+    for length in [0, 1, 12, BUFFER_LEN - 1] {
+        let mut buffer = vec![OLD; length];
+        let answer = book.hand_in(&tick, &mut buffer);
+        assert_eq!(answer, Answer { refusal: Some(Refusal::ShortBuffer), reports: 0, rows: 0 });
+        assert_eq!(book.hand_in(&[], &mut buffer).refusal_number(), 6);
+        assert!(buffer.iter().all(|&byte| byte == OLD));
+        assert_eq!((book.clock(), book.orders()[0].status), (5, Status::Waiting));
+    }
+    let mut buffer = vec![OLD; BUFFER_LEN + 5];
+    assert_eq!(book.hand_in(&[], &mut buffer).refusal_number(), 7);
+    assert_eq!(book.hand_in(&tick, &mut buffer), Answer { refusal: None, reports: 2, rows: 0 });
+    assert_eq!(buffer[..24], [0, 4, 0, 0, 0, 0, 0, 0, 0, 0, 1, 144, 1, 4, 0, 0, 0, 0, 0, 0, 0, 0, 1, 144]);
+    assert!(buffer[24..].iter().all(|&byte| byte == OLD));
+}
+
+#[test]
+fn refusals_7_to_11_leave_everything() {
+    let mut trial = Trial::set_up_order(B);
+    let too_long = [TicketFields::new(11, 1000).bytes().as_slice(), &[0]].concat();
+    assert_eq!(trial.book.hand_in(&too_long, &mut trial.buffer).refusal_number(), 7);
+    let refused = [
+        (7, TicketFields::new(12, 1000)),
+        (8, TicketFields { iban: [0; 34], ..order_fields(1000, A, B, 1, "Y") }),
+        (9, fields(1, 1000, A, 0)),
+        (10, fields(1, 1000, A, MOST_COVER + 1)),
+        (11, fields(1, 4, A, 1)),
+    ];
+    for (refusal, ticket) in refused {
+        assert_eq!(trial.all(&ticket), (refusal, vec![]));
+        assert_eq!((trial.book.clock(), trial.book.orders()[0].status), (5, Status::Waiting));
+    }
+}
+
+#[test]
+fn later_refusals_leave_what_a_tick_leaves() {
+    let refused = [
+        (12, fields(1, 25, STRANGER, 1)),
+        (13, order_fields(25, A, B, 1, "X")),
+        (14, order_fields(25, A, STRANGER, 1, "Y")),
+        (16, about_fields(8, 0, 25, A, "Y")),
+        (17, about_fields(8, 0, 25, B, "X")),
+        (18, about_fields(4, 1, 25, B, "X")),
+        (20, fields(2, 25, A, 1001)),
+        (21, fields(10, 25, A, 0)),
+        (22, fields(1, 25, A, MOST_COVER)),
+    ];
+    for (refusal, ticket) in refused {
+        let mut trial = Trial::set_up_order(B);
+        assert_eq!(trial.all(&ticket), (refusal, vec![(0, 4, 0, 400), (1, 4, 0, 400)]));
+        assert_eq!(trial.book.clock(), 25);
+        assert_eq!(trial.cover(0), Cover { available: 1000, ..Cover::default() });
+        assert_eq!(trial.cover(1), Cover::default());
+    }
+}
+
+#[test]
+fn order_of_refusals() {
+    let mut trial = Trial::set_up_order(B);
+    // The ticket fails at all of these checks; its faults are taken away one by one.
+    let mut ticket = TicketFields { flag: 1, iban: [0; 34], ..order_fields(4, STRANGER, STRANGER, 0, "X") };
+    assert_eq!(trial.refusal(&ticket), 7);
+    ticket.flag = 0;
+    assert_eq!(trial.refusal(&ticket), 8);
+    ticket.iban = padded(IBAN);
+    assert_eq!(trial.refusal(&ticket), 9);
+    ticket.amount = MOST_PAID + 1;
+    assert_eq!(trial.refusal(&ticket), 10);
+    ticket.amount = MOST_PAID;
+    assert_eq!(trial.refusal(&ticket), 11);
+    ticket.time = 5;
+    assert_eq!(trial.refusal(&ticket), 12);
+    ticket.sender = *A;
+    assert_eq!(trial.refusal(&ticket), 13);
+    ticket.tx_id = padded(b"Y");
+    assert_eq!(trial.refusal(&ticket), 14);
+    ticket.payee = *SYSTEM;
+    assert_eq!(trial.refusal(&ticket), 20);
+    ticket.amount = 600;
+    assert_eq!(trial.refusal(&ticket), 0);
+
+    let mut ticket = TicketFields { amount: 5000, ..about_fields(6, 0, 5, STRANGER, "Z") };
+    assert_eq!(trial.refusal(&ticket), 12);
+    ticket.sender = *A;
+    assert_eq!(trial.refusal(&ticket), 16);
+    ticket.tx_id = padded(b"X");
+    assert_eq!(trial.refusal(&ticket), 17);
+    ticket.sender = *B;
+    assert_eq!(trial.refusal(&ticket), 18);
+}
+
+#[test]
+fn fields_a_kind_leaves_out_are_zero() {
+    let mut trial = Trial::set_up_order(B);
+    for kind in 1..=11 {
+        let listed: &[usize] = match kind {
+            1 | 2 | 10 => &[8, 16],
+            3 => &[8, 16, 27, 38, 73],
+            6 => &[8, 16, 38],
+            4 | 5 | 7 | 8 => &[16, 38],
+            _ => &[],
+        };
+        let base = match kind {
+            3 => order_fields(5, A, B, 1, "Y"),
+            4 | 5 | 7 => about_fields(kind, 1, 5, A, "Z"),
+            6 => TicketFields { amount: 1, ..about_fields(6, 0, 5, A, "Z") },
+            8 => about_fields(8, 0, 5, A, "Z"),
+            9 | 11 => TicketFields::new(kind, 5),
+            _ => fields(kind, 5, STRANGER, 1),
+        };
+        assert_ne!(trial.refusal(&TicketFields { time: 4, ..base.clone() }), 7);
+        for at in (0..108).filter(|at| ![0, 4, 5, 6, 7].contains(at)) {
+            let field = [1, 2, 3, 8, 16, 27, 38, 73, 107].into_iter().rfind(|start| *start <= at).unwrap();
+            if listed.contains(&field) || (field == 1 && [4, 5, 7].contains(&kind)) {
+                continue;
+            }
+            let mut ticket = base.bytes();
+            ticket[at] = 1;
+            assert_eq!(trial.book.hand_in(&ticket, &mut trial.buffer).refusal_number(), 7, "kind {kind}, byte {at}");
+        }
+    }
+}
+
+#[test]
+fn flags() {
+    let mut trial = Trial::without_openings();
+    for (kind, most) in [(4, 2), (5, 4), (7, 7)] {
+        for flag in 0..=255 {
+            let expected = if (1..=most).contains(&flag) { 16 } else { 7 };
+            assert_eq!(trial.refusal(&about_fields(kind, flag, 0, A, "X")), expected, "kind {kind}, flag {flag}");
+        }
+    }
+}
+
+#[test]
+fn tx_id_reader() {
+    let ticket = order_fields(0, A, B, 1, "a/b").bytes();
+    assert_eq!(tx_id_of(&ticket), b"a/b");
+    assert_eq!(tx_id_of(&ticket).as_ptr(), ticket[38..].as_ptr());
+    assert_eq!(tx_id_of(&ticket[..107]), b"");
+    assert_eq!(tx_id_of(&order_fields(0, A, B, 1, "a b").bytes()), b"");
+    assert_eq!(tx_id_of(&order_fields(0, A, B, 1, "a\0b").bytes()), b"");
+    assert_eq!(tx_id_of(&[0; 108]), b"");
+    assert_eq!(tx_id_of(&order_fields(0, A, B, 1, &"a".repeat(35)).bytes()), [b'a'; 35]);
+}
+
+#[test]
+fn tx_ids_differ_by_length_and_case() {
+    let mut trial = Trial::without_openings();
+    trial.accept(&fields(1, 0, A, 1000));
+    let longest = "a".repeat(35);
+    for tx_id in ["a", "aa", "A", &longest[..34], &longest] {
+        trial.accept(&order_fields(0, A, B, 1, tx_id));
+    }
+    for tx_id in ["a", "aa", "A", &longest[..34], &longest] {
+        assert_eq!(trial.refusal(&order_fields(0, A, B, 1, tx_id)), 13);
+    }
+}
+
+#[test]
+fn routes_that_go_on() {
+    let mut day = day_with([None; 3]);
+    day.routes = vec![route_row(STRANGER, 0, 1)];
+    for number in 1..64u8 {
+        let bic = padded(&[b"EEEELV2".as_slice(), &[b'A' + number % 8, b'A' + number / 8], b"00"].concat());
+        day.routes.push(route_row(&bic, 1, u16::from(number) - 1));
+    }
+    let last = padded(&day.routes[63][..11]);
+    let mut trial = Trial::new(&day);
+    trial.accept(&fields(1, 0, A, 1000));
+    let answer = trial.answer(&order_fields(0, A, &last, 1, "X"));
+    assert_eq!((answer.refusal_number(), answer.rows), (0, 64));
+    assert_eq!(trial.book.orders()[0].payee, 1);
+    assert_eq!(trial.refusal(&order_fields(0, A, B, 1, "Y")), 14);
+}
+
+fn file_refusal(day: &Day) -> String {
+    text_of(&day.bytes())
+}
+
+#[test]
+fn files_turned_back() {
+    assert_eq!(text_of(&[]), "F 1\n");
+    assert_eq!(text_of(&[0; 11]), "F 1\n");
+    assert_eq!(text_of(&[0; 12]), "F 2\n");
+    assert_eq!(text_of(&[0, 1, 0, 65, 0, 0, 0, 12, 0, 36, 0, 36]), "F 2\n");
+    assert_eq!(text_of(&[0, 1, 0, 0, 2, 1, 0, 12, 0, 36, 0, 36]), "F 2\n");
+    assert_eq!(text_of(&[0, 1, 0, 64, 2, 0, 0, 12, 0, 36, 0, 36]), "F 3\n");
+    let day = day_with([None; 3]);
+    let bytes = day.bytes();
+    assert_eq!(text_of(&bytes), "C 0 0 0 0\nC 1 0 0 0\nC 2 0 0 0\n");
+    assert_eq!(text_of(&bytes[..bytes.len() - 1]), "F 3\n");
+    assert_eq!(text_of(&[&bytes[..], &[0]].concat()), "F 3\n");
+    for at in [7, 9, 11] {
+        let mut bytes = bytes.clone();
+        bytes[at] += 1;
+        assert_eq!(text_of(&bytes), "F 3\n");
+    }
+}
+
+#[test]
+fn participant_rows_turned_back() {
+    let row_turned_back = |change: fn(&mut [u8; 24])| {
+        let mut day = day_with([Some(0), Some(5), None]);
+        day.routes[0][11] = 2;
+        change(&mut day.participants[1]);
+        file_refusal(&day)
+    };
+    assert_eq!(row_turned_back(|_| ()), "F 5\n");
+    assert_eq!(row_turned_back(|row| row[12..20].copy_from_slice(&1_000_000_000_000_000u64.to_be_bytes())), "F 5\n");
+    assert_eq!(row_turned_back(|row| row[12..20].copy_from_slice(&1_000_000_000_000_001u64.to_be_bytes())), "F 4\n");
+    assert_eq!(row_turned_back(|row| row[0] = b'a'), "F 4\n");
+    assert_eq!(row_turned_back(|row| row[..11].copy_from_slice(A)), "F 4\n");
+    assert_eq!(row_turned_back(|row| row[11] = 2), "F 4\n");
+    assert_eq!(row_turned_back(|row| row[20] = 2), "F 4\n");
+    assert_eq!(row_turned_back(|row| row[20] = 0), "F 4\n");
+    assert_eq!(row_turned_back(|row| row[21] = 1), "F 4\n");
+    assert_eq!(row_turned_back(|row| row[22] = 1), "F 4\n");
+    assert_eq!(row_turned_back(|row| row[23] = 1), "F 4\n");
+}
+
+#[test]
+fn route_rows_turned_back() {
+    let row_turned_back = |change: fn(&mut [u8; 16])| {
+        let mut day = day_with([None; 3]);
+        change(&mut day.routes[1]);
+        file_refusal(&day)
+    };
+    assert_eq!(row_turned_back(|row| row[13] = 2), "C 0 0 0 0\nC 1 0 0 0\nC 2 0 0 0\n");
+    assert_eq!(row_turned_back(|row| row[13] = 3), "F 5\n");
+    assert_eq!(row_turned_back(|row| row[12] = 1), "F 5\n");
+    assert_eq!(row_turned_back(|row| row[11] = 1), "F 5\n");
+    assert_eq!(row_turned_back(|row| row[11..14].copy_from_slice(&[1, 0, 0])), "C 0 0 0 0\nC 1 0 0 0\nC 2 0 0 0\n");
+    assert_eq!(row_turned_back(|row| row[11] = 2), "F 5\n");
+    assert_eq!(row_turned_back(|row| row[0] = 0), "F 5\n");
+    assert_eq!(row_turned_back(|row| row[..11].copy_from_slice(A)), "F 5\n");
+    assert_eq!(row_turned_back(|row| row[14] = 1), "F 5\n");
+    assert_eq!(row_turned_back(|row| row[15] = 1), "F 5\n");
+}
+
+#[test]
+fn empty_book() {
+    let mut book = Book::new(Roster::empty());
+    let mut buffer = [OLD; BUFFER_LEN];
+    for (kind, refusal) in [(1, 12), (2, 12), (10, 12), (9, 0), (11, 0)] {
+        let sender = if kind == 9 || kind == 11 { [0; 11] } else { *A };
+        let ticket = fields(kind, 3, &sender, u64::from(refusal == 12));
+        assert_eq!(book.hand_in(&ticket.bytes(), &mut buffer).refusal_number(), refusal);
+    }
+    assert_eq!(book.clock(), 3);
+}
