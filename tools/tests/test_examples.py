@@ -1,0 +1,67 @@
+"""The examples: what each is there to show, and that the gate runs the proved program on every one."""
+
+import os
+import unittest
+
+from tests import scenes
+from zolfigar import many
+
+ADVICE = "; `tools/day pack --many` makes the input of crates/days"
+
+
+def outputs_of_days():
+    """The expected outputs of the program `days`, by the days' names."""
+    found, name = {}, None
+    for line in scenes.content("crates", "days", "stdout").decode().splitlines(keepends=True):
+        if line.startswith("# "):
+            name = line[2:-1]
+            found[name] = ""
+        else:
+            found[name] += line
+    return found
+
+
+class Gate(unittest.TestCase):
+    """`rt ci` runs `days` and holds what it prints to its stdout, so these outputs are the proved program's."""
+
+    def test_every_example_is_run_by_the_gate(self):
+        days = dict(many.split(scenes.content("crates", "days", "stdin")))
+        outputs = outputs_of_days()
+        for name in scenes.RUNNING + scenes.REFUSED:
+            with self.subTest(name):
+                self.assertEqual(days.get(f"example {name}".encode()), scenes.day_file(name), ADVICE)
+                self.assertEqual(outputs.get(f"example {name}"), scenes.output(name))
+
+    def test_no_example_is_forgotten(self):
+        names = sorted(name for name in os.listdir(scenes.EXAMPLES))
+        due = sorted(name + ending for name in scenes.RUNNING + scenes.REFUSED for ending in (".day", ".out"))
+        self.assertEqual(names, due)
+
+
+class Shown(unittest.TestCase):
+    def test_the_papers_cases(self):
+        first = "T 0 0 0 0\nT 1 0 1 1\nR 1 1 0 400\n"
+        in_time = "T 2 0 2 0\nR 0 2 0 400\nR 1 2 0 400\nT 3 0 1 0\nR 0 2 0 400\nC 0 600 0 0\nC 1 400 0 0\n"
+        too_late = "T 2 18 2 0\nR 0 4 0 400\nR 1 4 0 400\nT 3 0 1 0\nR 0 4 0 400\nC 0 1000 0 0\nC 1 0 0 0\n"
+        self.assertEqual((scenes.output("case-d"), scenes.output("case-e")), (first + in_time, first + too_late))
+
+    def test_each_refusal_once(self):
+        refusals = [event.refusal for event in scenes.day("turned-back").events if event.refusal]
+        self.assertEqual(sorted(refusals), list(range(7, 23)))
+
+    def test_refused_files(self):
+        self.assertEqual([scenes.output(name) for name in scenes.REFUSED], [f"F {n}\n" for n in range(1, 6)])
+
+    def test_the_busy_day_has_it_all(self):
+        day = scenes.day("busy")
+        self.assertEqual({e.ticket["kind"] for e in day.events if e.refusal == 0}, set(range(1, 12)))
+        codes = {report.code for event in day.events for report in event.reports}
+        self.assertEqual(codes, {1, 2, 3, 4, 5, 6, 7, 8, 10, 11})
+        self.assertTrue(any(not p.is_bank for p in day.participants))
+        self.assertEqual({event.rows for event in day.events}, {0, 1, 2})
+        late = next(o for o in day.orders if o.txid == "LATE")
+        self.assertEqual((late.ended.refusal, late.ended.ticket["flag"], late.ended.time - late.time), (18, 1, 20))
+
+
+if __name__ == "__main__":
+    unittest.main()

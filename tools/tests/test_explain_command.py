@@ -1,0 +1,107 @@
+"""The command tools/explain, run as its users run it."""
+
+import os
+import pty
+import subprocess
+import tempfile
+import unittest
+
+from tests import scenes
+from zolfigar import files
+
+EXPLAIN = os.path.join(scenes.ROOT, "tools", "explain")
+
+
+class Command(unittest.TestCase):
+    @classmethod
+    def setUpClass(cls):
+        cls.folder = tempfile.TemporaryDirectory()
+        cls.addClassCleanup(cls.folder.cleanup)
+        for name in ("busy", "case-d", "refused-2"):
+            files.write(cls.path(name + ".bin"), scenes.day_file(name))
+            files.write(cls.path(name + ".out"), scenes.output(name).encode())
+        other = scenes.changed(scenes.output("case-d"), "C 0 600 0 0", "C 0 601 0 0")
+        files.write(cls.path("tampered.out"), other.encode())
+
+    @classmethod
+    def path(cls, name):
+        return os.path.join(cls.folder.name, name)
+
+    def explain(self, day, output, *words, **how):
+        command = [EXPLAIN, self.path(day), self.path(output), *words]
+        return subprocess.run(command, capture_output=True, text=True, **how)
+
+    def test_a_day_that_adds_up(self):
+        ran = self.explain("case-d.bin", "case-d.out")
+        self.assertEqual((ran.returncode, ran.stderr), (0, ""))
+        self.assertIn("6.00 available + 0.00 reserved + 0.00 held = 6.00, the program's line C 0", ran.stdout)
+        self.assertNotIn("\x1b", ran.stdout)
+
+    def test_a_day_that_does_not(self):
+        ran = self.explain("case-d.bin", "tampered.out")
+        self.assertEqual(ran.returncode, 1)
+        self.assertIn("AAAALV22XXX: available adds up to 6.00, and the output closes it at 6.01", ran.stdout)
+
+    def test_the_output_of_another_day(self):
+        self.assertEqual(self.explain("case-d.bin", "busy.out").returncode, 1)
+
+    def test_a_refused_file(self):
+        ran = self.explain("refused-2.bin", "refused-2.out")
+        self.assertEqual(ran.returncode, 0)
+        self.assertIn("the day file is refused by 2", ran.stdout)
+
+    def test_page_and_journal(self):
+        page, journal = self.path("day.html"), self.path("day.journal")
+        ran = self.explain("busy.bin", "busy.out", "--page", page, "--journal", journal, "--date", "2026-11-15")
+        self.assertEqual((ran.returncode, ran.stdout, ran.stderr), (0, "", ""))
+        self.assertTrue(files.read(page).startswith(b"<!DOCTYPE html>"))
+        self.assertIn(b"2026-11-15 * (0) AAAALV22 | cover in", files.read(journal))
+
+    def test_a_page_of_a_day_that_does_not_add_up(self):
+        ran = self.explain("case-d.bin", "tampered.out", "--journal", "-")
+        self.assertEqual(ran.returncode, 1)
+        self.assertIn("One thing doesn't add up", ran.stderr)
+
+    def test_followed(self):
+        self.assertIn("Cover of CCCCLT2X", self.explain("busy.bin", "busy.out", "--member", "CCCCLT2X").stdout)
+        self.assertIn("order 0 SALARY-1 returned", self.explain("busy.bin", "busy.out", "--order", "SALARY-1").stdout)
+
+    def test_clear_errors(self):
+        cases = {
+            ("--member", "ZZZZLV22"): "explain: ZZZZLV22 is no participant of this day: AAAALV22XXX, BBBBLV22XXX\n",
+            ("--order", "TX9"): "explain: no order with the TxId TX9 was accepted on this day\n",
+        }
+        for words, said in cases.items():
+            ran = self.explain("case-d.bin", "case-d.out", *words)
+            self.assertEqual((ran.returncode, ran.stdout, ran.stderr), (1, "", said))
+        ran = self.explain("none.bin", "case-d.out")
+        said = f"explain: can't read {self.path('none.bin')}: No such file or directory\n"
+        self.assertEqual((ran.returncode, ran.stderr), (1, said))
+        self.assertEqual(subprocess.run([EXPLAIN], capture_output=True).returncode, 2)
+
+    def test_colour_on_a_terminal(self):
+        """A terminal gets colour, unless NO_COLOR is set."""
+        for more, coloured in (({}, True), ({"NO_COLOR": "1"}, False)):
+            main, other = pty.openpty()
+            command = [EXPLAIN, self.path("case-d.bin"), self.path("case-d.out")]
+            environment = {k: v for k, v in os.environ.items() if k != "NO_COLOR"} | more
+            ran = subprocess.Popen(command, stdout=other, stderr=subprocess.DEVNULL, env=environment)
+            os.close(other)
+            shown = b""
+            try:
+                while part := os.read(main, 65536):
+                    shown += part
+            except OSError:
+                pass
+            os.close(main)
+            self.assertEqual(ran.wait(), 0)
+            self.assertEqual(b"\x1b[32m" in shown, coloured)
+
+    def test_a_closed_pipe(self):
+        shell = f"{EXPLAIN} {self.path('busy.bin')} {self.path('busy.out')} | head -1"
+        ran = subprocess.run(["sh", "-c", shell], capture_output=True, text=True)
+        self.assertEqual((ran.stdout.count("\n"), ran.stderr), (1, ""))
+
+
+if __name__ == "__main__":
+    unittest.main()

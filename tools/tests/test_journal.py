@@ -1,0 +1,89 @@
+"""The journal, read by hledger: its balances are the program's closing positions, and an altered entry is noticed.
+
+hledger has to be there: where it isn't, these tests fail."""
+
+import csv
+import datetime
+import io
+import re
+import subprocess
+import unittest
+
+from tests import scenes
+from zolfigar import journal
+
+
+def hledger(text, *words):
+    return subprocess.run(["hledger", "-f", "-", *words], input=text, capture_output=True, text=True)
+
+
+def balances(text):
+    """Account names with their cents, as hledger has them."""
+    ran = hledger(text, "balance", "--flat", "--empty", "--no-total", "-O", "csv")
+    if ran.returncode:
+        raise AssertionError(ran.stderr)
+    found = {}
+    for account, amount in list(csv.reader(io.StringIO(ran.stdout)))[1:]:
+        whole, cents = re.fullmatch(r"(?:EUR )?(-?\d+)(?:\.(\d\d))?", amount).groups()
+        found[account] = int(whole + (cents or "00"))
+    return found
+
+
+def closed(name):
+    """Account names with their cents, as the C lines of the output have them."""
+    lines = [line.split() for line in scenes.output(name).splitlines() if line.startswith("C ")]
+    bics = {p.number: p.bic for p in scenes.day(name).participants}
+    parts = ("available", "reserved", "held")
+    return {f"cover:{bics[int(n)]}:{part}": int(cents) for _, n, *amounts in lines for part, cents in zip(parts, amounts)}
+
+
+class Hledger(unittest.TestCase):
+    def test_balances_are_the_closing_positions(self):
+        for name in scenes.RUNNING:
+            with self.subTest(name):
+                found = balances(journal.journal(scenes.day(name)))
+                self.assertEqual({a: c for a, c in found.items() if a.startswith("cover:")}, closed(name))
+                self.assertEqual(sum(found.values()), 0)
+
+    def test_checked_strictly(self):
+        for name in scenes.RUNNING:
+            ran = hledger(journal.journal(scenes.day(name)), "check", "--strict", "ordereddates")
+            self.assertEqual((ran.returncode, ran.stderr), (0, ""), name)
+
+    def test_an_altered_entry(self):
+        """Both sides of one entry by a cent, one side alone, the closing position: hledger refuses each."""
+        text = journal.journal(scenes.day("busy"))
+        one_side = text.replace("EUR 40.00\n", "EUR 40.01\n", 1)
+        both = one_side.replace("EUR -40.00\n", "EUR -40.01\n", 1)
+        position = text.replace("= EUR 987.66", "= EUR 987.67")
+        for altered, said in ((one_side, "balance"), (both, "assertion"), (position, "assertion")):
+            self.assertNotEqual(altered, text)
+            ran = hledger(altered, "balance")
+            self.assertNotEqual(ran.returncode, 0)
+            self.assertIn(said, ran.stderr)
+
+    def test_a_tampered_output(self):
+        other = scenes.changed(scenes.output("busy"), "C 3 8000 0 0", "C 3 8001 0 0")
+        self.assertIn("assertion", hledger(journal.journal(scenes.day("busy", other)), "balance").stderr)
+
+
+class Entries(unittest.TestCase):
+    def test_an_entry(self):
+        day = scenes.day("case-d")
+        entries = journal.journal(day, datetime.date(2026, 11, 15)).split("\n\n")
+        due = "2026-11-15 * (2) AAAALV22 | order 0 TX1 settled, to BBBBLV22  ; time: 00:00:24\n"
+        due += "    cover:AAAALV22XXX:reserved                               EUR -4.00\n"
+        due += "    cover:BBBBLV22XXX:available                               EUR 4.00"
+        self.assertEqual(entries[-2], due)
+
+    def test_dates_go_on_behind_midnight(self):
+        self.assertEqual(journal.date_of(journal.DATE, 86399), "2000-01-01")
+        self.assertEqual(journal.date_of(journal.DATE, 86400), "2000-01-02")
+        self.assertEqual(journal.date_of(journal.DATE, 2**32 - 1), "2136-02-07")
+
+    def test_a_refused_file(self):
+        self.assertEqual(balances(journal.journal(scenes.day("refused-3"))), {})
+
+
+if __name__ == "__main__":
+    unittest.main()

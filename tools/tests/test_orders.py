@@ -1,0 +1,68 @@
+"""The orders: the words of a row, and where its marks lead."""
+
+import dataclasses
+import unittest
+
+from tests import pages, scenes
+from tests.pages import DAYS, FOCUS, leads_of, words_of
+from zolfigar import history, page
+from zolfigar.page import lives, orders
+
+
+class Words(unittest.TestCase):
+    def setUp(self):
+        self.day = scenes.day("busy")
+        self.orders = {order.txid: order for order in self.day.orders}
+
+    def test_status(self):
+        cases = {
+            "SALARY-1": "settled after 4 s, returned",
+            "INVOICE-3": "settled after 6 s, returned",
+            "RENT-7": "refused after 10 s",
+            "GIFT": "expired after 20 s",
+            "IN-TIME": "settled after 19 s",
+            "TO-FI-1": "settled after 120 s no limit: linked system",
+            "TO-FI-3": "waiting no limit: linked system",
+        }
+        for txid, words in cases.items():
+            self.assertEqual(words_of(*orders.status_words(self.day, self.orders[txid])), words)
+
+    def test_returned_though_no_end_was_told(self):
+        order = dataclasses.replace(self.orders["SALARY-1"], ended=None, code=None)
+        self.assertEqual(words_of(*orders.status_words(self.day, order)), "returned")
+
+    def test_payee(self):
+        cases = {"SALARY-1": "BBBBLV22", "IN-TIME": "BBBBLV22 for BBBBLV22RIX", "TO-FI-1": "RTONFRPP for EEEEFIHH"}
+        for txid, words in cases.items():
+            self.assertEqual(words_of(*orders.payee_words(self.day, self.orders[txid])), words)
+
+    def test_a_row(self):
+        row = orders.order_row(page.View(self.day), self.orders["RENT-7"])
+        words = ["1", "RENT-7", "BBBBLV22", "CCCCLT2X", "25.00", "refused after 10 s"]
+        self.assertEqual([words_of(cell) for cell in row][:6], words)
+        leads = ["#o1", "#t5", "#p1", "#p2", "#t5", "#t5", "#t6"]
+        self.assertEqual([lead for _, lead in leads_of(row)], leads)
+
+    def test_marks_without_room_are_behind_a_fold(self):
+        view = page.View(history.read(*DAYS["big"]))
+        cells = [orders.life_cell(view, order) for order in view.day.orders]
+        at = next(n for n, cell in enumerate(cells) if cell.find("details") is not None)
+        fold, events = cells[at].find("details"), view.day.orders[at].events
+        self.assertEqual(words_of(fold[0]), "2 marks more; all 7 tickets")
+        self.assertEqual([lead for _, lead in leads_of(fold)], [f"#t{event.number}" for event in events])
+
+    def test_the_legend_has_the_signs(self):
+        self.assertEqual(len(list(orders.signs_legend().iter("svg"))), 2 * (len(lives.SIGNS) - 1))
+
+
+class Seen(pages.InBrowser):
+    def test_marks_lead_to_their_tickets(self):
+        self.open("busy")
+        self.browser.click("#o4 .sign.decline")
+        self.assertEqual(self.js(FOCUS), "t25")
+        self.assertIn("no limit", self.texts("#o5 td:nth-child(6)")[0])
+        self.assertNotIn("no limit", self.texts("#o4 td:nth-child(6)")[0])
+
+
+if __name__ == "__main__":
+    unittest.main()

@@ -1,0 +1,116 @@
+"""The command tools/run, with a stand-in for rt that builds a stand-in for the program: it prints an example's output.
+
+That the proved program prints these outputs is a test of the gate: crates/days has every example (test_examples.py)."""
+
+import contextlib
+import io
+import os
+import subprocess
+import tempfile
+import unittest
+from unittest import mock
+
+from tests import scenes
+from zolfigar import files, run_command
+
+RT = """#!/bin/sh
+test "$*" = "check clearing" || exit 2
+test ! -e broken || { echo "fn f: not proved"; exit 1; }
+mkdir -p target/bin
+cp program target/bin/clearing
+"""
+
+PROGRAM = """#!/usr/bin/env python3
+import pathlib, sys
+folder = pathlib.Path(__file__).resolve().parents[2] / "outputs"
+day = sys.stdin.buffer.read()
+for file in folder.glob("*.bin"):
+    if file.read_bytes() == day:
+        sys.stdout.write(file.with_suffix(".out").read_text())
+"""
+
+
+class Run(unittest.TestCase):
+    def setUp(self):
+        folder = tempfile.TemporaryDirectory()
+        self.addCleanup(folder.cleanup)
+        self.root = folder.name
+        for name, text in (("bin/rt", RT), ("program", PROGRAM)):
+            os.makedirs(os.path.dirname(self.path(name)), exist_ok=True)
+            files.write(self.path(name), text.encode())
+            os.chmod(self.path(name), 0o755)
+        os.makedirs(self.path("outputs"))
+        for name in scenes.RUNNING + scenes.REFUSED:
+            files.write(self.path(f"outputs/{name}.bin"), scenes.day_file(name))
+            files.write(self.path(f"outputs/{name}.out"), scenes.output(name).encode())
+
+    def path(self, name):
+        return os.path.join(self.root, name)
+
+    def run_day(self, *words):
+        """The exit status, standard output and standard error."""
+        out, err = io.TextIOWrapper(io.BytesIO(), encoding="utf-8", write_through=True), io.StringIO()
+        path = self.path("bin") + os.pathsep + os.environ["PATH"]
+        with mock.patch.dict(os.environ, PATH=path), contextlib.redirect_stdout(out), contextlib.redirect_stderr(err):
+            status = files.guarded("run", lambda: run_command.run(run_command.arguments(words), self.root))
+        return status, out.buffer.getvalue().decode(), err.getvalue()
+
+    def example(self, name):
+        return os.path.join(scenes.EXAMPLES, name + ".day")
+
+    def test_each_example(self):
+        for name in scenes.RUNNING + scenes.REFUSED:
+            with self.subTest(name):
+                status, out, _ = self.run_day(self.example(name))
+                self.assertEqual(status, 0)
+                self.assertTrue(out.startswith(name + ": "))
+                for ending, starts in ((".html", b"<!DOCTYPE html>"), (".journal", b"; "), (".bin", scenes.day_file(name))):
+                    self.assertTrue(files.read(self.path(f"target/run/{name}{ending}")).startswith(starts))
+                self.assertEqual(files.text(self.path(f"target/run/{name}.out")), scenes.output(name))
+
+    def test_what_is_missing_is_built(self):
+        said = "run: the clearing program is not built yet: proving and building it, which takes some minutes\n"
+        self.assertEqual(self.run_day(self.example("case-d"))[2], said)
+        self.assertEqual(self.run_day(self.example("case-d"))[2], "")
+
+    def test_building_shows_how_far_it_is(self):
+        """On a terminal, the last line that rt said of a crate."""
+        shown = io.StringIO()
+        shown.isatty = lambda: True
+        with contextlib.redirect_stderr(shown):
+            said = run_command.followed(["fn f: proved\n", "rt: fields proved (10 s)\n"])
+        self.assertEqual(said, "fn f: proved\nrt: fields proved (10 s)\n")
+        self.assertEqual(shown.getvalue(), "\rrt: fields proved (10 s)\x1b[K\r\x1b[K")
+
+    def test_a_build_that_fails(self):
+        files.write(self.path("broken"), b"")
+        status, _, err = self.run_day(self.example("case-d"))
+        self.assertEqual(status, 1)
+        self.assertIn("run: rt check clearing failed:\nfn f: not proved\n", err)
+
+    def test_an_output_that_is_not_the_expected_one(self):
+        files.write(self.path("mine.day"), scenes.content("examples", "case-d.day"))
+        files.write(self.path("mine.out"), scenes.output("case-e").encode())
+        status, _, err = self.run_day(self.path("mine.day"))
+        self.assertEqual(status, 1)
+        self.assertIn(f"run: {self.path('mine.out')}:4: expected 'T 2 18 2 0', found 'T 2 0 2 0'\n", err)
+
+    def test_a_mistake_in_the_text(self):
+        files.write(self.path("mine.day"), b"participant AAAALV22 bank\n00:00:00 cover-in from AAAALV22 EUR 4\n")
+        status, out, err = self.run_day(self.path("mine.day"))
+        self.assertEqual((status, out), (1, ""))
+        self.assertIn(f"{self.path('mine.day')}:2:37: expected ", err)
+
+    def test_a_packed_day(self):
+        files.write(self.path("packed.bin"), scenes.day_file("case-d"))
+        self.assertEqual(self.run_day(self.path("packed.bin"), "--order", "TX1")[0], 0)
+
+    def test_without_the_kit(self):
+        with mock.patch.object(subprocess, "Popen", side_effect=FileNotFoundError(2, "No such file or directory")):
+            status, _, err = self.run_day(self.example("case-d"))
+        said = "run: can't run rt, the Rattle kit's command: No such file or directory"
+        self.assertEqual((status, err.splitlines()[-1]), (1, said))
+
+
+if __name__ == "__main__":
+    unittest.main()

@@ -1,0 +1,101 @@
+"""A day in columns."""
+
+import unittest
+
+from tests import scenes
+from zolfigar import audit, terminal
+
+PLAIN = terminal.Style(False)
+
+
+def shown(name, text=None, **wanted):
+    day = scenes.day(name, text)
+    return list(terminal.lines(day, audit.problems(day), PLAIN, **wanted))
+
+
+class Whole(unittest.TestCase):
+    def test_case_d(self):
+        self.assertEqual("\n".join(shown("case-d")), CASE_D)
+
+    def test_columns_are_aligned(self):
+        lines = shown("busy")
+        head = next(i for i, line in enumerate(lines) if line.startswith("Cover of AAAALV22"))
+        table = lines[head + 1 : head + 20]
+        self.assertEqual(len({len(line) for line in table[:19]}), 1)
+
+    def test_a_tampered_output_is_told_first(self):
+        text = scenes.changed(scenes.output("case-d"), "C 0 600 0 0", "C 0 601 0 0")
+        lines = shown("case-d", text)
+        self.assertEqual(lines[1], "One thing doesn't add up:")
+        self.assertIn("  6.01 available + 0.00 reserved + 0.00 held = 6.01, the program's line C 0: it doesn't add up", lines)
+
+    def test_a_refused_file(self):
+        day = scenes.day("refused-4")
+        due = "refused-4: the day file is refused by 4: a participant row is wrong: "
+        due += "BIC, kind, wish, opening, spare, or an earlier row's BIC"
+        self.assertEqual(list(terminal.refused(day, [], PLAIN)), [due, "No ticket was looked at, and there is no cover."])
+
+
+class Followed(unittest.TestCase):
+    def test_one_member(self):
+        lines = shown("busy", member=3)
+        numbers = [int(line.split()[0]) for line in lines[4 : lines.index("Orders") - 1] if not line.startswith(" " * 16)]
+        self.assertEqual(numbers, [7, 8, 18, 19, 33, 34, 35, 37, 40, 44, 45, 46])
+        covers = [line for line in lines if line.startswith("Cover of")]
+        self.assertEqual(covers, ["Cover of DDDDEE2X (participant 3, bank, opening cover 0.00)"])
+
+    def test_one_order(self):
+        day = scenes.day("busy")
+        lines = list(terminal.lines(day, [], PLAIN, order=day.orders[3]))
+        self.assertIn("      3  LATE  AAAALV22  BBBBLV22   60.00  08:01:00  expired             10   20 s", lines)
+        self.assertEqual(lines[-1], "  08:01:20      10  AAAALV22  order 3 LATE expired, freed             +60.00    -60.00")
+
+
+class Colour(unittest.TestCase):
+    def test_only_where_it_is_wanted(self):
+        day = scenes.day("case-e")
+        self.assertNotIn("\x1b", "".join(terminal.lines(day, [], PLAIN)))
+        self.assertIn("\x1b[33mturned back", "".join(terminal.lines(day, [], terminal.Style(True))))
+
+
+CASE_D = """\
+case-d: 4 tickets: 4 carried out, 0 turned back; 1 order: 1 settled
+Everything adds up: every cover, every wait, every ending.
+
+Tickets
+    0  00:00:00  cover-in from AAAALV22 EUR 10.00
+                carried out
+    1  00:00:05  order TX1 from AAAALV22 to BBBBLV22 EUR 4.00 iban LV80BANK0000435195001
+                carried out, 1 route row followed
+                  to BBBBLV22: an order to answer (1), order 0 TX1, EUR 4.00
+    2  00:00:24  answer TX1 yes from BBBBLV22
+                carried out
+                  to AAAALV22: the order is settled (2), order 0 TX1, EUR 4.00
+                  to BBBBLV22: the order is settled (2), order 0 TX1, EUR 4.00
+    3  00:00:30  inquiry TX1 from AAAALV22
+                carried out
+                  to AAAALV22: the order is settled (2), order 0 TX1, EUR 4.00
+
+Orders
+  order  TxId  payer     payee     amount        at  status   wait ended by  after
+      0  TX1   AAAALV22  BBBBLV22    4.00  00:00:05  settled              2   19 s
+
+Cover of AAAALV22 (participant 0, bank, no opening cover)
+      time  ticket  what                                change  available  reserved  held
+                    from zero                                        0.00      0.00  0.00
+  00:00:00       0  cover in                            +10.00      10.00      0.00  0.00
+  00:00:05       1  order 0 TX1 reserved, for BBBBLV22  (4.00)       6.00      4.00  0.00
+  00:00:24       2  order 0 TX1 settled, to BBBBLV22     -4.00       6.00      0.00  0.00
+  10.00 cover-ins - 4.00 orders settled from it = 6.00
+  6.00 available + 0.00 reserved + 0.00 held = 6.00, the program's line C 0
+
+Cover of BBBBLV22 (participant 1, bank, no opening cover)
+      time  ticket  what                                change  available  reserved  held
+                    from zero                                        0.00      0.00  0.00
+  00:00:24       2  order 0 TX1 settled, from AAAALV22   +4.00       4.00      0.00  0.00
+  4.00 orders settled to it = 4.00
+  4.00 available + 0.00 reserved + 0.00 held = 4.00, the program's line C 1"""
+
+
+if __name__ == "__main__":
+    unittest.main()

@@ -1,0 +1,60 @@
+"""The command tools/day."""
+
+import argparse
+import sys
+
+from . import files, many, packing, unpacking
+
+WHAT = "A day file from text, and text from a day file. docs/DAYS.md has the text form."
+USES = """example:
+  printf 'participant AAAALV22 bank\\n00:00:01 cover-in from AAAALV22 EUR 4.00\\n' > small.day
+  tools/day pack small.day -o small.bin
+  tools/day unpack small.bin
+
+Nothing is written if there is an error. The exit status is 1 for an error, 2 for wrong usage."""
+
+
+def arguments(words):
+    form = argparse.RawDescriptionHelpFormatter
+    parser = argparse.ArgumentParser("day", description=WHAT, epilog=USES, formatter_class=form)
+    commands = parser.add_subparsers(dest="command", required=True, metavar="pack|unpack")
+    for command, what in (("pack", "text to a day file"), ("unpack", "a day file, of any bytes, to text")):
+        added = commands.add_parser(command, help=what, description=what, epilog=USES, formatter_class=form)
+        added.add_argument("file", metavar="FILE", help="what is read; - is standard input")
+        added.add_argument("-o", dest="out", metavar="OUT", default="-", help="where it is written; else to standard output")
+        added.add_argument("--many", action="store_true", help="many named days, as the program days reads them")
+    return parser.parse_args(words)
+
+
+def packed(name, data, is_many):
+    return (many if is_many else packing).pack(name, packing.decoded(name, data))
+
+
+def unpacked(name, data, is_many):
+    try:
+        return (many if is_many else unpacking).unpack(data).encode()
+    except many.NotMany as error:
+        raise files.Failed(f"{name}: {error}") from None
+
+
+def look_at_streams(words):
+    """A stream that the caller has closed is None."""
+    if words.file == "-" and sys.stdin is None:
+        raise files.Failed("standard input is closed")
+    if words.out == "-" and sys.stdout is None:
+        raise files.Failed("standard output is closed")
+    if words.command == "pack" and words.out == "-" and sys.stdout.isatty():
+        raise files.Failed("a day file isn't written to a terminal: use -o OUT, or a pipe")
+
+
+def carry_out(words):
+    look_at_streams(words)
+    name = "standard input" if words.file == "-" else words.file
+    work = packed if words.command == "pack" else unpacked
+    files.write(words.out, work(name, files.read(words.file), words.many))
+    return 0
+
+
+def main():
+    words = arguments(sys.argv[1:])
+    return files.guarded("day", lambda: carry_out(words))

@@ -1,0 +1,87 @@
+"""The command tools/explain: a day file and the program's output, in words, as a page, or as a journal."""
+
+import argparse
+import datetime
+import os
+import sys
+
+from . import audit, files, history, journal, page, terminal
+
+USES = """examples:
+  tools/explain day.bin day.out                      all of it, on the terminal
+  tools/explain day.bin day.out --member AAAALV22    one participant
+  tools/explain day.bin day.out --order TX1          one order
+  tools/explain day.bin day.out --page day.html      one page for a browser
+  tools/explain day.bin day.out --journal day.journal --date 2026-11-15
+
+The exit status is 0 if everything adds up, 1 if something doesn't or can't be read, 2 for wrong usage."""
+
+
+def followed(parser):
+    """The two ways to follow one thing through a day."""
+    shown = parser.add_mutually_exclusive_group()
+    shown.add_argument("--member", metavar="BIC", help="follow one participant")
+    shown.add_argument("--order", metavar="TXID", help="follow one order")
+
+
+def arguments(words):
+    form = argparse.RawDescriptionHelpFormatter
+    parser = argparse.ArgumentParser("explain", description=__doc__, epilog=USES, formatter_class=form)
+    parser.add_argument("day", help="the day file, as tools/day packs it")
+    parser.add_argument("output", help="what the clearing program printed of it; - is standard input")
+    followed(parser)
+    parser.add_argument("--page", metavar="FILE", help="write one self-contained HTML page")
+    parser.add_argument("--journal", metavar="FILE", help="write a journal for hledger; - is standard output")
+    date = {"type": datetime.date.fromisoformat, "default": journal.DATE}
+    parser.add_argument("--date", **date, help="the date of second 0, for the journal; 2000-01-01 if it isn't given")
+    return parser.parse_args(words)
+
+
+def coloured(stream):
+    return stream.isatty() and "NO_COLOR" not in os.environ
+
+
+def wanted(day, words):
+    """The participant's number and the order that are to be followed."""
+    member = order = None
+    if words.member:
+        bic = words.member + "XXX" if len(words.member) == 8 else words.member
+        member = next((p.number for p in day.participants if p.bic == bic), None)
+        if member is None:
+            known = ", ".join(p.bic for p in day.participants)
+            raise files.Failed(f"{words.member} is no participant of this day: {known or 'it has none'}")
+    if words.order:
+        order = next((o for o in day.orders if o.txid == words.order), None)
+        if order is None:
+            raise files.Failed(f"no order with the TxId {words.order} was accepted on this day")
+    return member, order
+
+
+def show(day, problems, words):
+    """The day on standard output."""
+    style = terminal.Style(coloured(sys.stdout))
+    if day.refusal is not None:
+        found = terminal.refused(day, problems, style)
+    else:
+        found = terminal.lines(day, problems, style, *wanted(day, words))
+    files.write("-", "".join(line + "\n" for line in found).encode())
+
+
+def explain(words):
+    name = os.path.splitext(os.path.basename(words.day))[0]
+    day = history.read(name, files.read(words.day), files.text(words.output))
+    problems = audit.problems(day)
+    if words.page:
+        files.write(words.page, page.page(day).encode())
+    if words.journal:
+        files.write(words.journal, journal.journal(day, words.date).encode())
+    if not words.page and not words.journal:
+        show(day, problems, words)
+    elif problems:
+        sys.stderr.write("".join(line + "\n" for line in terminal.verdict(problems, terminal.Style(coloured(sys.stderr)))))
+    return 1 if problems else 0
+
+
+def main():
+    words = arguments(sys.argv[1:])
+    return files.guarded("explain", lambda: explain(words))

@@ -1,0 +1,86 @@
+"""Reading and writing files for the commands: whole files, errors in one line, nothing half written."""
+
+import os
+import sys
+import tempfile
+
+STANDARD = "-"
+
+
+class Failed(Exception):
+    """What the user is told, behind the command's name unless it begins with a place."""
+
+    begins_with_place = False
+
+
+def reason(error):
+    return error.strerror or str(error)
+
+
+def read(name):
+    """A file's bytes; - is standard input."""
+    try:
+        if name == STANDARD:
+            return sys.stdin.buffer.read()
+        with open(name, "rb") as file:
+            return file.read()
+    except OSError as error:
+        raise Failed(f"can't read {name}: {reason(error)}") from error
+
+
+def text(name):
+    """The program's output as text. It is ASCII; any other byte is shown by its number, and no line of the program has one."""
+    return read(name).decode("ascii", errors="backslashreplace")
+
+
+def write(name, data):
+    """Writes a file whole or not at all; - is standard output. A device or a pipe can't be replaced, and is written through."""
+    try:
+        if name == STANDARD:
+            sys.stdout.buffer.write(data)
+            sys.stdout.buffer.flush()
+        elif os.path.exists(name) and not os.path.isfile(name):
+            with open(name, "wb") as file:
+                file.write(data)
+        else:
+            replace(os.path.realpath(name), data)
+    except BrokenPipeError:
+        raise
+    except OSError as error:
+        raise Failed(f"can't write {'to standard output' if name == STANDARD else name}: {reason(error)}") from error
+
+
+def replace(name, data):
+    """Puts a file with the data where the name is, with the rights of the one before it."""
+    handle, beside = tempfile.mkstemp(dir=os.path.dirname(name), prefix=".part-")
+    try:
+        with os.fdopen(handle, "wb") as file:
+            file.write(data)
+        os.chmod(beside, os.stat(name).st_mode & 0o777 if os.path.exists(name) else 0o666 & ~mask())
+        os.replace(beside, name)
+    except BaseException:
+        os.unlink(beside)
+        raise
+
+
+def mask():
+    """The rights that a new file doesn't get."""
+    found = os.umask(0)
+    os.umask(found)
+    return found
+
+
+def guarded(command, work):
+    """Runs a command's work and gives its exit status. A closed pipe ends it without a word."""
+    if sys.stderr is None:
+        sys.stderr = open(os.devnull, "w")
+    try:
+        return work()
+    except Failed as error:
+        sys.stderr.write(f"{error}\n" if error.begins_with_place else f"{command}: {error}\n")
+        return 1
+    except BrokenPipeError:
+        os.dup2(os.open(os.devnull, os.O_WRONLY), sys.stdout.fileno())
+        return 1
+    except KeyboardInterrupt:
+        return 130

@@ -1,0 +1,114 @@
+"""Many days in one file, the standard input of the program days, and as text, where a line `day NAME` begins each.
+
+Each day has the lengths of its name and of its bytes, 4 bytes each, then the name, then the bytes."""
+
+from . import packing, text, unpacking
+from .progress import over
+
+MOST_NAME = 256
+MOST_DAY = 57101  # the program ends at a longer name or day
+
+
+class NotMany(Exception):
+    """The bytes aren't those of many days."""
+
+
+def part(data, at, size, what):
+    if at + size > len(data):
+        raise NotMany(f"cut off: {what} at byte {at} has {len(data) - at} bytes of {size}")
+    return data[at : at + size]
+
+
+def length(data, at, most, what):
+    value = int.from_bytes(part(data, at, 4, f"the length of {what}"), "big")
+    if value > most:
+        raise NotMany(f"not many days: the length at byte {at} gives {what} {value} bytes, above {most}")
+    return value
+
+
+def split(data):
+    """The names and bytes of the days."""
+    days, at = [], 0
+    while at < len(data):
+        count = len(days)
+        named = length(data, at, MOST_NAME, f"the name of day {count}")
+        size = length(data, at + 4, MOST_DAY, f"day {count}")
+        name = part(data, at + 8, named, f"the name of day {count}")
+        days.append((name, part(data, at + 8 + named, size, f"day {count}")))
+        at += 8 + named + size
+    return days
+
+
+def join(days):
+    return b"".join(len(name).to_bytes(4, "big") + len(day).to_bytes(4, "big") + name + day for name, day in days)
+
+
+def name_words(name):
+    """A name as its line has it: in hex unless it is printable words with one space between, none of them beginning with #."""
+    try:
+        written = name.decode()
+    except UnicodeDecodeError:
+        written = ""
+    words = written.split(" ")
+    plain = written.isprintable() and all(word and not word.startswith("#") for word in words)
+    return written if plain and not written.startswith("hex:") else f"hex:{name.hex()}"
+
+
+def read_name(cursor):
+    if (cursor.next() or "").startswith("hex:"):
+        name = cursor.take("", text.hex_literal)
+        cursor.finish()
+    elif cursor.next() is None:
+        raise cursor.expected("a name")
+    else:
+        name = " ".join(word.text for word in cursor.line.words[1:]).encode()
+    if len(name) > MOST_NAME:
+        raise cursor.mistake(f"expected a name of at most {MOST_NAME} bytes, found {len(name)}")
+    return name
+
+
+class Named:
+    """A day's line and the lines below it."""
+
+    def __init__(self, line):
+        self.line, self.name = line, b""
+        self.day = packing.Day(line.number, line.end())
+        cursor = text.Cursor(line)
+        cursor.skip()
+        try:
+            self.name = read_name(cursor)
+        except text.Mistake as mistake:
+            self.day.mistakes.append(mistake)
+
+    def packed(self):
+        file = self.day.packed()
+        if len(file) > MOST_DAY:
+            message = f"the day has {len(file)} bytes, and the program days reads at most {MOST_DAY}"
+            self.day.mistakes.append(text.Mistake(self.line.number, self.line.words[0].column, message))
+        return self.name, file
+
+
+def pack(name, days_text):
+    """The bytes of the days that the text has. TextError says what is wrong with it, with the name given."""
+    days, mistakes = [], []
+    for line in over(text.lines(days_text), f"lines of {name}"):
+        if line.words[0].text == "day":
+            days.append(Named(line))
+        elif days:
+            days[-1].day.add(line)
+        elif not mistakes:
+            mistakes.append(text.Cursor(line).expected("a line `day NAME` before all others"))
+    data = join([day.packed() for day in days])
+    mistakes += [mistake for day in days for mistake in day.day.mistakes]
+    if mistakes:
+        raise text.TextError(name, mistakes)
+    return data
+
+
+def unpack(data):
+    """The text of the days. It is packed again and compared before it is handed out."""
+    days = over(split(data), "days")
+    unpacked = "\n".join(f"day {name_words(name)}\n{unpacking.text_of(day)}" for name, day in days)
+    if pack("the text", unpacked) != data:
+        raise RuntimeError("internal error: packing the text doesn't give the days")
+    return unpacked

@@ -1,0 +1,330 @@
+"""Text to a day file. docs/DAYS.md has the text form."""
+
+from functools import partial
+from typing import Callable, NamedTuple
+
+from . import layout, text, words
+from .progress import over
+
+ORDER = ("header", "participant", "route", "ticket", "bytes")
+FIELD_WORDS = ("from", "to", "EUR", "cents", "iban", "but")
+KIND_NUMBERS = {word: number for number, word in words.KINDS.items()}
+AMOUNT_READERS = {"EUR": ("euros like 4.00", text.euros), "cents": ("cents like 400", text.cents)}
+
+
+class Item(NamedTuple):
+    """A part of a line that a word begins: the fields that it gives, its name in a message, how the words behind it are read."""
+
+    fields: tuple
+    phrase: str
+    read: Callable
+
+
+class Form(NamedTuple):
+    """A line's parts: the field that comes first, if any, its name and reader, then items by their words, in any order."""
+
+    fields: dict
+    first: str
+    phrase: str
+    read: Callable
+    items: dict
+    needed: tuple
+    never_first: frozenset
+
+
+class Reference(NamedTuple):
+    """The row with a BIC, a participant's or a route's."""
+
+    place: str
+    bic: bytes
+    mistake: text.Mistake
+
+
+def one_of(choices):
+    """How one of some words is asked for."""
+    return " or ".join(filter(None, (", ".join(choices[:-1]), choices[-1])))
+
+
+def chosen(table, what):
+    """A reader for one of the table's words."""
+
+    def read(word):
+        if word not in table:
+            raise text.expected(what, word)
+        return table[word]
+
+    return read
+
+
+def by_name(fields):
+    return {field.name: field for field in fields}
+
+
+def fixed(**values):
+    return lambda cursor: values
+
+
+def valued(field, what, read):
+    return lambda cursor: {field: cursor.take(what, read)}
+
+
+def opening(cursor):
+    if cursor.next() not in AMOUNT_READERS:
+        raise cursor.expected(text.AN_AMOUNT)
+    what, read = AMOUNT_READERS[cursor.next()]
+    cursor.skip()
+    return {"opening": cursor.take(what, read), "wish": 1}
+
+
+def leading(kind, place, a_row):
+    """A reader for where a route leads: a row's number or its BIC."""
+
+    def row(word):
+        if text.DIGITS.fullmatch(word):
+            return text.number(word, 65535)
+        bic = text.filled(word)
+        if bic is None:
+            raise text.Wrong(f"expected a BIC or the number of a {a_row}, found {text.quoted(word)}; a BIC is {text.A_BIC}")
+        return bic
+
+    def read(cursor):
+        missing = cursor.mistake(f"no {a_row} has the BIC {text.quoted(cursor.next())}; a number may stand here instead")
+        k = cursor.take(f"a BIC or the number of a {a_row}", row)
+        return {"kind": kind, "k": k if isinstance(k, int) else Reference(place, k, missing)}
+
+    return read
+
+
+def bic_form(fields, items, needed):
+    read = partial(text.bic, field="bic")
+    return Form(by_name(fields), "bic", "a BIC", read, items, needed, frozenset((*items, "but")))
+
+
+PARTICIPANT = bic_form(
+    layout.PARTICIPANT,
+    {
+        **{word: Item(("kind",), "bank or linked", fixed(kind=kind)) for kind, word in words.PARTICIPANT_KINDS.items()},
+        "opening": Item(("opening", "wish"), "opening", opening),
+    },
+    ("bic", "kind"),
+)
+ROUTE = bic_form(
+    layout.ROUTE,
+    {
+        "to": Item(("k", "kind"), "to or via", leading(0, "participant", "participant")),
+        "via": Item(("k", "kind"), "to or via", leading(1, "route", "route row")),
+    },
+    ("bic", "k", "kind"),
+)
+TICKET_ITEMS = {
+    "from": Item(("sender",), "from", valued("sender", "a BIC", partial(text.bic, field="sender"))),
+    "to": Item(("payee",), "to", valued("payee", "a BIC", partial(text.bic, field="payee"))),
+    **{word: Item(("amount",), text.AN_AMOUNT, valued("amount", *how)) for word, how in AMOUNT_READERS.items()},
+    "iban": Item(("iban",), "iban", valued("iban", "an IBAN", text.iban)),
+}
+
+
+def ticket_form(kind):
+    listed, flags = words.LISTED[kind], words.FLAGS.get(kind, {})
+    phrase = one_of(list(flags.values())) if flags else ""
+    items = {word: Item(("flag",), phrase, fixed(flag=flag)) for flag, word in flags.items()}
+    items |= {word: item for word, item in TICKET_ITEMS.items() if item.fields[0] in listed}
+    first = "txid" if "txid" in listed else ""
+    return Form(by_name(layout.TICKET), first, "a TxId", text.txid, items, listed, frozenset((*FIELD_WORDS, *flags.values())))
+
+
+TICKETS = {kind: ticket_form(kind) for kind in words.KINDS}
+
+
+def asked_for(form, row):
+    """What may come next in a line that has given the row so far."""
+    phrases = list(dict.fromkeys(item.phrase for item in form.items.values() if not set(item.fields) <= set(row)))
+    if all(field in row for field in form.needed if field != form.first):
+        phrases += ["but", "the line's end"]
+    return ", or ".join(filter(None, (", ".join(phrases[:-1]), phrases[-1])))
+
+
+def read_row(cursor, form):
+    """The fields of a row, those behind `but` in place of the others."""
+    row, first = {}, cursor.at
+    if form.first and cursor.next() is not None and cursor.next() not in form.never_first:
+        row[form.first] = cursor.take(form.phrase, form.read)
+    while cursor.next() not in ("but", None):
+        item = form.items.get(cursor.next())
+        if item is None or item.fields[0] in row:
+            raise cursor.expected(asked_for(form, row), f": {item.fields[0]} is given already" if item else "")
+        cursor.skip()
+        row |= item.read(cursor)
+    last = cursor.at
+    overridden = overrides(cursor, form.fields)
+    missing = [field for field in form.needed if field not in row and field not in overridden]
+    if missing:
+        cursor.at = first if form.first in missing else last
+        raise lacking(cursor, form, missing, row | overridden)
+    return row | overridden
+
+
+def lacking(cursor, form, missing, row):
+    """The mistake of a line that doesn't give all that it has to."""
+    if form.first not in missing:
+        return cursor.expected(asked_for(form, row))
+    spelled = form.first == "txid" and cursor.next() is not None
+    return cursor.expected(form.phrase, f"; a TxId of these letters is written `but txid {cursor.next()}`" if spelled else "")
+
+
+def overrides(cursor, fields):
+    """The fields behind `but`."""
+    values = {}
+    if cursor.next() is None:
+        return values
+    cursor.skip()
+    what = one_of(list(fields))
+    while not values or cursor.next() is not None:
+        if cursor.next() in values:
+            raise cursor.mistake(f"{cursor.next()} is given twice behind `but`")
+        field = cursor.take(what, chosen(fields, what))
+        read = partial(text.literal, size=field.size) if field.is_text else partial(text.number, most=field.most())
+        values[field.name] = cursor.take(f"a value for {field.name}", read)
+    return values
+
+
+def read_header(cursor):
+    fields = by_name(layout.HEADER)
+    what = one_of(list(fields))
+    field = cursor.take(what, chosen(fields, what))
+    value = cursor.take("a number", partial(text.number, most=field.most()))
+    cursor.finish()
+    return field.name, value
+
+
+def read_raw(cursor):
+    value, size = text.hex_bytes(cursor), layout.length(layout.TICKET)
+    if len(value) != size:
+        raise cursor.mistake(f"expected {2 * size} hex digits, found {2 * len(value)}")
+    return layout.read(layout.TICKET, value)
+
+
+def read_ticket(cursor):
+    time = cursor.take(text.A_TIME, text.time)
+    what = "a kind of ticket: " + one_of(list(KIND_NUMBERS))
+    kind = cursor.take(what, chosen(KIND_NUMBERS, what))
+    return {"time": time, "kind": kind} | read_row(cursor, TICKETS[kind])
+
+
+# The first word of a line: its place in the order, and how the words behind it are read.
+BEGINNINGS = {
+    "header": ("header", read_header),
+    "participant": ("participant", partial(read_row, form=PARTICIPANT)),
+    "route": ("route", partial(read_row, form=ROUTE)),
+    "raw": ("ticket", read_raw),
+    "bytes": ("bytes", text.hex_bytes),
+}
+
+
+class Day:
+    """The lines of a text, read one after the other."""
+
+    def __init__(self, line=1, column=1):
+        self.read = {place: [] for place in ORDER}
+        self.begun = {}  # the number of the first line of each place
+        self.last = (line, column)  # behind the last line read
+        self.rows_known = True  # no line before the tickets is wrong
+        self.mistakes = []
+
+    def add(self, line):
+        try:
+            place, value = self.line(text.Cursor(line))
+            self.read[place].append(value)
+        except text.Mistake as mistake:
+            self.mistakes.append(mistake)
+            self.rows_known = self.rows_known and "ticket" in self.begun
+        self.last = (line.number, line.end())
+
+    def line(self, cursor):
+        word = cursor.next()
+        if word in BEGINNINGS:
+            place, read = BEGINNINGS[word]
+        elif word[0] in "0123456789":
+            place, read = "ticket", read_ticket
+        else:
+            note = "; many days in one text need --many" if word == "day" else ""
+            raise cursor.expected(f"{', '.join(BEGINNINGS)}, or {text.A_TIME}", note)
+        self.in_order(cursor, place)
+        if word in BEGINNINGS:
+            cursor.skip()
+        if place == "header" and cursor.next() in dict(self.read["header"]):
+            raise cursor.mistake(f"header {cursor.next()} is given twice")
+        return place, read(cursor)
+
+    def in_order(self, cursor, place):
+        self.begun.setdefault(place, cursor.line.number)
+        before = [p for p in ORDER[ORDER.index(place) + 1 :] if p in self.begun]
+        if before:
+            found = f"a {before[0]} line came before, line {self.begun[before[0]]}"
+            raise cursor.mistake(f"this {place} line comes too late: {found}; the order is {', '.join(ORDER)}")
+
+    def packed(self):
+        """The file's bytes; none where there is a mistake."""
+        if not self.begun and not self.mistakes:
+            self.wrong("expected a line of a day, found none; `bytes` alone is an empty file")
+        if self.rows_known:
+            self.refer()
+        head = b"" if set(self.begun) <= {"bytes"} else self.header()
+        if self.mistakes:
+            return b""
+        written = ((layout.PARTICIPANT, "participant"), (layout.ROUTE, "route"), (layout.TICKET, "ticket"))
+        rows = [layout.write(fields, row) for fields, place in written for row in self.read[place]]
+        return b"".join([head, *rows, *self.read["bytes"]])
+
+    def wrong(self, message):
+        """A mistake that only the text as a whole shows."""
+        self.mistakes.append(text.Mistake(*self.last, message))
+
+    def refer(self):
+        """Puts numbers for the BICs that routes lead to."""
+        numbers = {place: first_with(self.read[place]) for place in ("participant", "route")}
+        for row in self.read["route"]:
+            if isinstance(row["k"], Reference):
+                number = numbers[row["k"].place].get(row["k"].bic)
+                if number is None:
+                    self.mistakes.append(row["k"].mistake)
+                row["k"] = number
+
+    def header(self):
+        counts = [len(self.read[place]) for place in ("participant", "route", "ticket")]
+        values = layout.header_of(*counts) | dict(self.read["header"])
+        above = [field for field in layout.HEADER if values[field.name] > field.most()]
+        if above:
+            found = f"{above[0].name} would be {values[above[0].name]}, above {above[0].most()}"
+            self.wrong(f"{found}; a line `header {above[0].name} ..` gives another number")
+            return b""
+        return layout.write(layout.HEADER, values)
+
+
+def first_with(rows):
+    """The number of the first row with each BIC."""
+    numbers = {}
+    for number, row in enumerate(rows):
+        numbers.setdefault(row["bic"], number)
+    return numbers
+
+
+def decoded(name, data):
+    """A file's text; TextError says where it isn't UTF-8."""
+    try:
+        return data.decode()
+    except UnicodeDecodeError as error:
+        before = data[: error.start].decode().removeprefix("\ufeff")
+        line, column = before.count("\n") + 1, len(before) - before.rfind("\n")
+        raise text.TextError(name, [text.Mistake(line, column, f"not UTF-8: byte {data[error.start]:02x}")]) from None
+
+
+def pack(name, day_text):
+    """The day file that the text stands for. TextError says what is wrong with it, with the name given."""
+    day = Day()
+    for line in over(text.lines(day_text), f"lines of {name}"):
+        day.add(line)
+    file = day.packed()
+    if day.mistakes:
+        raise text.TextError(name, day.mistakes)
+    return file

@@ -1,0 +1,78 @@
+"""The head of the page: whether the day adds up, that a file is refused, and the bar that stays in sight."""
+
+import re
+
+from .. import telling
+from .markup import folded, link, node, ticket_link
+
+ADDS_UP = (
+    "each participant's cover is the sum of what moved it and closes as the program says, nothing is ever below zero, "
+    "no order stops waiting twice, each time-out comes when it must and only then, and all are told the same."
+)
+NOT_LOOKED_AT = (
+    "Held against each other: tickets, answers, reports and closing positions. Which refusal a ticket should have had is not "
+    "looked at here."
+)
+
+
+def targets(day):
+    """What a problem's sentence may name, longest first, with the place that it leads to."""
+    names = {f"{p.bic}": f"p{p.number}" for p in reversed(day.participants)}
+    names |= {f"order {o.number} ({o.txid})": f"o{o.number}" for o in day.orders}
+    return dict(sorted(names.items(), key=lambda entry: -len(entry[0])))
+
+
+def linked(day, names, sentence):
+    """A problem's sentence, in which tickets, orders and participants lead to their places."""
+    known = "|".join(re.escape(name) for name in names) or "(?!)"
+    parts = []
+    for part in re.split(rf"({known}|\btickets? \d+(?:, \d+)*)", sentence):
+        if part in names:
+            parts.append(link(names[part], part))
+        elif re.fullmatch(r"tickets? \d+(?:, \d+)*", part):
+            parts += [numbered(day, word) for word in re.split(r"(\d+)", part)]
+        else:
+            parts.append(part)
+    return parts
+
+
+def numbered(day, word):
+    return ticket_link(int(word), word) if word.isdigit() and int(word) < len(day.events) else word
+
+
+def verdict(day, problems):
+    if not problems:
+        told = node("p", node("strong", "Everything adds up:"), " ", ADDS_UP)
+        return node("div", told, node("p", NOT_LOOKED_AT, class_="soft"), class_="verdict good")
+    count = "One thing doesn't add up." if len(problems) == 1 else f"{len(problems)} things don't add up."
+    names = targets(day)
+    found = folded([linked(day, names, problem) for problem in problems], 20, "problem")
+    if found.tag == "details":
+        found.set("open", "")
+    return node("div", node("p", node("strong", count)), found, class_="verdict bad", role="group", aria_label="Problems")
+
+
+def refused(day, problems):
+    """The page of a refused file."""
+    told = node("p", node("strong", "The file is refused."), f" Refusal {telling.refusal(day.refusal)}.")
+    rest = node("p", "The book is empty: it has no participants, and no ticket was looked at.")
+    boxes = [node("div", told, rest, class_="verdict bad")] + ([verdict(day, problems)] if problems else [])
+    return [node("header", node("h1", shown_name(day)), class_="head"), node("main", *boxes, id="top")]
+
+
+def shown_name(day):
+    """The day's name. What can't be written as UTF-8 is replaced."""
+    return day.name.encode("utf-8", "replace").decode()
+
+
+def bar(day):
+    """The line that stays in sight: the day, the sections, and the keys."""
+    top = link("top", shown_name(day), class_="top")
+    names = (link(name.lower(), name) for name in ("Participants", "Orders", "Tickets"))
+    keys = node("button", "Keys ", node("kbd", "?"), type="button", id="keys", hidden=True)
+    return node("nav", top, *names, keys, class_="bar", aria_label="Sections")
+
+
+def head(day, problems):
+    summary = node("p", telling.summary(day) + ".", class_="summary")
+    return node("header", node("h1", shown_name(day)), summary, verdict(day, problems), class_="head", id="top")

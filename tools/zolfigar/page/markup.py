@@ -1,0 +1,109 @@
+"""What the page is built of: the builder of elements, and the small parts: links, figures, folds, table heads, sections."""
+
+from xml.etree.ElementTree import Element
+
+from .. import telling
+from ..figures import counted, euro
+
+PARTS = ("available", "reserved", "held")  # of a cover
+
+
+# Elements
+
+
+def node(tag, *children, **attributes):
+    """An element with its attributes and its children, texts or elements. Python's class_ and aria_label are class and
+    aria-label; an attribute that is None or False is left out, and one that is True is empty."""
+    named = {name.rstrip("_").replace("_", "-"): value for name, value in attributes.items()}
+    given = {name: value for name, value in named.items() if value is not None and value is not False}
+    element = Element(tag, {name: "" if value is True else str(value) for name, value in given.items()})
+    for child in children:
+        append(element, child)
+    return element
+
+
+def append(element, child):
+    """Adds a text or an element behind what the element has; None adds nothing."""
+    if isinstance(child, Element):
+        element.append(child)
+    elif child is not None and len(element):
+        element[-1].tail = (element[-1].tail or "") + child
+    elif child is not None:
+        element.text = (element.text or "") + child
+
+
+def short(number):
+    """A position with at most two decimals."""
+    return f"{number:.2f}".rstrip("0").rstrip(".")
+
+
+def percent(part):
+    return f"{short(100 * part)}%"
+
+
+# Small parts
+
+
+def link(where, *words, **attributes):
+    return node("a", *words, href=f"#{where}", **attributes)
+
+
+def ticket_link(number, *words):
+    return link(f"t{number}", *(words or [str(number)]))
+
+
+def figure(cents, ticket=None):
+    """An amount, which leads to the ticket behind it if there is one."""
+    return euro(cents) if ticket is None else ticket_link(ticket, euro(cents))
+
+
+def signed(cents):
+    return f"+{euro(cents)}" if cents > 0 else euro(cents)
+
+
+def folded(items, most, what):
+    """A list of the items; behind a line that counts them where there are more than `most`."""
+    entries = node("ul", *(node("li", *item) for item in items))
+    if len(items) <= most:
+        return entries if items else None
+    return node("details", node("summary", counted(len(items), what)), entries)
+
+
+def comma_separated(nodes):
+    parts = []
+    for n, entry in enumerate(nodes):
+        parts += [", ", entry] if n else [entry]
+    return parts
+
+
+def head_row(*names):
+    """A row of column headings; a name that ends in # heads figures."""
+    cells = (node("th", name.rstrip("#"), scope="col", class_="figure" if name.endswith("#") else None) for name in names)
+    return node("thead", node("tr", *cells))
+
+
+def section(name, title, *parts):
+    return node("section", node("h2", title, id=f"{name}-title"), *parts, id=name, aria_labelledby=f"{name}-title")
+
+
+def with_order(day, sentence, number):
+    """A sentence in which the order's name, where it stands there, leads to the order."""
+    if number is None or not 0 <= number < len(day.orders):
+        return [sentence]
+    name = telling.order_name(day, number)
+    before, found, after = sentence.partition(name)
+    return [before, link(f"o{number}", name), after] if found else [sentence]
+
+
+def is_member(day, number):
+    return number is not None and 0 <= number < len(day.participants)
+
+
+def member_link(day, number):
+    name = telling.member(day, number)
+    return link(f"p{number}", name, class_="bic") if is_member(day, number) else name
+
+
+def changes(move):
+    """The parts that changed, and how; an open debit changes none."""
+    return [(part, getattr(move, part)) for part in PARTS if getattr(move, part)]

@@ -1,0 +1,113 @@
+"""The command tools/run: one day from its text to its explanation. It builds what is missing, packs, clears and explains."""
+
+import argparse
+import os
+import subprocess
+import sys
+
+from . import audit, explain_command, files, history, journal, packing, page, progress
+
+USES = """examples:
+  tools/run examples/busy.day
+  tools/run examples/busy.day --member AAAALV22
+  tools/run mine.day --order TX1
+
+Beside what it prints, it writes the day file, the program's output, the page and the journal to target/run/. Where a file
+with the same name and .out stands beside the day, the output is held to it. The exit status is 0 if all adds up and is as
+expected, 1 if not or if something can't be read, 2 for wrong usage."""
+
+ROOT = os.path.dirname(os.path.dirname(os.path.dirname(os.path.realpath(__file__))))
+
+
+def arguments(words):
+    form = argparse.RawDescriptionHelpFormatter
+    parser = argparse.ArgumentParser("run", description=__doc__, epilog=USES, formatter_class=form)
+    parser.add_argument("day", help="a day as text, in a file whose name ends in .day; any other file is taken as packed")
+    explain_command.followed(parser)
+    return parser.parse_args(words)
+
+
+def program(root):
+    """The clearing program, proved and built: rt does what is not done yet."""
+    built = os.path.join(root, "target", "bin", "clearing")
+    if not os.path.exists(built):
+        sys.stderr.write("run: the clearing program is not built yet: proving and building it, which takes some minutes\n")
+    command = ["rt", "check", "clearing"]
+    try:
+        rt = subprocess.Popen(command, cwd=root, stdout=subprocess.PIPE, stderr=subprocess.STDOUT, text=True)
+    except OSError as error:
+        raise files.Failed(f"can't run rt, the Rattle kit's command: {files.reason(error)}") from error
+    with rt:
+        said = followed(rt.stdout)
+    if rt.returncode:
+        raise files.Failed(f"rt check clearing failed:\n{said[-4000:]}")
+    return built
+
+
+def followed(stream):
+    """All that rt says; on a terminal its last line on a crate is shown meanwhile."""
+    said = []
+    for line in stream:
+        said.append(line)
+        if line.startswith("rt: "):
+            progress.show(line.strip())
+    progress.show("")
+    return "".join(said)
+
+
+def cleared(built, file):
+    """What the program prints of a day file."""
+    ran = subprocess.run([built], input=file, capture_output=True)
+    if ran.returncode:
+        raise files.Failed(f"the clearing program ended with status {ran.returncode}")
+    return ran.stdout
+
+
+def packed(name):
+    """The day file of a day's text; a name that doesn't end in .day is a day file already."""
+    data = files.read(name)
+    return packing.pack(name, packing.decoded(name, data)) if name.endswith(".day") else data
+
+
+def expected(name, output):
+    """A sentence on the first line in which the output differs from the one expected, where there is one."""
+    beside = os.path.splitext(name)[0] + ".out"
+    if not os.path.exists(beside):
+        return None
+    due, found = files.read(beside).split(b"\n"), output.split(b"\n")
+    for at, (one, other) in enumerate(zip(due + [b""], found + [b""]), 1):
+        if one != other:
+            return f"{beside}:{at}: expected {one.decode('ascii', 'replace')!r}, found {other.decode('ascii', 'replace')!r}"
+    return None
+
+
+def kept(root, name, day, file, output):
+    """The day file, the output, the page and the journal under target/run/; their names without the ending."""
+    folder = os.path.join(root, "target", "run")
+    os.makedirs(folder, exist_ok=True)
+    base = os.path.join(folder, name)
+    files.write(base + ".bin", file)
+    files.write(base + ".out", output)
+    files.write(base + ".html", page.page(day).encode())
+    files.write(base + ".journal", journal.journal(day).encode())
+    return os.path.relpath(base)
+
+
+def run(words, root=ROOT):
+    file = packed(words.day)
+    output = cleared(program(root), file)
+    name = os.path.splitext(os.path.basename(words.day))[0]
+    day = history.read(name, file, output.decode("ascii", errors="backslashreplace"))
+    problems = audit.problems(day)
+    explain_command.show(day, problems, words)
+    base = kept(root, name, day, file, output)
+    sys.stdout.write(f"\nWritten: {base}.bin, .out, .html (open it in a browser), .journal (hledger -f {base}.journal balance)\n")
+    differs = expected(words.day, output)
+    if differs:
+        raise files.Failed(differs)
+    return 1 if problems else 0
+
+
+def main():
+    words = arguments(sys.argv[1:])
+    return files.guarded("run", lambda: run(words))

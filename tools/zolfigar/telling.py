@@ -1,0 +1,98 @@
+"""A day in sentences: what became of a ticket, what a report tells, what moved a cover, how an order ended."""
+
+from .figures import counted, euro
+from .history import TERMS
+from .words import CUT_REPORTS, MEANING_BY_KIND, REFUSALS, REPORTS
+
+MOVES = {
+    "cover-ins": "cover in",
+    "cover-outs": "cover out",
+    "reserved": "{order} reserved, for {other}",
+    "refused": "{order} refused by {other}, freed",
+    "expired": "{order} expired, freed",
+    "orders settled from it": "{order} settled, to {other}",
+    "orders settled to it": "{order} settled, from {other}",
+    "returns by it": "{order} returned, to {other}",
+    "returns to it": "{order} returned, from {other}",
+    "held": "held at the cut",
+    "open debit": "open debit at the cut, {amount} to be confirmed",
+    "confirmed debits": "confirmed debit",
+    "confirmed credits": "confirmed credit",
+}
+
+STATUSES = {2: "settled", 3: "refused", 4: "expired", None: "waiting"}
+
+
+def short(bic):
+    """A BIC as people write it: XXX, which names no branch, is left off."""
+    return bic[:8] if len(bic) == 11 and bic.endswith("XXX") else bic
+
+
+def member(day, number):
+    return short(day.bic(number))
+
+
+def refusal(number, kind=None):
+    """A refusal with its code and meaning: 18 XT75: the order's status .."""
+    code, meaning = REFUSALS.get(number, ("", "a number that the paper doesn't have"))
+    meaning = MEANING_BY_KIND.get((number, kind), meaning)
+    return f"{number} {code}: {meaning}" if code else f"{number}: {meaning}"
+
+
+def outcome(event):
+    """What became of a ticket."""
+    if event.refusal:
+        return f"turned back, {refusal(event.refusal, event.ticket['kind'])}"
+    if event.rows:
+        return f"carried out, {counted(event.rows, 'route row')} followed"
+    return "carried out"
+
+
+def order_name(day, number):
+    known = number is not None and number < len(day.orders)
+    return f"order {number} {day.orders[number].txid}" if known else f"order {number}"
+
+
+def report(day, told):
+    """What a report tells, and to whom."""
+    meaning = REPORTS.get(told.code, "a code that the paper doesn't have")
+    about = "" if told.code in CUT_REPORTS else f"{order_name(day, told.order)}, "
+    return f"to {member(day, told.to)}: {meaning} ({told.code}), {about}EUR {euro(told.amount)}"
+
+
+def move(day, entry):
+    """What moved a cover: the order, what became of it, and the other party."""
+    order = "" if entry.order is None else order_name(day, entry.order)
+    return MOVES[entry.term].format(order=order, other=member(day, entry.other), amount=euro(entry.amount))
+
+
+def is_returned(order):
+    return any(event.is_accepted(6) and event.order == order.number for event in order.events)
+
+
+def status(order):
+    """How an order stands at the end of the day."""
+    return "returned" if is_returned(order) else STATUSES.get(order.code, "waiting")
+
+
+def ended_after(order):
+    """The seconds from the order to its end, if it ended."""
+    return None if order.ended is None else order.ended.time - order.time
+
+
+def summary(day):
+    """The day in one line."""
+    turned = sum(event.refusal != 0 for event in day.events)
+    counts = {}
+    for order in day.orders:
+        counts[status(order)] = counts.get(status(order), 0) + 1
+    ways = ", ".join(f"{counts[way]} {way}" for way in ("settled", "returned", "refused", "expired", "waiting") if way in counts)
+    tickets = f"{counted(len(day.events), 'ticket')}: {len(day.events) - turned} carried out, {turned} turned back"
+    return f"{tickets}; {counted(len(day.orders), 'order')}{': ' + ways if ways else ''}"
+
+
+def equation(day, number):
+    """The cover equation of a participant: (term, amount with its sign) for each term that occurs, and the sum."""
+    sums = day.sums(number)
+    terms = [(term, sign * sums[term]) for term, sign in TERMS.items() if sums[term]]
+    return terms, sum(amount for _, amount in terms)
