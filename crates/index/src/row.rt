@@ -47,7 +47,7 @@ fn among_eight(keys: &[u32], at: usize, key: u32) -> bool
     found
 }
 
-// By eights, how many of the first n keys can be passed over.
+// By eights, how many of the first n keys can be passed over. Fewer than could be is right too: the search goes on from there.
 fn passed_over(keys: &[u32], n: usize, key: u32) -> usize
     requires { ⌜ n ≤ length (now keys) ⌝ }
     ensures { λ r. ⌜ (r ≤ n) × (firstTo (λ i. eqb (getD (now (keys .entry)) i 0) key) r ≡ Found.Nothing) ⌝ }

@@ -1,4 +1,5 @@
-// The route rows: their BICs with a key each, and where each row leads, worked out row by row.
+// The route rows: their BICs with a key each, and where each row leads, worked out row by row. What stands behind the rows in use is
+// left open: nothing looks at it.
 use super::row;
 use dayfile::roster::Route;
 use dayfile::roster::Target;
