@@ -24,7 +24,8 @@ same false false e = refl
 pub txid-tested : (c : ℕ) → c < 256 → tested c ≡ isIn Txid c
 txid-tested c h = same (tested c) (isIn Txid c) (all-at (λ n. Bool·beq (tested n) (isIn Txid n)) 256 c refl h)
 
-if-so : (a b : Bool) → (not a || b) ≡ true → a ≡ true → b ≡ true
+-- a premise that is part of the test
+pub if-so : (a b : Bool) → (not a || b) ≡ true → a ≡ true → b ≡ true
 if-so true b e h = e
 if-so false b e h = cc
 

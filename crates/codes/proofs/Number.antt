@@ -33,7 +33,7 @@ behind-append n s t = ap (then n) (digits-append s t) ∙ then-append n (digits 
 pub behind-none : (s : List ℕ) → behind 0 s ≡ readDecimal (digits s)
 behind-none s = simp (zero-mul, zero-add)
 
-mod-scaled : (n m p d : ℕ) → (n % m * p + d) % m ≡ (n * p + d) % m
+pub mod-scaled : (n m p d : ℕ) → (n % m * p + d) % m ≡ (n * p + d) % m
 mod-scaled n m p d = sym (ap (λ (x : ℕ). x % m) split ∙ mul-add-mod-self-right (n / m * p) m (n % m * p + d))
   where
     split : n * p + d ≡ n / m * p * m + (n % m * p + d)

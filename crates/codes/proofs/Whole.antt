@@ -20,7 +20,7 @@ use Rattle.codes.proofs.All.{in-at}
 use Rattle.codes.specs.declared.classes.Class.{Class}
 use Rattle.codes.specs.declared.classes.Class.the-variants.{Capital, Small, Digit, CapitalOr2To9, CapitalButOOrDigit, CapitalOrDigit, LetterOrDigit, Txid}
 
-no-zero : (class : Class) → isIn class 0 ≡ false
+pub no-zero : (class : Class) → isIn class 0 ≡ false
 no-zero Capital = refl
 no-zero Small = refl
 no-zero Digit = refl

@@ -1,6 +1,6 @@
 // The checks of BIC, IBAN and TxId. Each takes unpadded bytes of any length and content and answers 1 for yes and 0 for no;
 // nothing is asked of a caller. They are the same functions for other crates and for C (gateway/zolfigar.h).
-mod classes;
+pub mod classes;
 mod remainder;
 
 use classes::Class;

@@ -26,7 +26,7 @@ numberAt-join v w at s h =
 pub numberAt-one : (at : ℕ) (s : List ℕ) → at < length s → numberAt 1 at s ≡ getD s at 0
 numberAt-one at s h = ap number (part-one at s h) ∙ omega arith
 
-pos : (w : ℕ) → 0 < 256 ^ w
+pub pos : (w : ℕ) → 0 < 256 ^ w
 pos zero = lit< tt
 pos (suc w) = rw pow-succ' (mul-pos (lit< tt) (pos w))
 

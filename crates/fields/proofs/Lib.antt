@@ -2,6 +2,7 @@ pub mod Reading
 pub mod Tests
 pub mod Stores
 pub mod BigEndian
+pub mod Zeros
 pub mod Padding
 pub mod Same
 pub mod UpTo

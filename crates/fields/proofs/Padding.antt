@@ -1,6 +1,6 @@
 -- The length of a padded field's value, by its bytes from the front or from the back; and that padding changes no value. Assumes nothing.
 use mathlib.Core.Path.{_≡_, refl, sym, _∙_, ap, ap₂}
-use mathlib.Core.Bool.{Bool, true, false, _&&_, cond, and-true, and-false, and-assoc}
+use mathlib.Core.Bool.{Bool, true, false, _&&_, cond, and-true, and-false}
 use mathlib.Core.List.{List, [], _∷_, _++_, append-nil}
 use Prim.Native.Nat.{ℕ, zero, suc, _+_, _-_, _≤_, _<_}
 use native.Mathlib.Nat.{le-of-eq}
@@ -10,10 +10,10 @@ use lib.Dec.{eqb}
 use lib.ListN.{length, getD, take, replicate, length-append, length-replicate}
 use lib.Seq.{take-suc, take-all, take-length, take-append-le, length-take-le}
 use Rattle.fields.specs.Text.{blank, valueLength, unpadded, padded}
+use Rattle.fields.proofs.Zeros.{blank-append}
 
 blank-snoc : (s : List ℕ) (c : ℕ) → blank (s ++ (c ∷ [])) ≡ (blank s && eqb c 0)
-blank-snoc [] c = and-true (eqb c 0)
-blank-snoc (x ∷ s) c = ap (λ (b : Bool). eqb x 0 && b) (blank-snoc s c) ∙ sym (and-assoc (eqb x 0) (blank s) (eqb c 0))
+blank-snoc s c = blank-append s (c ∷ []) ∙ ap (_&&_ (blank s)) (and-true (eqb c 0))
 
 step : (z x b : Bool) (v w n : ℕ) → w ≡ cond z v (suc n) → cond (x && (b && z)) 0 (suc w) ≡ cond z (cond (x && b) 0 (suc v)) (suc (suc n))
 step true x b v w n e = simp (and-true, e)
@@ -67,8 +67,7 @@ blank-zeros zero = refl
 blank-zeros (suc n) = blank-zeros n
 
 blank-behind : (s : List ℕ) (n : ℕ) → blank (s ++ replicate n 0) ≡ blank s
-blank-behind [] n = blank-zeros n
-blank-behind (x ∷ s) n = ap (λ (b : Bool). eqb x 0 && b) (blank-behind s n)
+blank-behind s n = blank-append s (replicate n 0) ∙ ap (_&&_ (blank s)) (blank-zeros n) ∙ and-true (blank s)
 
 length-behind : (s : List ℕ) (n : ℕ) → valueLength (s ++ replicate n 0) ≡ valueLength s
 length-behind [] zero = refl

@@ -5,7 +5,8 @@ ghost use mathlib.Core.Path.{_≡_};
 ghost use Prim.Native.Nat.{_+_, _≤_, _<_};
 ghost use lib.ListN.{length};
 ghost use lib.Seq.{sets};
-ghost use Rattle.fields.specs.Number.{numberAt, bytesOf};
+ghost use Rattle.fields.specs.Number.{part, numberAt, bytesOf};
+ghost use Rattle.fields.specs.Text.{blank};
 
 fn wide(b: u8) -> u16
     ensures { λ r. ⌜ (r ≡ b) × (r < 256) ⌝ }
@@ -47,6 +48,30 @@ pub fn u64_at(s: &[u8], at: usize) -> u64
     let high = u32_at(s, at) as u64;
     let low = u32_at(s, at + 4) as u64;
     high * 4294967296 + low
+}
+
+// Whether two bytes at a place are zero: the number that they are is.
+pub fn zero_u16_at(s: &[u8], at: usize) -> bool
+    requires { ⌜ at + 2 ≤ length (now s) ⌝ }
+    ensures { λ r. ⌜ r ≡ blank (part 2 at (now (s .entry))) ⌝ }
+{
+    u16_at(s, at) == 0
+}
+
+// Whether three bytes are.
+pub fn zero_u24_at(s: &[u8], at: usize) -> bool
+    requires { ⌜ at + 3 ≤ length (now s) ⌝ }
+    ensures { λ r. ⌜ r ≡ blank (part 3 at (now (s .entry))) ⌝ }
+{
+    u24_at(s, at) == 0
+}
+
+// Whether eight bytes are: one load and one comparison.
+pub fn zero_u64_at(s: &[u8], at: usize) -> bool
+    requires { ⌜ at + 8 ≤ length (now s) ⌝ }
+    ensures { λ r. ⌜ r ≡ blank (part 8 at (now (s .entry))) ⌝ }
+{
+    u64_at(s, at) == 0
 }
 
 pub fn put_u16(s: &mut [u8], at: usize, n: u16)

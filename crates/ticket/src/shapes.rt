@@ -5,9 +5,12 @@ use super::kinds;
 use super::kinds::Kind;
 use super::kinds::Kinded;
 ghost use mathlib.Core.Path.{_≡_};
+ghost use Prim.Native.Nat.{_≤_};
 ghost use lib.ListN.{length};
+ghost use Rattle.fields.specs.Number.{part};
+ghost use Rattle.fields.specs.Text.{blank};
 ghost use Rattle.ticket.specs.Layout.{ticketLength};
-ghost use Rattle.ticket.specs.Shape.{bicIfListed, txidIfListed, blankUnlessListed, wellFormed, shapeOf, accountOf};
+ghost use Rattle.ticket.specs.Shape.{bicIfListed, txidIfListed, wellFormed, shapeOf, accountOf};
 
 pub enum Shape {
     Formed(Kind),
@@ -19,43 +22,72 @@ pub enum Account {
     Wrong,
 }
 
+// Whether the first 32 bytes of s are zero.
+fn zero_32(s: &[u8]) -> bool
+    requires { ⌜ 32 ≤ length (now s) ⌝ }
+    ensures { λ r. ⌜ r ≡ blank (part 32 0 (now (s .entry))) ⌝ }
+{
+    fields::zero_u64_at(s, 0)
+        & fields::zero_u64_at(s, 8)
+        & fields::zero_u64_at(s, 16)
+        & fields::zero_u64_at(s, 24)
+}
+
+// Fields that are not listed: whether all bytes are zero.
+fn no_bic(s: &[u8]) -> bool
+    requires { ⌜ length (now s) ≡ 11 ⌝ }
+    ensures { λ r. ⌜ r ≡ blank (now (s .entry)) ⌝ }
+{
+    fields::zero_u64_at(s, 0) & fields::zero_u24_at(s, 8)
+}
+
+fn no_txid(s: &[u8]) -> bool
+    requires { ⌜ length (now s) ≡ 35 ⌝ }
+    ensures { λ r. ⌜ r ≡ blank (now (s .entry)) ⌝ }
+{
+    zero_32(s) & fields::zero_u24_at(s, 32)
+}
+
+fn no_iban(s: &[u8]) -> bool
+    requires { ⌜ length (now s) ≡ 34 ⌝ }
+    ensures { λ r. ⌜ r ≡ blank (now (s .entry)) ⌝ }
+{
+    zero_32(s) & fields::zero_u16_at(s, 32)
+}
+
 fn bic_if_listed(listed: bool, s: &[u8]) -> bool
+    requires { ⌜ length (now s) ≡ 11 ⌝ }
     ensures { λ r. ⌜ r ≡ bicIfListed listed (now (s .entry)) ⌝ }
 {
     if listed {
         codes::zolfigar_bic_ok(s) == 1
     } else {
-        fields::blank(s)
+        no_bic(s)
     }
 }
 
 fn txid_if_listed(listed: bool, s: &[u8]) -> bool
+    requires { ⌜ length (now s) ≡ 35 ⌝ }
     ensures { λ r. ⌜ r ≡ txidIfListed listed (now (s .entry)) ⌝ }
 {
     if listed {
-        codes::zolfigar_txid_ok(fields::unpadded(s)) == 1
+        padded::txid_ok(s)
     } else {
-        fields::blank(s)
+        no_txid(s)
     }
-}
-
-fn blank_unless_listed(listed: bool, s: &[u8]) -> bool
-    ensures { λ r. ⌜ r ≡ blankUnlessListed listed (now (s .entry)) ⌝ }
-{
-    listed | fields::blank(s)
 }
 
 fn well_formed(form: Form, t: &[u8]) -> bool
     requires { ⌜ length (now t) ≡ ticketLength ⌝ }
     ensures { λ r. ⌜ r ≡ wellFormed form (now (t .entry)) ⌝ }
 {
-    let spare = blank_unless_listed(false, &t[2..4]);
-    let amount = blank_unless_listed(form.most != 0, &t[8..16]);
+    let spare = fields::zero_u16_at(t, 2);
+    let amount = (form.most != 0) | fields::zero_u64_at(t, 8);
     let sender = bic_if_listed(form.sender, &t[16..27]);
     let payee = bic_if_listed(form.payee, &t[27..38]);
     let txid = txid_if_listed(form.txid, &t[38..73]);
-    let iban = blank_unless_listed(form.iban, &t[73..107]);
-    let last = blank_unless_listed(false, &t[107..108]);
+    let iban = form.iban | no_iban(&t[73..107]);
+    let last = t[107] == 0;
     spare & amount & sender & payee & txid & iban & last
 }
 
@@ -81,7 +113,7 @@ pub fn read_account(form: Form, t: &[u8]) -> Account
 {
     let listed = form.iban;
     if listed {
-        if codes::zolfigar_iban_ok(fields::unpadded(&t[73..107])) == 1 {
+        if padded::iban_ok(&t[73..107]) {
             Account::Named
         } else {
             Account::Wrong

@@ -11,4 +11,4 @@ bic-if-listed-spec =
     (λ c κs. search needs)
     (λ c κs. search needs)
     (λ c. simp (c .before .if1 .taken, c .zolfigar-bic-ok .ensures, answer-is-1))
-    (λ c. simp (c .before .if1 .left, c .blank .ensures)))
+    (λ c. simp (c .before .if1 .left, c .no-bic .ensures)))

@@ -1,5 +1,4 @@
 -- `ticket::shapes::txid_if_listed` meets its contract. Assumes nothing.
-use Rattle.codes.proofs.Answer.{answer-is-1}
 use borrow.Author.Needs.{needs}
 use Rattle.ticket.proofs.shapes.txid_if_listed.Statement.{statement}
 use Rattle.ticket.proofs.shapes.txid_if_listed.Tie as tie
@@ -10,6 +9,5 @@ txid-if-listed-spec =
     (tie.spec
     (λ c κs. search needs)
     (λ c κs. search needs)
-    (λ c κs. search needs)
-    (λ c. simp (c .before .before .if1 .taken, c .zolfigar-txid-ok .ensures, answer-is-1, c .before .unpadded .ensures))
-    (λ c. simp (c .before .if1 .left, c .blank .ensures)))
+    (λ c. simp (c .before .if1 .taken, c .txid-ok .ensures))
+    (λ c. simp (c .before .if1 .left, c .no-txid .ensures)))

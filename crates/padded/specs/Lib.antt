@@ -1,0 +1,4 @@
+pub mod Padding
+pub mod Shape
+pub mod Spelling
+pub mod Carried
