@@ -1,5 +1,5 @@
 // The core: a book is kept over many tickets and changed in place.
-use index::row;
+use index::chains;
 use index::ways;
 use judging::decision;
 use judging::entry;
@@ -33,20 +33,30 @@ pub fn run(mut b: Book, tickets: &[u8], answers: &mut [u8], reports: &mut [u8]) 
         (now (reports .exit))
         ⌝ }
 {
+    // what is searched: BICs and TxIds as rows with chains through them, and where each route row leads
     let roster = b.roster;
     let size = roster.size;
     let participants = roster.participants;
     let bics = index::bics_of(participants, size);
-    let bic_keys = index::bic_keys_of(participants, size);
+    let bic_chains = chains::bic_chains(&bics, size);
+    let bic_heads = bic_chains.heads;
+    let bic_links = bic_chains.links;
     let rows = roster.rows;
     let routes = roster.routes;
     let route_bics = ways::route_bics_of(routes, rows);
-    let route_keys = ways::route_keys_of(routes, rows);
+    let route_chains = chains::bic_chains(&route_bics, rows);
+    let route_heads = route_chains.heads;
+    let route_links = route_chains.links;
     let payees = ways::payees_of(routes, rows);
     let counts = ways::counts_of(routes, rows);
     let orders = b.orders;
     let mut txids = index::txids_of(orders, b.count);
-    let mut keys = index::txid_keys_of(orders, b.count);
+    let txid_chains = chains::txid_chains(&txids, b.count);
+    let mut heads = txid_chains.heads;
+    let mut links = txid_chains.links;
+    // all cover together
+    let covers = b.covers;
+    let mut total = sums::total_of(covers, size);
     // no order below the mark waits for a bank
     let mut mark = 0;
     let mut taken = 0;
@@ -90,20 +100,29 @@ pub fn run(mut b: Book, tickets: &[u8], answers: &mut [u8], reports: &mut [u8]) 
         let opens = terms::opens_order(subject);
         let sender = index::find_bic(
             terms::names_sender(subject),
-            &bic_keys,
+            &bic_heads,
+            &bic_links,
             &bics,
             size,
             &t[16..27],
         );
         let seeks = opens | terms::names_order(subject);
-        let order = index::find_txid(seeks, &keys, &txids, b.count, &t[38..73]);
-        let route = index::find_bic(opens, &route_keys, &route_bics, rows, &t[27..38]);
+        let bucket = chains::txid_bucket(&t[38..73]);
+        let order = index::find_txid(seeks, &heads, &links, &txids, b.count, bucket, &t[38..73]);
+        let route = index::find_bic(
+            opens,
+            &route_heads,
+            &route_links,
+            &route_bics,
+            rows,
+            &t[27..38],
+        );
         let end = ways::end_of(&payees, &counts, route);
         let flow = terms.flow;
-        let mut sums = sums::none();
-        if sums::seeks_sums(flow) {
+        let mut unconfirmed = false;
+        if sums::seeks_open(flow) {
             let covers = b.covers;
-            sums = sums::sums_of(covers, size);
+            unconfirmed = sums::any_open(covers, size);
         }
         let p = fields::number_of(sender);
         let i = fields::number_of(order);
@@ -129,8 +148,8 @@ pub fn run(mut b: Book, tickets: &[u8], answers: &mut [u8], reports: &mut [u8]) 
                 route,
                 way: end,
                 count: b.count,
-                unconfirmed: sums.unconfirmed,
-                total: sums.total,
+                unconfirmed,
+                total,
             },
         );
 
@@ -138,19 +157,31 @@ pub fn run(mut b: Book, tickets: &[u8], answers: &mut [u8], reports: &mut [u8]) 
         let d = judged.decision;
         let number = d.number;
         let order = d.order;
-        let id = order.txid;
         b.orders[number] = order;
-        row::put_row(&mut txids, 35, number, &id);
-        keys[number] = index::txid_key(&id);
+        index::put_txid(
+            b.count < d.count,
+            &mut heads,
+            &mut links,
+            &mut txids,
+            number,
+            bucket,
+            &t[38..73],
+        );
         b.count = d.count;
         let first = d.first;
         let how = first.how;
         let who = first.who;
-        b.covers[who] = cover::moved(how, first.amount, b.covers[who]);
+        let old = b.covers[who];
+        let new = cover::moved(how, first.amount, old);
+        total = sums::total_with(total, old, new);
+        b.covers[who] = new;
         let second = d.second;
         let how = second.how;
         let who = second.who;
-        b.covers[who] = cover::moved(how, second.amount, b.covers[who]);
+        let old = b.covers[who];
+        let new = cover::moved(how, second.amount, old);
+        total = sums::total_with(total, old, new);
+        b.covers[who] = new;
         let told = d.told;
         n = told::put_told(reports, n, told);
         if d.cuts {

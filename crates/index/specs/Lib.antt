@@ -1,2 +1,2 @@
-pub mod Keys
+pub mod Chains
 pub mod Ways

@@ -1,4 +1,4 @@
-// The route rows: their BICs with a key each, and where each row leads, worked out row by row. What stands behind the rows in use is
+// The route rows: their BICs, and where each row leads, worked out row by row. What stands behind the rows in use is
 // left open: nothing looks at it.
 use super::row;
 use dayfile::roster::Route;
@@ -9,10 +9,9 @@ ghost use mathlib.Core.Path.{_≡_};
 ghost use Prim.Native.Nat.{ℕ, _≤_, _<_};
 ghost use lib.ListN.{length};
 ghost use Rattle.fields.specs.Search.{numberOf};
-ghost use Rattle.fields.specs.Rows.{Indexed, Keyed};
+ghost use Rattle.fields.specs.Rows.{Indexed};
 ghost use Rattle.dayfile.specs.Roster.{rowOf};
 ghost use Rattle.dayfile.specs.Route.{reached, rowsFollowed, followed};
-ghost use Rattle.index.specs.Keys.{bicKey};
 ghost use Rattle.index.specs.Ways.{Backward, FewBehind, Forth, rowBehind, ledTo, rowsTo, endAt};
 
 pub fn route_bics_of(routes: [Route; 64], rows: usize) -> [u8; 704]
@@ -28,21 +27,6 @@ pub fn route_bics_of(routes: [Route; 64], rows: usize) -> [u8; 704]
         i += 1;
     }
     bics
-}
-
-pub fn route_keys_of(routes: [Route; 64], rows: usize) -> [u32; 64]
-    requires { ⌜ (rows ≤ 64) × ((i : ℕ) → i < rows → length (rowOf routes i .bic) ≡ 11) ⌝ }
-    ensures { λ r. ⌜ (length r ≡ 64) × Keyed bicKey (λ i. rowOf routes i .bic) rows r ⌝ }
-{
-    let mut keys = [0u32; 64];
-    let mut i = 0;
-    while i < rows {
-        let route = routes[i];
-        let bic = route.bic;
-        keys[i] = super::bic_key(&bic);
-        i += 1;
-    }
-    keys
 }
 
 // The row that a row goes on from, 0 where it leads to a participant.

@@ -1,15 +1,13 @@
--- What applying a decision leaves: below the mark still no order waits for a bank, and the orders in use keep their TxIds.
+-- What applying a decision leaves: below the mark still no order waits for a bank; the covers, and what is told of them.
 -- Assumes nothing.
 use mathlib.Core.Path.{_≡_, refl, sym, _∙_, ap}
 use mathlib.Core.Bool.{Bool, true, false, _&&_}
 use mathlib.Core.List.{List, [], _++_}
-use mathlib.Core.Logic.{_⊎_, inl, inr, ⊎-elim}
-use Prim.Native.Nat.{ℕ, _+_, _*_, _≤_, _<_}
+use mathlib.Core.Logic.{⊎-elim}
+use Prim.Native.Nat.{ℕ, _+_, _≤_, _<_}
 use native.Mathlib.Omega.{arith}
-use lib.ListN.{length, set}
-use lib.Seq.{sets, getD-set-same, getD-set-other}
-use Rattle.fields.specs.Rows.{Indexed, Keyed}
-use Rattle.fields.proofs.Indexing.{put-indexed-at, put-keyed-at}
+use lib.ListN.{length}
+use lib.Seq.{getD-set-same, getD-set-other}
 use Rattle.rules.specs.Book.{mostOrders, noOrder, orderOf, isBank}
 use Rattle.rules.specs.Status.{isWaiting}
 use Rattle.rules.specs.Cover.{transferred}
@@ -56,28 +54,6 @@ module _ (b : Book) (d : Decision) (fits : Applicable b d) (long : length (b .or
               let waits : isWaiting (orderOf (b .orders) (d .number) .status) ≡ true = rw same at q in
               rw same (rw waits at was)
           go false q = refl
-
-  in-use : (i : ℕ) → i < d .count → (i ≡ d .number → ⊥) → i < b .count
-  in-use i l differs = go (fits .count)
-    where
-      go : (d .count ≡ b .count) ⊎ ((d .number ≡ b .count) × (d .count ≡ b .count + 1)) → i < b .count
-      go (inl e) = omega arith
-      go (inr e) = omega arith
-
-  -- the TxIds of the orders in use, with the row and the key of the order that is written
-  pub indexed-applied : {rows : List ℕ} → Indexed 35 (λ i. orderOf (b .orders) i .txid) (b .count) rows → 35 * d .number + 35 ≤ length rows
-      → Indexed 35 (λ i. orderOf (applied b d .orders) i .txid) (d .count) (sets rows (35 * d .number) (d .order .txid))
-  indexed-applied {rows} h room =
-      put-indexed-at rows 35 (d .number) (d .order .txid) (fits .txid) room (λ i. orderOf (applied b d .orders) i .txid) (d .count)
-      (ap (λ (o : Order). o .txid) written)
-      (λ i l differs. h .row i (in-use i l differs) ∙ sym (ap (λ (o : Order). o .txid) (others i differs)))
-
-  pub keyed-applied : {keyOf : List ℕ → ℕ} {keys : List ℕ} → Keyed keyOf (λ i. orderOf (b .orders) i .txid) (b .count) keys → d .number < length keys
-      → Keyed keyOf (λ i. orderOf (applied b d .orders) i .txid) (d .count) (set keys (d .number) (keyOf (d .order .txid)))
-  keyed-applied {keyOf} {keys} h room =
-      put-keyed-at keys (d .number) (keyOf (d .order .txid)) room (λ i. orderOf (applied b d .orders) i .txid) (d .count)
-      (ap (λ (o : Order). keyOf (o .txid)) (sym written))
-      (λ i l differs. h .key i (in-use i l differs) ∙ ap (λ (o : Order). keyOf (o .txid)) (sym (others i differs)))
 
 -- the covers after both moves; a cut comes after them, and tells by what it finds
 module _ (b : Book) (d : Decision) (fits : Applicable b d) where

@@ -60,7 +60,7 @@ use Rattle.rules.proofs.Accepting as accepting
 use Rattle.intake.specs.Room.{Room, Applicable}
 use Rattle.intake.specs.Entry.{timedEntry, readEntry, entryOf}
 use Rattle.intake.specs.Expiry.{expires, stays, expiryIn}
-use Rattle.intake.specs.Seeking.{seeksOrder, seeksSums, soughtSender, soughtOrder, sought}
+use Rattle.intake.specs.Seeking.{seeksOrder, soughtSender, soughtOrder, sought}
 use Rattle.intake.specs.Judging.{Judgeable, judged}
 use Rattle.intake.specs.Taking.{unswept}
 use Rattle.intake.specs.declared.Entry.{Entry}
@@ -159,10 +159,6 @@ module _ (b : Book) (s : Sound b) where
   rows-below true t = let l = way-rows (b .roster) (rowWith (b .roster) (payeeOf t)) in omega arith
   rows-below false t = omega arith
 
-  total-below : (looks : Bool) → cond looks (total b) 0 ≤ mostTotal
-  total-below true = s .limited
-  total-below false = omega arith
-
   pub sought-judgeable : (e : Entry) (t : List ℕ) → Judgeable (sought b e t)
   sought-judgeable e t =
       let h = order-below e t in
@@ -175,20 +171,22 @@ module _ (b : Book) (s : Sound b) where
               reached = let l = reached-below (opensOrder (termsOf (e .kind) .subject)) t in omega arith;
               count = let l = s .orders .count in omega arith;
             };
-        total = total-below (seeksSums (termsOf (e .kind) .flow));
+        total = s .limited;
       }
 
   -- a decision that keeps the order, one cover moving
-  kept-applicable : (e : Entry) (t : List ℕ) (m : Transfer) (cuts : Bool) (told : Told) → m .who < mostParticipants
+  kept-applicable : (e : Entry) (t : List ℕ) (m : Transfer) (cuts : Bool) (told : Told) → m .who < mostParticipants → m .amount ≤ mostTotal
       → Room (m .how) (m .amount) (coverOf (b .covers) (m .who)) → (cuts ≡ true → (m ≡ nobody) × (nobody ≡ nobody) × (told ≡ Nobody))
       → Applicable b (orderKept (sought b e t) m cuts told)
-  kept-applicable e t m cuts told who fits alone =
+  kept-applicable e t m cuts told who most fits alone =
       record {
         number = order-below e t;
         txid = any-txid _ (order-below e t);
         count = inl refl;
         first = who;
         second = omega arith;
+        firstMost = most;
+        secondMost = omega arith;
         firstRoom = fits;
         secondRoom = tt;
         waits = λ l w. refl;
@@ -198,23 +196,25 @@ module _ (b : Book) (s : Sound b) where
 
   -- all stays as it is
   pub stays-applicable : (e : Entry) (t : List ℕ) (cuts : Bool) (told : Told) → (cuts ≡ true → told ≡ Nobody) → Applicable b (orderKept (sought b e t) nobody cuts told)
-  stays-applicable e t cuts told alone = kept-applicable e t nobody cuts told (omega arith) tt (λ c. (refl, refl, alone c))
+  stays-applicable e t cuts told alone = kept-applicable e t nobody cuts told (omega arith) (omega arith) tt (λ c. (refl, refl, alone c))
 
   never : {A : Type 0} → _≡_ {A = Bool} false true → A
   never e = let z : _≡_ {A = ℕ} 0 1 = cc in absurd (omega arith)
 
   -- the order gets a status that is not Waiting
   becomes-applicable : (e : Entry) (t : List ℕ) (u : Status) (m q : Transfer) (told : Told) → isWaiting u ≡ false
-      → m .who < mostParticipants → Room (m .how) (m .amount) (coverOf (b .covers) (m .who))
-      → q .who < mostParticipants → Room (q .how) (q .amount) (coverOf (transferred m (b .covers)) (q .who))
+      → m .who < mostParticipants → m .amount ≤ mostTotal → Room (m .how) (m .amount) (coverOf (b .covers) (m .who))
+      → q .who < mostParticipants → q .amount ≤ mostTotal → Room (q .how) (q .amount) (coverOf (transferred m (b .covers)) (q .who))
       → Applicable b (orderBecomes (sought b e t) u m q told)
-  becomes-applicable e t u m q told ended who fits who′ fits′ =
+  becomes-applicable e t u m q told ended who most fits who′ most′ fits′ =
       record {
         number = order-below e t;
         txid = any-txid _ (order-below e t);
         count = inl refl;
         first = who;
         second = who′;
+        firstMost = most;
+        secondMost = most′;
         firstRoom = fits;
         secondRoom = fits′;
         waits = λ l w. never (sym ended ∙ w);
@@ -254,10 +254,10 @@ module _ (b : Book) (s : Sound b) where
 
     pub decided-applicable : (k : Kind) → Tells t (f k) → NoRefusal (finding b (f k) t) → Applicable b (decisionOf (sought b (entry k) t))
     decided-applicable kind.CoverIn tells none =
-        kept-applicable (entry kind.CoverIn) t _ false Nobody (sender-known kind.CoverIn refl none)
+        kept-applicable (entry kind.CoverIn) t _ false Nobody (sender-known kind.CoverIn refl none) (tells .most)
         (sender-room kind.CoverIn Give refl none (tells .most) tt) (λ c. never c)
     decided-applicable kind.CoverOut tells none =
-        kept-applicable (entry kind.CoverOut) t _ false Nobody (sender-known kind.CoverOut refl none)
+        kept-applicable (entry kind.CoverOut) t _ false Nobody (sender-known kind.CoverOut refl none) (tells .most)
         (sender-room kind.CoverOut Draw refl none (tells .most) (accepting.cover-there b (f kind.CoverOut) t (none .r20) refl)) (λ c. never c)
     decided-applicable kind.Order tells none =
         record {
@@ -266,6 +266,8 @@ module _ (b : Book) (s : Sound b) where
           count = inr (refl, refl);
           first = sender-known kind.Order refl none;
           second = omega arith;
+          firstMost = let m = tells .most in omega arith;
+          secondMost = omega arith;
           firstRoom = sender-room kind.Order Reserve refl none (let m = tells .most in omega arith) (accepting.cover-there b (f kind.Order) t (none .r20) refl);
           secondRoom = tt;
           waits = λ l w. absurd (omega arith);
@@ -280,7 +282,7 @@ module _ (b : Book) (s : Sound b) where
         let enough = waiting-reserved b s _ h (accepting.status-meets b (f kind.Yes) t (none .r18)) in
         let m = by (o .payer) Spend (o .amount) in
         becomes-applicable (entry kind.Yes) t (status.Settled mark.None) m (by (o .payee) Give (o .amount)) _ refl
-        (participant-below b s (o .payer) payer) enough (participant-below b s (o .payee) payee)
+        (participant-below b s (o .payer) payer) most enough (participant-below b s (o .payee) payee) most
         (room Give (o .amount) (coverOf (transferred m (b .covers)) (o .payee)) tt most
         (left-limited m payer enough refl (o .payee) (whole-limited b s (o .payee) payee)))
     decided-applicable kind.No tells none =
@@ -288,12 +290,12 @@ module _ (b : Book) (s : Sound b) where
         let payer = s .orders .payer _ h in
         let most : o .amount ≤ mostTotal = let m = s .orders .most _ h in omega arith in
         becomes-applicable (entry kind.No) t status.Refused (by (o .payer) Release (o .amount)) nobody _ refl
-        (participant-below b s (o .payer) payer)
+        (participant-below b s (o .payer) payer) most
         (room Release (o .amount) (coverOf (b .covers) (o .payer)) (waiting-reserved b s _ h (accepting.status-meets b (f kind.No) t (none .r18))) most
         (whole-limited b s (o .payer) payer))
-        (omega arith) tt
+        (omega arith) (omega arith) tt
     decided-applicable kind.Recall tells none =
-        becomes-applicable (entry kind.Recall) t (status.Settled mark.Asked) nobody nobody _ refl (omega arith) tt (omega arith) tt
+        becomes-applicable (entry kind.Recall) t (status.Settled mark.Asked) nobody nobody _ refl (omega arith) (omega arith) tt (omega arith) (omega arith) tt
     decided-applicable kind.Return tells none =
         let h = accepting.order-found b (f kind.Return) t (none .r16) refl .below in
         let payer = s .orders .payer _ h in
@@ -303,21 +305,21 @@ module _ (b : Book) (s : Sound b) where
         rw (← accepting.right-party b (f kind.Return) t (none .r17) refl) (accepting.cover-there b (f kind.Return) t (none .r20) refl) in
         let m = by (o .payee) Draw n in
         becomes-applicable (entry kind.Return) t status.Returned m (by (o .payer) Give n) _ refl
-        (participant-below b s (o .payee) payee) enough (participant-below b s (o .payer) payer)
+        (participant-below b s (o .payee) payee) most enough (participant-below b s (o .payer) payer) most
         (room Give n (coverOf (transferred m (b .covers)) (o .payer)) tt most
         (left-limited m payee enough refl (o .payer) (whole-limited b s (o .payer) payer)))
     decided-applicable kind.Decline tells none =
-        becomes-applicable (entry kind.Decline) t (status.Settled mark.Declined) nobody nobody _ refl (omega arith) tt (omega arith) tt
+        becomes-applicable (entry kind.Decline) t (status.Settled mark.Declined) nobody nobody _ refl (omega arith) (omega arith) tt (omega arith) (omega arith) tt
     decided-applicable kind.Inquiry tells none = stays-applicable (entry kind.Inquiry) t false (decisionOf (sought b (entry kind.Inquiry) t) .told) (λ c. never c)
     decided-applicable kind.Cut tells none = stays-applicable (entry kind.Cut) t true Nobody (λ c. refl)
     decided-applicable kind.Confirm tells none = confirms (eqb (coverOf (b .covers) (who kind.Confirm) .held) 0)
       where
         confirms : (z : Bool) → Applicable b (orderKept (sought b (entry kind.Confirm) t) (by (who kind.Confirm) (cond z Debit Credit) n) false Nobody)
         confirms true =
-            kept-applicable (entry kind.Confirm) t (by (who kind.Confirm) Debit n) false Nobody (sender-known kind.Confirm refl none)
+            kept-applicable (entry kind.Confirm) t (by (who kind.Confirm) Debit n) false Nobody (sender-known kind.Confirm refl none) (tells .most)
             (sender-room kind.Confirm Debit refl none (tells .most) tt) (λ c. never c)
         confirms false =
-            kept-applicable (entry kind.Confirm) t (by (who kind.Confirm) Credit n) false Nobody (sender-known kind.Confirm refl none)
+            kept-applicable (entry kind.Confirm) t (by (who kind.Confirm) Credit n) false Nobody (sender-known kind.Confirm refl none) (tells .most)
             (sender-room kind.Confirm Credit refl none (tells .most) tt) (λ c. never c)
     decided-applicable kind.Tick tells none = stays-applicable (entry kind.Tick) t false Nobody (λ c. never c)
 

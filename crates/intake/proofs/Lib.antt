@@ -4,6 +4,8 @@ pub mod Fitting
 pub mod Applying
 pub mod Running
 pub mod Looping
+pub mod Naming
 pub mod Turning
 pub mod Printing
 pub mod Seeking
+pub mod Summing

@@ -10,7 +10,7 @@ use lib.ListN.{length}
 use Rattle.dayfile.specs.Limits.{mostParticipants}
 use Rattle.rules.specs.Book.{mostOrders, orderOf, coverOf}
 use Rattle.rules.specs.Status.{isWaiting}
-use Rattle.rules.specs.Cover.{transferred}
+use Rattle.rules.specs.Cover.{transferred, mostTotal}
 use Rattle.rules.specs.Decision.{nobody}
 use Rattle.rules.specs.declared.decision.Told.the-variants.{Nobody}
 use Rattle.rules.specs.declared.decision.Decision.{Decision}
@@ -41,6 +41,8 @@ pub record Applicable (b : Book) (d : Decision) : Type 0 where
   pub count : (d .count ≡ b .count) ⊎ ((d .number ≡ b .count) × (d .count ≡ b .count + 1))
   pub first : d .first .who < mostParticipants
   pub second : d .second .who < mostParticipants
+  pub firstMost : d .first .amount ≤ mostTotal
+  pub secondMost : d .second .amount ≤ mostTotal
   pub firstRoom : Room (d .first .how) (d .first .amount) (coverOf (b .covers) (d .first .who))
   pub secondRoom : Room (d .second .how) (d .second .amount) (coverOf (transferred (d .first) (b .covers)) (d .second .who))
   -- an order in use that waits when it is written is the one that was there

@@ -1,6 +1,6 @@
 -- What is sought in the book for a ticket: of the finding, only what its kind looks at.
 --     seeksOrder    the kind looks at the order with its TxId
---     seeksSums     it looks at all covers together
+--     seeksOpen     it looks for held and open debit anywhere
 --     sought        the finding; what the kind does not look at is nothing, number 0 or false
 -- Assumes nothing.
 use Prim.Native.Nat.{ℕ}
@@ -25,12 +25,12 @@ use Rattle.intake.specs.declared.Entry.{Entry}
 abbrev pub seeksOrder : Subject → Bool
 seeksOrder s = opensOrder s || namesOrder s
 
-abbrev pub seeksSums : Flow → Bool
-seeksSums flow.Nothing = false
-seeksSums flow.Brings = true
-seeksSums flow.Draws = false
-seeksSums flow.Cuts = true
-seeksSums flow.Confirms = true
+abbrev pub seeksOpen : Flow → Bool
+seeksOpen flow.Nothing = false
+seeksOpen flow.Brings = false
+seeksOpen flow.Draws = false
+seeksOpen flow.Cuts = true
+seeksOpen flow.Confirms = false
 
 -- what is found, if it is sought
 abbrev pub if : Bool → Found → Found
@@ -61,6 +61,6 @@ sought b e t =
       route = if (opensOrder (terms .subject)) (routeIn (b .roster) t);
       way = cond (opensOrder (terms .subject)) (wayIn (b .roster) t) Nowhere;
       count = b .count;
-      unconfirmed = cond (seeksSums (terms .flow)) (anyOpen b) false;
-      total = cond (seeksSums (terms .flow)) (total b) 0;
+      unconfirmed = cond (seeksOpen (terms .flow)) (anyOpen b) false;
+      total = total b;
     }

@@ -3,8 +3,8 @@ use rules::Cover;
 use rules::decision::Move;
 ghost use mathlib.Core.Path.{_≡_};
 ghost use Prim.Native.Nat.{_≤_};
-ghost use Rattle.rules.specs.Cover.{moved, whole, mostTotal};
-ghost use Rattle.intake.specs.Room.{Room};
+ghost use Rattle.rules.specs.Cover.{moved, whole};
+ghost use Rattle.intake.specs.Room.{mostNumber, Room};
 
 fn cover(available: u64, reserved: u64, held: u64, debit: u64) -> Cover
     ensures { λ r. ⌜ r ≡ record { available = available; reserved = reserved; held = held; debit = debit } ⌝ }
@@ -35,7 +35,7 @@ pub fn moved(how: Move, n: u64, c: Cover) -> Cover
 
 // Available, reserved and held.
 pub fn whole(c: Cover) -> u64
-    requires { ⌜ whole c ≤ mostTotal ⌝ }
+    requires { ⌜ whole c ≤ mostNumber ⌝ }
     ensures { λ r. ⌜ r ≡ whole c ⌝ }
 {
     c.available + c.reserved + c.held

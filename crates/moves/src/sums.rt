@@ -4,13 +4,13 @@ use super::find;
 use rules::Cover;
 use rules::terms::Flow;
 ghost use mathlib.Core.Path.{_≡_};
-ghost use mathlib.Core.Bool.{false};
-ghost use Prim.Native.Nat.{_≤_};
+ghost use Prim.Native.Nat.{_+_, _-_, _≤_};
 ghost use Rattle.fields.specs.UpTo.{anyTo};
 ghost use Rattle.rules.specs.Book.{coverOf};
-ghost use Rattle.rules.specs.Cover.{totalOf, mostTotal};
+ghost use Rattle.rules.specs.Cover.{whole, totalOf, mostTotal};
 ghost use Rattle.rules.specs.Find.{isOpen};
-ghost use Rattle.intake.specs.Seeking.{seeksSums};
+ghost use Rattle.intake.specs.Seeking.{seeksOpen};
+ghost use Rattle.intake.specs.Room.{mostNumber};
 
 pub fn total_of(covers: [Cover; 32], size: usize) -> u64
     requires { ⌜ (size ≤ 32) × (totalOf size covers ≤ mostTotal) ⌝ }
@@ -39,39 +39,23 @@ pub fn any_open(covers: [Cover; 32], size: usize) -> bool
     open
 }
 
-pub struct Sums {
-    pub unconfirmed: bool,
-    pub total: u64,
-}
-
-pub fn none() -> Sums
-    ensures { λ r. ⌜ r ≡ record { unconfirmed = false; total = 0 } ⌝ }
+// All cover, once one participant's has changed.
+pub fn total_with(total: u64, old: Cover, new: Cover) -> u64
+    requires { ⌜ (whole old ≤ total) × (total + whole new ≤ mostNumber) ⌝ }
+    ensures { λ r. ⌜ r ≡ total - whole old + whole new ⌝ }
 {
-    Sums {
-        unconfirmed: false,
-        total: 0,
-    }
+    total - cover::whole(old) + cover::whole(new)
 }
 
-pub fn sums_of(covers: [Cover; 32], size: usize) -> Sums
-    requires { ⌜ (size ≤ 32) × (totalOf size covers ≤ mostTotal) ⌝ }
-    ensures { λ r. ⌜ r ≡ record { unconfirmed = anyTo (λ p. isOpen (coverOf covers p)) size; total = totalOf size covers } ⌝ }
-{
-    Sums {
-        unconfirmed: any_open(covers, size),
-        total: total_of(covers, size),
-    }
-}
-
-// Whether a kind looks at all covers together.
-pub fn seeks_sums(flow: Flow) -> bool
-    ensures { λ r. ⌜ r ≡ seeksSums flow ⌝ }
+// Whether a kind looks for held and open debit anywhere.
+pub fn seeks_open(flow: Flow) -> bool
+    ensures { λ r. ⌜ r ≡ seeksOpen flow ⌝ }
 {
     match flow {
         Flow::Nothing => false,
-        Flow::Brings => true,
+        Flow::Brings => false,
         Flow::Draws => false,
         Flow::Cuts => true,
-        Flow::Confirms => true,
+        Flow::Confirms => false,
     }
 }

@@ -1,9 +1,6 @@
--- `index::find_bic` meets its contract: rows that hold the field have its key. Assumes nothing.
-use mathlib.Core.Path.{sym, subst}
-use Prim.Native.Nat.{ℕ}
-use denote.Ref.{now}
-use Rattle.fields.specs.Rows.{KeyTells}
-use Rattle.fields.proofs.Indexing.{keys-tell}
+-- `index::find_bic` meets its contract: a row that holds the BIC is in its bucket. Assumes nothing.
+use Rattle.index.specs.Chains.{bicBucket}
+use Rattle.index.proofs.Chaining.{searchable}
 use borrow.Author.Needs.{needs}
 use Rattle.index.proofs.find_bic.Statement.{statement}
 use Rattle.index.proofs.find_bic.Tie as tie
@@ -14,12 +11,7 @@ find-bic-spec =
     (tie.spec
     (λ c κs. search needs)
     (λ c κs.
-    let s = c .before .before .before .before .before in
-    let a = s .args in (
-      search needs,
-      search needs,
-      subst (λ (k : ℕ). KeyTells 11 (a .n) k (now (a .bic)) (now (a .keys)) (now (a .bics))) (sym (c .bic-key .ensures))
-          (keys-tell (s .pre .3) (now (a .bic))),
-    ))
-    (λ c. rw (c .before .before .if1 .taken) (c .find-keyed .ensures))
+    let p = c .before .before .before .before .before .before .pre in
+    searchable bicBucket (p .4) (p .0) (p .1) (p .2) (p .5) _ _ (c .bic-bucket .ensures .0) (c .bic-bucket .ensures .1))
+    (λ c. rw (c .before .before .if1 .taken) (c .find-chained .ensures))
     (λ c. search needs))

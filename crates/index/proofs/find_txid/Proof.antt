@@ -1,9 +1,6 @@
--- `index::find_txid` meets its contract: rows that hold the field have its key. Assumes nothing.
-use mathlib.Core.Path.{sym, subst}
-use Prim.Native.Nat.{ℕ}
-use denote.Ref.{now}
-use Rattle.fields.specs.Rows.{KeyTells}
-use Rattle.fields.proofs.Indexing.{keys-tell}
+-- `index::find_txid` meets its contract: a row that holds the TxId is in its bucket. Assumes nothing.
+use Rattle.index.specs.Chains.{txidBucket}
+use Rattle.index.proofs.Chaining.{searchable}
 use borrow.Author.Needs.{needs}
 use Rattle.index.proofs.find_txid.Statement.{statement}
 use Rattle.index.proofs.find_txid.Tie as tie
@@ -12,14 +9,8 @@ pub find-txid-spec : {M : Type 1} → statement M
 find-txid-spec =
     tie.close
     (tie.spec
-    (λ c κs. search needs)
     (λ c κs.
-    let s = c .before .before .before .before .before in
-    let a = s .args in (
-      search needs,
-      search needs,
-      subst (λ (k : ℕ). KeyTells 35 (a .n) k (now (a .txid)) (now (a .keys)) (now (a .txids))) (sym (c .txid-key .ensures))
-          (keys-tell (s .pre .3) (now (a .txid))),
-    ))
-    (λ c. rw (c .before .before .if1 .taken) (c .find-keyed .ensures))
+    let p = c .before .before .before .before .before .pre in
+    searchable txidBucket (p .5) (p .0) (p .1) (p .2) (p .6) _ _ (p .3) (p .4))
+    (λ c. rw (c .before .if1 .taken) (c .find-chained .ensures))
     (λ c. search needs))

@@ -12,20 +12,20 @@ use lib.ListN.{length, set, take, drop, length-append, length-set}
 use lib.Seq.{sets, length-sets}
 use Rattle.fields.specs.Search.{isFound, numberOf}
 use Rattle.fields.specs.UpTo.{anyTo}
-use Rattle.fields.specs.Rows.{Indexed, Keyed}
 use Rattle.fields.specs.declared.search.Found.{Found}
 use Rattle.fields.specs.declared.search.Found.the-variants as found
-use Rattle.fields.proofs.Indexing.{keyed-rows}
 use Rattle.fields.proofs.Stores.{length-part}
-use Rattle.index.specs.Keys.{txidKey}
+use Rattle.index.specs.Chains.{txidBucket}
+use Rattle.index.proofs.Chaining.{same-chained, distinct-rows}
 use Rattle.index.proofs.Leading.{backward, number-few, led-end}
-use Rattle.moves.specs.declared.sums.Sums.{Sums}
 use Rattle.codes.proofs.Whole.{bic-length}
+use Rattle.ticket.specs.Layout.{txidField}
 use Rattle.report.specs.Layout.{reportsBytes}
 use Rattle.report.specs.Answer.{answerBytes}
 use Rattle.report.specs.declared.Report.{Report}
 use Rattle.report.specs.declared.answer.Answer.{Answer}
 use Rattle.report.proofs.Laws.{put-further}
+use Rattle.dayfile.specs.Limits.{mostParticipants}
 use Rattle.dayfile.specs.Roster.{routeOf}
 use Rattle.dayfile.specs.Route.{followedFrom}
 use Rattle.dayfile.specs.Guarantee.{Guaranteed}
@@ -51,9 +51,9 @@ use Rattle.rules.proofs.Limits.{whole-limited}
 use Rattle.rules.proofs.Reporting.{step-few}
 use Rattle.rules.proofs.Stepping.{step-sound}
 use Rattle.intake.specs.Running.{roomLeft}
-use Rattle.intake.specs.Seeking.{seeksSums, soughtSender, soughtOrder, sought}
+use Rattle.intake.specs.Seeking.{seeksOpen, soughtSender, soughtOrder, sought}
 use Rattle.intake.specs.Judging.{Judgeable, judged}
-use Rattle.intake.specs.Room.{Room, Applicable}
+use Rattle.intake.specs.Room.{mostNumber, Room, Applicable}
 use Rattle.intake.specs.Entry.{entryOf}
 use Rattle.intake.specs.Expiry.{expiryOf, expiryIn, lapsed, Passed}
 use Rattle.intake.specs.Taking.{sweptFor, carried}
@@ -65,25 +65,27 @@ use Rattle.intake.proofs.Looping.{Sweeping, begun, at-sound, at-count, at-roste
 use Rattle.intake.proofs.Seeking.{swept-txid, sender-row, order-row, route-row, route-below, way-if, open-sum, total-sum, made}
 use Rattle.intake.proofs.Fitting.{Freeable, expiry-fits, sender-below, order-below, any-payee, sought-judgeable}
 use Rattle.intake.proofs.Applying.{listed-few, covers, covers-kept, covers-uncut, covers-cut, told-uncut, told-cut, silent-cut, count-grows, passed-applied}
+use Rattle.intake.proofs.Summing.{allOf, all-total, all-changed, change-fits, change-few, whole-grows, after-all, applied-all}
+use Rattle.intake.proofs.Naming.{Named, judged-named}
 use Rattle.intake.proofs.Turning.{start-sound, after, verdict, after-swept, after-few, applicable, step-is}
-use Rattle.book.proofs.Keeping.{Kept, rows-kept, keys-kept}
+use Rattle.book.proofs.Keeping.{TxidIndex, Kept, same-index, index-kept}
 use borrow.Author.Needs.{needs}
 use Rattle.book.proofs.core.run.Statement.{statement}
 use Rattle.book.proofs.core.run.Tie as tie
 
 abbrev Inv-loop2 : tie.InvT-loop2
-Inv-loop2 tickets answers reports₀ b₀ roster size bics bic-keys rows route-bics route-keys payees counts txids keys mark₀ taken n₀ at t e before end reports b mark n =
+Inv-loop2 tickets answers reports₀ b₀ roster size bics bic-heads bic-links rows route-bics route-heads route-links payees counts txids heads links total mark₀ taken n₀ at t e before end reports b mark n =
     Sweeping b₀ n₀ reports₀ b mark n reports × (mark₀ ≤ mark) × (mark ≤ end)
 
 abbrev μ-loop2 : tie.MeasureT-loop2
-μ-loop2 tickets answers reports₀ b₀ roster size bics bic-keys rows route-bics route-keys payees counts txids keys mark₀ taken n₀ at t e before end reports b mark n = end - mark
+μ-loop2 tickets answers reports₀ b₀ roster size bics bic-heads bic-links rows route-bics route-heads route-links payees counts txids heads links total mark₀ taken n₀ at t e before end reports b mark n = end - mark
 
 abbrev Inv-loop : tie.InvT-loop
-Inv-loop tickets answers₀ reports₀ b₀ roster size bics bic-keys rows route-bics route-keys payees counts txids₀ keys₀ mark₀ taken₀ n₀ answers reports b txids keys mark taken n =
-    Kept b₀ roster tickets answers₀ reports₀ b txids keys mark taken n answers reports
+Inv-loop tickets answers₀ reports₀ b₀ roster size bics bic-heads bic-links rows route-bics route-heads route-links payees counts txids₀ heads₀ links₀ total₀ mark₀ taken₀ n₀ answers reports b txids heads links total mark taken n =
+    Kept b₀ roster tickets answers₀ reports₀ b txids heads links total mark taken n answers reports
 
 abbrev μ-loop : tie.MeasureT-loop
-μ-loop tickets answers₀ reports₀ b₀ roster size bics bic-keys rows route-bics route-keys payees counts txids₀ keys₀ mark₀ taken₀ n₀ answers reports b txids keys mark taken n = length tickets - 108 * taken
+μ-loop tickets answers₀ reports₀ b₀ roster size bics bic-heads bic-links rows route-bics route-heads route-links payees counts txids₀ heads₀ links₀ total₀ mark₀ taken₀ n₀ answers reports b txids heads links total mark taken n = length tickets - 108 * taken
 
 -- the loop over tickets
 module _ (l : tie.At-loop Inv-loop2 μ-loop2 Inv-loop μ-loop) where
@@ -91,16 +93,16 @@ module _ (l : tie.At-loop Inv-loop2 μ-loop2 Inv-loop μ-loop) where
   b = l .loop .b
 
   abbrev tickets : List ℕ
-  tickets = now (l .before .before .before .before .before .before .before .before .before .before .before .before .before .before .before .before .args .tickets)
+  tickets = now (l .before .before .before .before .before .before .before .before .before .before .before .before .before .before .before .before .before .before .before .before .before .before .before .before .before .before .before .args .tickets)
 
   abbrev answers₀ : List ℕ
-  answers₀ = now (l .before .before .before .before .before .before .before .before .before .before .before .before .before .before .before .before .args .answers)
+  answers₀ = now (l .before .before .before .before .before .before .before .before .before .before .before .before .before .before .before .before .before .before .before .before .before .before .before .before .before .before .before .args .answers)
 
   abbrev reports₀ : List ℕ
-  reports₀ = now (l .before .before .before .before .before .before .before .before .before .before .before .before .before .before .before .before .args .reports)
+  reports₀ = now (l .before .before .before .before .before .before .before .before .before .before .before .before .before .before .before .before .before .before .before .before .before .before .before .before .before .before .before .args .reports)
 
   abbrev roster : Roster
-  roster = l .before .before .before .before .before .before .before .before .before .before .before .before .before .before .before .before .args .t1 .roster
+  roster = l .before .before .before .before .before .before .before .before .before .before .before .before .before .before .before .before .before .before .before .before .before .before .before .before .before .before .before .args .t1 .roster
 
   sound : Sound b
   sound = l .loop .inv .going .sound
@@ -135,7 +137,7 @@ module _ (c : tie.Then1 Inv-loop2 μ-loop2 Inv-loop μ-loop) where
   room = room-left _ _ _ more
 
   next-fits : head .loop .taken + 1 < 18_446_744_073_709_551_616
-  next-fits = let h = room .ticket in let g = head .before .before .before .before .before .before .before .before .before .before .before .before .before .before .before .before .good in omega arith
+  next-fits = let h = room .ticket in let g = head .before .before .before .before .before .before .before .before .before .before .before .before .before .before .before .before .before .before .before .before .before .before .before .before .before .before .before .good in omega arith
 
 -- there is none
 module _ (c : tie.Else1 Inv-loop2 μ-loop2 Inv-loop μ-loop) where
@@ -309,11 +311,18 @@ module _ (c : tie.Left-loop2 Inv-loop2 μ-loop2 Inv-loop μ-loop) where
       ∙ ap (λ (w : Book). orderOf (w .orders) i .txid) (sym (c .before .loop2 .inv .0 .book))
 
   -- the index is that of the book after the expiries
-  rows-now : Indexed 35 (λ i. orderOf (swept-book .orders) i .txid) (swept-book .count) (top .loop .txids)
-  rows-now = record { row = λ i h. top .loop .inv .txids .row i (let e = swept-count in omega arith) ∙ txid-kept i }
+  index-now : TxidIndex swept-book (top .loop .txids) (top .loop .heads) (top .loop .links)
+  index-now = same-index (top .loop .inv .index) swept-count txid-kept
 
-  keys-now : Keyed txidKey (λ i. orderOf (swept-book .orders) i .txid) (swept-book .count) (top .loop .keys)
-  keys-now = record { key = λ i h. top .loop .inv .keys .key i (let e = swept-count in omega arith) ∙ ap txidKey (txid-kept i) }
+  -- and so is the sum of all cover
+  all-now : top .loop .total ≡ allOf (swept-book .covers)
+  all-now = top .loop .inv .sum ∙ sym (after-all (b top) (sound top) (ticket top)) ∙ ap (λ (v : Book). allOf (v .covers)) (sym book-is)
+
+  total-now : top .loop .total ≡ total swept-book
+  total-now = all-now ∙ all-total swept-book swept-sound
+
+  all-few : allOf (swept-book .covers) ≤ mostTotal
+  all-few = let e = all-total swept-book swept-sound in let l = swept-sound .limited in omega arith
 
   few-orders : swept-book .count ≤ 256
   few-orders = swept-sound .orders .count
@@ -321,41 +330,44 @@ module _ (c : tie.Left-loop2 Inv-loop2 μ-loop2 Inv-loop μ-loop) where
   whole-ticket : length (ticket top) ≡ 108
   whole-ticket = ap length (ticket-is top) ∙ length-part 108 (108 * top .loop .taken) (tickets top) (let h = room (at-end .before .before .before) .ticket in omega arith)
 
+  txid-long : length (txidField (ticket top)) ≡ 35
+  txid-long = length-part 35 38 (ticket top) (rw whole-ticket (omega arith))
+
 -- the sender
 module _ (c : tie.After-find-bic Inv-loop2 μ-loop2 Inv-loop μ-loop) where
   abbrev left-s : tie.Left-loop2 Inv-loop2 μ-loop2 Inv-loop μ-loop
-  left-s = c .before .before .before .before .before .before .before
+  left-s = c .before .before .before .before .before .before .before .before
 
   sender-is : c .find-bic .result ≡ soughtSender (swept-book left-s) (entry (at-end left-s)) (ticket (top left-s))
   sender-is =
       c .find-bic .ensures
       ∙ ap₂ (λ (z : Bool) (f : Found). cond z f found.Nothing)
-      (c .before .before .before .before .names-sender .ensures ∙ ap (λ (x : Terms). namesSender (x .subject)) (c .before .before .before .before .before .before .terms-of .ensures))
-      (sender-row (roster (top left-s)) (top left-s .before .before .before .before .before .before .before .before .before .before .bics-of .ensures .1) (ticket (top left-s))
+      (c .before .before .before .before .before .names-sender .ensures ∙ ap (λ (x : Terms). namesSender (x .subject)) (c .before .before .before .before .before .before .before .terms-of .ensures))
+      (sender-row (roster (top left-s)) (top left-s .before .before .before .before .before .before .before .before .before .before .before .before .before .before .before .before .before .before .before .before .before .bics-of .ensures .1) (ticket (top left-s))
       ∙ ap (λ (r : Roster). senderIn r (ticket (top left-s))) (sym (swept-roster left-s)))
 
 -- the order
 module _ (c : tie.After-find-txid Inv-loop2 μ-loop2 Inv-loop μ-loop) where
   abbrev left-o : tie.Left-loop2 Inv-loop2 μ-loop2 Inv-loop μ-loop
-  left-o = c .before .before .before .before .before .before .before .before .before .before .before .before
+  left-o = c .before .before .before .before .before .before .before .before .before .before .before .before .before .before .before .before
 
-  opens-is : c .before .before .before .before .before .before .before .before .before .before .opens-order .result ≡ opensOrder (termsOf (entry (at-end left-o) .kind) .subject)
-  opens-is = c .before .before .before .before .before .before .before .before .before .before .opens-order .ensures ∙ ap (λ (x : Terms). opensOrder (x .subject)) (c .before .before .before .before .before .before .before .before .before .before .before .terms-of .ensures)
+  opens-is : c .before .before .before .before .before .before .before .before .before .before .before .before .before .before .opens-order .result ≡ opensOrder (termsOf (entry (at-end left-o) .kind) .subject)
+  opens-is = c .before .before .before .before .before .before .before .before .before .before .before .before .before .before .opens-order .ensures ∙ ap (λ (x : Terms). opensOrder (x .subject)) (c .before .before .before .before .before .before .before .before .before .before .before .before .before .before .before .terms-of .ensures)
 
-  names-is : c .before .before .before .before .names-order .result ≡ namesOrder (termsOf (entry (at-end left-o) .kind) .subject)
-  names-is = c .before .before .before .before .names-order .ensures ∙ ap (λ (x : Terms). namesOrder (x .subject)) (c .before .before .before .before .before .before .before .before .before .before .before .terms-of .ensures)
+  names-is : c .before .before .before .before .before .before .before .names-order .result ≡ namesOrder (termsOf (entry (at-end left-o) .kind) .subject)
+  names-is = c .before .before .before .before .before .before .before .names-order .ensures ∙ ap (λ (x : Terms). namesOrder (x .subject)) (c .before .before .before .before .before .before .before .before .before .before .before .before .before .before .before .terms-of .ensures)
 
   order-is : c .find-txid .result ≡ soughtOrder (swept-book left-o) (entry (at-end left-o)) (ticket (top left-o))
   order-is =
       c .find-txid .ensures
       ∙ ap₂ (λ (z : Bool) (f : Found). cond z f found.Nothing)
       (ap₂ (λ (x y : Bool). x || y) opens-is names-is)
-      (order-row (swept-book left-o .orders) (swept-book left-o .count) (rows-now left-o) (ticket (top left-o)))
+      (order-row (swept-book left-o .orders) (swept-book left-o .count) (index-now left-o .txids) (ticket (top left-o)))
 
 -- the route row of the payee
 module _ (c : tie.After-find-bic2 Inv-loop2 μ-loop2 Inv-loop μ-loop) where
   abbrev sought-at : tie.After-find-txid Inv-loop2 μ-loop2 Inv-loop μ-loop
-  sought-at = c .before .before .before .before
+  sought-at = c .before .before .before .before .before
 
   abbrev left-w : tie.Left-loop2 Inv-loop2 μ-loop2 Inv-loop μ-loop
   left-w = left-o sought-at
@@ -370,7 +382,7 @@ module _ (c : tie.After-find-bic2 Inv-loop2 μ-loop2 Inv-loop μ-loop) where
   route-is =
       c .find-bic2 .ensures
       ∙ ap₂ (λ (z : Bool) (f : Found). cond z f found.Nothing) (opens-is sought-at)
-      (route-row (roster (top left-w)) few-rows (top left-w .before .before .before .before .before .before .before .route-bics-of .ensures .1) (ticket (top left-w))
+      (route-row (roster (top left-w)) few-rows (top left-w .before .before .before .before .before .before .before .before .before .before .before .before .before .before .before .route-bics-of .ensures .1) (ticket (top left-w))
       ∙ ap (λ (r : Roster). routeIn r (ticket (top left-w))) (sym (swept-roster left-w)))
 
   row-below : isFound (c .find-bic2 .result) ≡ true → numberOf (c .find-bic2 .result) < roster (top left-w) .rows
@@ -396,51 +408,42 @@ module _ (c : tie.After-end-of Inv-loop2 μ-loop2 Inv-loop μ-loop) where
   way-is : c .end-of .result ≡ cond (opens found-at) (wayIn (swept-book left-e .roster) (ticket (top left-e))) followed.Nowhere
   way-is =
       c .end-of .ensures
-      ∙ led-end (roster (top left-e)) guaranteed _ _ (top left-e .before .before .before .before .before .payees-of .ensures .1) (top left-e .before .before .before .before .counts-of .ensures .1) (found-at .find-bic2 .result) (row-below found-at)
+      ∙ led-end (roster (top left-e)) guaranteed _ _ (top left-e .before .before .before .before .before .before .before .before .before .before .payees-of .ensures .1) (top left-e .before .before .before .before .before .before .before .before .before .counts-of .ensures .1) (found-at .find-bic2 .result) (row-below found-at)
       ∙ ap₂ followedFrom (sym (swept-roster left-e)) (route-is found-at)
       ∙ way-if (swept-book left-e .roster) (opens found-at) (ticket (top left-e))
 
 -- all covers together
+-- held and open debit anywhere
 module _ (c : tie.Joined3 Inv-loop2 μ-loop2 Inv-loop μ-loop) where
   abbrev left-t : tie.Left-loop2 Inv-loop2 μ-loop2 Inv-loop μ-loop
-  left-t = c .before .before .before .before .before .before .before .before .before .before .before .before .before .before .before .before .before .before .before .before .before .before
+  left-t = c .before .before .before .before .before .before .before .before .before .before .before .before .before .before .before .before .before .before .before .before .before .before .before .before .before .before
 
   abbrev seeks : Bool
-  seeks = seeksSums (termsOf (entry (at-end left-t) .kind) .flow)
+  seeks = seeksOpen (termsOf (entry (at-end left-t) .kind) .flow)
 
-  seeks-is : c .before .seeks-sums .result ≡ seeks
-  seeks-is = c .before .seeks-sums .ensures ∙ ap (λ (x : Terms). seeksSums (x .flow)) (c .before .before .before .before .before .before .before .before .before .before .before .before .before .before .before .before .before .before .before .before .before .terms-of .ensures)
+  seeks-is : c .before .seeks-open .result ≡ seeks
+  seeks-is = c .before .seeks-open .ensures ∙ ap (λ (x : Terms). seeksOpen (x .flow)) (c .before .before .before .before .before .before .before .before .before .before .before .before .before .before .before .before .before .before .before .before .before .before .before .before .before .terms-of .ensures)
 
-  open-is : c .if3 .sums .unconfirmed ≡ cond seeks (anyOpen (swept-book left-t)) false
+  open-is : c .if3 .unconfirmed ≡ cond seeks (anyOpen (swept-book left-t)) false
   open-is =
       ⊎-elim
       (λ x.
-      ap (λ (w : Sums). w .unconfirmed) (x .3 ∙ x .2 .ensures)
+      x .3
+      ∙ x .2 .ensures
       ∙ ap (λ (r : Roster). anyTo (λ p. isOpen (coverOf (swept-book left-t .covers) p)) (r .size)) (sym (swept-roster left-t))
       ∙ open-sum (swept-book left-t)
       ∙ ap (λ (z : Bool). cond z (anyOpen (swept-book left-t)) false) (sym (x .0 .taken) ∙ seeks-is))
-      (λ y. ap (λ (w : Sums). w .unconfirmed) (y .1 ∙ c .before .before .none .ensures) ∙ ap (λ (z : Bool). cond z (anyOpen (swept-book left-t)) false) (sym (y .0 .left) ∙ seeks-is))
-      (c .if3 .came)
-
-  total-is : c .if3 .sums .total ≡ cond seeks (total (swept-book left-t)) 0
-  total-is =
-      ⊎-elim
-      (λ x.
-      ap (λ (w : Sums). w .total) (x .3 ∙ x .2 .ensures)
-      ∙ ap (λ (r : Roster). totalOf (r .size) (swept-book left-t .covers)) (sym (swept-roster left-t))
-      ∙ total-sum (swept-book left-t)
-      ∙ ap (λ (z : Bool). cond z (total (swept-book left-t)) 0) (sym (x .0 .taken) ∙ seeks-is))
-      (λ y. ap (λ (w : Sums). w .total) (y .1 ∙ c .before .before .none .ensures) ∙ ap (λ (z : Bool). cond z (total (swept-book left-t)) 0) (sym (y .0 .left) ∙ seeks-is))
+      (λ y. y .1 ∙ ap (λ (z : Bool). cond z (anyOpen (swept-book left-t)) false) (sym (y .0 .left) ∙ seeks-is))
       (c .if3 .came)
 
 -- the numbers of sender and order
 module _ (c : tie.After-number-of2 Inv-loop2 μ-loop2 Inv-loop μ-loop) where
   abbrev left-n : tie.Left-loop2 Inv-loop2 μ-loop2 Inv-loop μ-loop
-  left-n = c .before .before .before .before .before .before .before .before .before .before .before .before .before .before .before .before .before .before .before .before .before .before .before .before
+  left-n = c .before .before .before .before .before .before .before .before .before .before .before .before .before .before .before .before .before .before .before .before .before .before .before .before .before .before .before .before
 
   sender-number : c .before .number-of .result < 32
   sender-number =
-      let e = c .before .number-of .ensures ∙ ap numberOf (sender-is (c .before .before .before .before .before .before .before .before .before .before .before .before .before .before .before .before .before)) in
+      let e = c .before .number-of .ensures ∙ ap numberOf (sender-is (c .before .before .before .before .before .before .before .before .before .before .before .before .before .before .before .before .before .before .before .before)) in
       let h = sender-below (swept-book left-n) (swept-sound left-n) (entry (at-end left-n)) (ticket (top left-n)) in
       omega arith
 
@@ -456,22 +459,22 @@ module _ (c : tie.After-number-of2 Inv-loop2 μ-loop2 Inv-loop μ-loop) where
 -- the finding
 module _ (c : tie.After-is-bank2 Inv-loop2 μ-loop2 Inv-loop μ-loop) where
   abbrev left-j : tie.Left-loop2 Inv-loop2 μ-loop2 Inv-loop μ-loop
-  left-j = c .before .before .before .before .before .before .before .before .before .before .before .before .before .before .before .before .before .before .before .before .before .before .before .before .before .before .before .before .before .before .before .before
+  left-j = c .before .before .before .before .before .before .before .before .before .before .before .before .before .before .before .before .before .before .before .before .before .before .before .before .before .before .before .before .before .before .before .before .before .before .before .before
 
   abbrev finding : (x : Finding) × (x ≡ sought (swept-book left-j) (entry (at-end left-j)) (ticket (top left-j)))
   finding = (
     _,
     made (swept-book left-j) (entry (at-end left-j)) (ticket (top left-j)) _ _ _ _ _ _ _ _ _ _
         (c .before .before .before .copy .ensures)
-        (sender-is (c .before .before .before .before .before .before .before .before .before .before .before .before .before .before .before .before .before .before .before .before .before .before .before .before .before))
+        (sender-is (c .before .before .before .before .before .before .before .before .before .before .before .before .before .before .before .before .before .before .before .before .before .before .before .before .before .before .before .before))
         (order-is (c .before .before .before .before .before .before .before .before .before .before .before .before .before .before .before .before .before .before .before .before))
         (c .before .before .before .before .before .before .before .before .before .number-of .ensures)
         (c .before .before .before .before .before .before .before .before .number-of2 .ensures)
         (c .is-bank2 .ensures ∙ ap (λ (r : Roster). isBank r (orderOf (swept-book left-j .orders) (c .before .before .before .before .before .before .before .before .number-of2 .result) .payee)) (sym (swept-roster left-j)))
-        (route-is (c .before .before .before .before .before .before .before .before .before .before .before .before .before .before .before .before))
-        (way-is (c .before .before .before .before .before .before .before .before .before .before .before .before .before))
+        (route-is (c .before .before .before .before .before .before .before .before .before .before .before .before .before .before .before))
+        (way-is (c .before .before .before .before .before .before .before .before .before .before .before .before))
         (open-is (c .before .before .before .before .before .before .before .before .before .before))
-        (total-is (c .before .before .before .before .before .before .before .before .before .before)),
+        (total-now left-j),
   )
 
 -- the judgement
@@ -496,10 +499,89 @@ module _ (c : tie.After-judge Inv-loop2 μ-loop2 Inv-loop μ-loop) where
       subst (λ (x : Judged). Applicable (swept-book left-v) (x .decision)) (sym verdict-is)
       (subst (λ (w : Book). Applicable w (right .decision)) (sym (book-is left-v)) (applicable (b (top left-v)) (sound (top left-v)) (ticket (top left-v))))
 
+  -- which TxId the order that is written has
+  named : Named (swept-book left-v) (ticket (top left-v)) d
+  named =
+      subst (λ (x : Judged). Named (swept-book left-v) (ticket (top left-v)) (x .decision))
+      (sym (c .judge .ensures ∙ ap (judged (entry (at-end left-v) .refusal)) (finding (c .before) .1)))
+      (judged-named (swept-book left-v) (entry (at-end left-v) .refusal) (entry (at-end left-v)) (ticket (top left-v)))
+
+-- the sum of all cover with the first cover changed
+module _ (c : tie.After-moved2 Inv-loop2 μ-loop2 Inv-loop μ-loop) where
+  abbrev judged-1 : tie.After-judge Inv-loop2 μ-loop2 Inv-loop μ-loop
+  judged-1 = c .before .before .before .before .before .before .before .before .before .before .before .before .before .before
+
+  abbrev left-1 : tie.Left-loop2 Inv-loop2 μ-loop2 Inv-loop μ-loop
+  left-1 = left-v judged-1
+
+  abbrev covers-0 : List Cover
+  covers-0 = swept-book left-1 .covers
+
+  first-grows : whole (c .moved2 .result) ≤ whole (coverOf covers-0 (d judged-1 .first .who)) + d judged-1 .first .amount
+  first-grows =
+      subst (λ (v : Cover). whole v ≤ whole (coverOf covers-0 (d judged-1 .first .who)) + d judged-1 .first .amount) (sym (c .moved2 .ensures))
+      (whole-grows (d judged-1 .first .how) (d judged-1 .first .amount) (coverOf covers-0 (d judged-1 .first .who)))
+
+  first-fits : (whole (coverOf covers-0 (d judged-1 .first .who)) ≤ top left-1 .loop .total) × (top left-1 .loop .total + whole (c .moved2 .result) ≤ mostNumber)
+  first-fits =
+      subst (λ (n : ℕ). (whole (coverOf covers-0 (d judged-1 .first .who)) ≤ n) × (n + whole (c .moved2 .result) ≤ mostNumber)) (sym (all-now left-1))
+      (change-fits covers-0 (swept-sound left-1 .covers .long) (d judged-1 .first .who) (fits judged-1 .first) (c .moved2 .result) (d judged-1 .first .amount)
+      first-grows (fits judged-1 .firstMost) (let few = all-few left-1 in omega arith))
+
+module _ (c : tie.After-total-with Inv-loop2 μ-loop2 Inv-loop μ-loop) where
+  abbrev moved-1 : tie.After-moved2 Inv-loop2 μ-loop2 Inv-loop μ-loop
+  moved-1 = c .before
+
+  abbrev covers-1 : List Cover
+  covers-1 = set (covers-0 moved-1) (d (judged-1 moved-1) .first .who) (moved-1 .moved2 .result)
+
+  first-all : c .total-with .result ≡ allOf covers-1
+  first-all =
+      c .total-with .ensures
+      ∙ ap (λ (n : ℕ). n - whole (coverOf (covers-0 moved-1) (d (judged-1 moved-1) .first .who)) + whole (moved-1 .moved2 .result)) (all-now (left-1 moved-1))
+      ∙ all-changed (covers-0 moved-1) (swept-sound (left-1 moved-1) .covers .long) (d (judged-1 moved-1) .first .who) (fits (judged-1 moved-1) .first) (moved-1 .moved2 .result)
+
+  first-few : allOf covers-1 ≤ mostTotal + mostTotal
+  first-few =
+      change-few (covers-0 moved-1) (swept-sound (left-1 moved-1) .covers .long) (d (judged-1 moved-1) .first .who) (fits (judged-1 moved-1) .first)
+      (moved-1 .moved2 .result) (d (judged-1 moved-1) .first .amount) (first-grows moved-1) (fits (judged-1 moved-1) .firstMost) (all-few (left-1 moved-1))
+
+  long-1 : length covers-1 ≡ mostParticipants
+  long-1 = length-set (covers-0 moved-1) (d (judged-1 moved-1) .first .who) (moved-1 .moved2 .result) ∙ swept-sound (left-1 moved-1) .covers .long
+
+-- and with the second
+module _ (c : tie.After-moved3 Inv-loop2 μ-loop2 Inv-loop μ-loop) where
+  abbrev summed-1 : tie.After-total-with Inv-loop2 μ-loop2 Inv-loop μ-loop
+  summed-1 = c .before .before .before
+
+  abbrev judged-2 : tie.After-judge Inv-loop2 μ-loop2 Inv-loop μ-loop
+  judged-2 = judged-1 (moved-1 summed-1)
+
+  second-grows : whole (c .moved3 .result) ≤ whole (coverOf (covers-1 summed-1) (d judged-2 .second .who)) + d judged-2 .second .amount
+  second-grows =
+      subst (λ (v : Cover). whole v ≤ whole (coverOf (covers-1 summed-1) (d judged-2 .second .who)) + d judged-2 .second .amount) (sym (c .moved3 .ensures))
+      (whole-grows (d judged-2 .second .how) (d judged-2 .second .amount) (coverOf (covers-1 summed-1) (d judged-2 .second .who)))
+
+  second-fits : (whole (coverOf (covers-1 summed-1) (d judged-2 .second .who)) ≤ summed-1 .total-with .result) × (summed-1 .total-with .result + whole (c .moved3 .result) ≤ mostNumber)
+  second-fits =
+      subst (λ (n : ℕ). (whole (coverOf (covers-1 summed-1) (d judged-2 .second .who)) ≤ n) × (n + whole (c .moved3 .result) ≤ mostNumber)) (sym (first-all summed-1))
+      (change-fits (covers-1 summed-1) (long-1 summed-1) (d judged-2 .second .who) (fits judged-2 .second) (c .moved3 .result) (d judged-2 .second .amount)
+      second-grows (fits judged-2 .secondMost) (first-few summed-1))
+
+module _ (c : tie.After-total-with2 Inv-loop2 μ-loop2 Inv-loop μ-loop) where
+  abbrev moved-2 : tie.After-moved3 Inv-loop2 μ-loop2 Inv-loop μ-loop
+  moved-2 = c .before
+
+  second-all : c .total-with2 .result ≡ allOf (set (covers-1 (summed-1 moved-2)) (d (judged-2 moved-2) .second .who) (moved-2 .moved3 .result))
+  second-all =
+      c .total-with2 .ensures
+      ∙ ap (λ (n : ℕ). n - whole (coverOf (covers-1 (summed-1 moved-2)) (d (judged-2 moved-2) .second .who)) + whole (moved-2 .moved3 .result)) (first-all (summed-1 moved-2))
+      ∙ all-changed (covers-1 (summed-1 moved-2)) (long-1 (summed-1 moved-2)) (d (judged-2 moved-2) .second .who) (fits (judged-2 moved-2) .second) (moved-2 .moved3 .result)
+
 -- both covers moved, and told
 module _ (c : tie.After-slice-known4 Inv-loop2 μ-loop2 Inv-loop μ-loop) where
   abbrev judged-at : tie.After-judge Inv-loop2 μ-loop2 Inv-loop μ-loop
-  judged-at = c .before .before .before .before .before .before .before .before .before .before .before .before .before .before .before .before .before .before .before
+  judged-at = c .before .before .before .before .before .before .before .before .before .before .before .before .before .before .before .before .before .before .before .before .before .before .before
 
   abbrev left-a : tie.Left-loop2 Inv-loop2 μ-loop2 Inv-loop μ-loop
   left-a = left-v judged-at
@@ -512,16 +594,16 @@ module _ (c : tie.After-slice-known4 Inv-loop2 μ-loop2 Inv-loop μ-loop) where
 
   -- the covers as the code has them
   abbrev both : List Cover
-  both = set (set (now-book .covers) (e .first .who) (c .before .before .before .before .before .before .before .moved2 .result)) (e .second .who) (c .before .before .before .before .moved3 .result)
+  both = set (set (now-book .covers) (e .first .who) (c .before .before .before .before .before .before .before .before .before .moved2 .result)) (e .second .who) (c .before .before .before .before .before .moved3 .result)
 
   both-moved : both ≡ covers now-book e (fits judged-at)
   both-moved =
-      ap (λ (v : Cover). set (set (now-book .covers) (e .first .who) (c .before .before .before .before .before .before .before .moved2 .result)) (e .second .who) v) (c .before .before .before .before .moved3 .ensures)
+      ap (λ (v : Cover). set (set (now-book .covers) (e .first .who) (c .before .before .before .before .before .before .before .before .before .moved2 .result)) (e .second .who) v) (c .before .before .before .before .before .moved3 .ensures)
       ∙ ap
       (λ (v : Cover).
       let cs = set (now-book .covers) (e .first .who) v in
       set cs (e .second .who) (moved (e .second .how) (e .second .amount) (coverOf cs (e .second .who))))
-      (c .before .before .before .before .before .before .before .moved2 .ensures)
+      (c .before .before .before .before .before .before .before .before .before .moved2 .ensures)
 
   few-participants : roster (top left-a) .size ≤ 32
   few-participants = let h = swept-sound left-a .roster .size in let q = ap (λ (r : Roster). r .size) (swept-roster left-a) in omega arith
@@ -677,81 +759,45 @@ module _ (c : tie.Joined4 Inv-loop2 μ-loop2 Inv-loop μ-loop) where
       (length (reports₀ (top left-f)) - 12 * top left-f .loop .n)
   has-room = room (at-end left-f .before .before .before)
 
-pub run-spec : {M : Type 1} → statement M
-run-spec =
-    tie.close
-    (tie.spec
-    Inv-loop2
-    μ-loop2
-    Inv-loop
-    μ-loop
-    (λ c κs. let a = c .before .before .before .before .before in (a .pre .roster .size, λ p h. bic-length _ (a .pre .roster .bic p h)))
-    (λ c κs. let a = c .before .before .before .before .before .before in (a .pre .roster .size, λ p h. bic-length _ (a .pre .roster .bic p h)))
-    (λ c κs. let a = c .before .before .before .before .before .before .before .before in (a .pre .roster .rows, λ i h. bic-length _ (a .pre .roster .routeBic i h)))
-    (λ c κs. let a = c .before .before .before .before .before .before .before .before .before in (a .pre .roster .rows, λ i h. bic-length _ (a .pre .roster .routeBic i h)))
-    (λ c κs. let a = c .before .before .before .before .before .before .before .before .before .before in (a .pre .roster .rows, λ i h. backward (a .args .t1 .roster .size) i (routeOf (a .args .t1 .roster) i .target) (a .pre .roster .leads i h)))
-    (λ c κs. let a = c .before .before .before .before .before .before .before .before .before .before .before in (a .pre .roster .rows, λ i h. backward (a .args .t1 .roster .size) i (routeOf (a .args .t1 .roster) i .target) (a .pre .roster .leads i h)))
-    (λ c κs. search needs)
-    (λ c κs. search needs)
-    -- loop-holds
-    (λ c.
-    let a = c .before .before .before .before .before .before .before .before .before .before .before .before .before .before .before in
+loop-holds : tie.Need-loop-holds Inv-loop2 μ-loop2 Inv-loop μ-loop
+loop-holds c =
+    let a = c .before .before .before .before .before .before .before .before .before .before .before .before .before .before .before .before .before .before .before .before .before .before .before .before .before .before in
+    let rows = c .before .before .before .before .before .before .txids-of .ensures in
+    let chains = c .before .before .before .before .txid-chains .ensures in
     record {
       going = started (a .args .t1) (now (a .args .tickets)) (now (a .args .answers)) (now (a .args .reports)) (a .pre);
       roster = refl;
       passed = record { none = λ i l. absurd (not-suc-le-zero l) };
       few = omega arith;
-      txids = c .before .txids-of .ensures .1;
-      long = c .before .txids-of .ensures .0;
-      keys = c .txid-keys-of .ensures .1;
-      many = c .txid-keys-of .ensures .0;
-    })
-    (λ c. let g = c .before .before .before .before .before .before .before .before .before .before .before .before .before .before .before .before .good in search needs)
-    (λ c. let g = c .before .before .before .before .before .before .before .before .before .before .before .before .before .before .before .before .good in search needs)
-    (λ c. let g = c .before .before .before .before .before .before .before .before .before .before .before .before .before .before .before .before .good in search needs)
-    (λ c. let g = c .loop .inv .going .answersLeft in let e = long-answers c in omega arith)
-    (λ c. let g = c .before .before .before .before .before .before .before .before .before .before .before .before .before .before .before .before .good in search needs)
-    (λ c. let g = c .loop .inv .going .reportsLeft in let e = long-reports c in omega arith)
-    (λ c κs. search needs)
-    (λ c. let g = c .before .before .before .before .before .before .before .before .before .before .before .before .before .before .before .before .before .before .good in search needs)
-    (λ c. let g = c .before .before .before .before .before .before .before .before .before .before .before .before .before .before .before .before .before .before .good in search needs)
-    (λ c. let g = c .before .before .before .before .before .before .before .before .before .before .before .before .before .before .before .before .before .before .good in search needs)
-    (λ c. let g = c .before .before .before .before .before .before .before .before .before .before .before .before .before .before .before .before .before .before .good in search needs)
-    (λ c. let h = room c .ticket in let g = c .before .before .before .before .before .before .before .before .before .before .before .before .before .before .before .before .before .before .good in search needs)
-    (λ c κs. search needs)
-    (λ c κs. search needs)
-    -- loop2-holds
-    (λ c.
+      index =
+          record {
+            txids = rows .1;
+            long = rows .0;
+            chained = same-chained (chains .2) (λ i l. ap txidBucket (rows .1 .row i l));
+            headed = chains .0;
+            linked = chains .1;
+          };
+      sum = c .total-of .ensures ∙ total-sum (a .args .t1) ∙ sym (all-total (a .args .t1) (a .pre));
+    }
+
+loop2-holds : tie.Need-loop2-holds Inv-loop2 μ-loop2 Inv-loop μ-loop
+loop2-holds c =
     let l = outer c in (
       begun (start c) (start-is-sound c) (l .loop .n) (l .loop .reports) (l .loop .mark) (record { none = λ i h. l .loop .inv .passed .none i h }),
       omega arith,
       let e = end-is c in let f = mark-few (eqb (entry c .refusal) 0) (b l .count) (l .loop .mark) (l .loop .inv .few) in omega arith,
-    ))
-    (λ c. let h = mark-below c in search needs)
-    (λ c. mark-below c)
-    (λ c. now-sound (c .before .before) .orders .early _ (in-use (c .before .before)))
-    (λ c. let h = payee-below (c .before .before .before) in search needs)
-    (λ c. payee-below (c .before .before .before))
-    (λ c κs. search needs)
-    -- expire-requires
-    (λ c κs.
+    )
+
+expire-requires : tie.Need-expire-requires Inv-loop2 μ-loop2 Inv-loop μ-loop
+expire-requires c κs =
     let i = c .before .before .before .before .before in
     let h = payer-below i in
     let k = payee-below i in
     let m = mark-below i in
-    (early i, omega arith, omega arith, omega arith))
-    (λ c. let h = mark-below (c .before .before .before .before .before .before .before) in search needs)
-    (λ c. mark-below (c .before .before .before .before .before .before .before))
-    (λ c. let h = freeable (c .before .before) .who in search needs)
-    (λ c. freeable (c .before .before) .who)
-    (λ c κs. freeable (c .before .before .before) .fits)
-    (λ c. let h = freeable (c .before .before .before .before) .who in search needs)
-    (λ c. freeable (c .before .before .before .before) .who)
-    (λ c κs. told-fits (c .before .before .before .before .before))
-    (λ c. search needs)
-    (λ c. search needs)
-    -- loop2-again
-    (λ c.
+    (early i, omega arith, omega arith, omega arith)
+
+loop2-again : tie.Need-loop2-again Inv-loop2 μ-loop2 Inv-loop μ-loop
+loop2-again c =
     let x = c .before .before .before .before .before .before .before .before in
     let i = in-loop x in
     let w = i .before .loop2 .inv in (
@@ -772,136 +818,103 @@ run-spec =
           ∙ ap (λ (y : Expiry). sets (i .before .loop2 .reports) (12 * i .before .loop2 .n) (reportsBytes (listed (y .told)))) (lapse-is x)),
       let h = w .1 in omega arith,
       let h = i .loop2-test .taken in omega arith,
-    ))
-    (λ c κs. search needs)
-    (λ c κs. search needs)
-    (λ c κs. search needs)
-    (λ c. let h = top (c .before .before .before .before) .before .before .before .before .before .before .before .before .before .bic-keys-of .ensures .0 in search needs)
-    (λ c. let h = top (c .before .before .before .before .before) .before .before .before .before .before .before .before .before .before .before .bics-of .ensures .0 in search needs)
-    (λ c. search needs)
-    (λ c. search needs)
-    (λ c. search needs)
-    -- find-bic-requires
-    (λ c κs.
-    let l = c .before .before .before .before .before .before in
+    )
+
+find-bic-requires : tie.Need-find-bic-requires Inv-loop2 μ-loop2 Inv-loop μ-loop
+find-bic-requires c κs =
+    let l = c .before .before .before .before .before .before .before in
     let few = swept-sound l .roster .size in
     let e = ap (λ (r : Roster). r .size) (swept-roster l) in
-    let k = top l .before .before .before .before .before .before .before .before .before .bic-keys-of .ensures in
-    let r = top l .before .before .before .before .before .before .before .before .before .before .bics-of .ensures in
-    let long = k .0 in
-    let wide = r .0 in
-    (omega arith, omega arith, length-part 11 16 (ticket (top l)) (rw (whole-ticket l) (omega arith)), keyed-rows (r .1) (k .1)))
-    (λ c κs. search needs)
-    (λ c. search needs)
-    (λ c. search needs)
-    (λ c. search needs)
-    (λ c. search needs)
-    (λ c. search needs)
-    -- find-txid-requires
-    (λ c κs.
-    let l = c .before .before .before .before .before .before .before .before .before .before .before in
-    let few = few-orders l in
-    let long = top l .loop .inv .long in
-    let many = top l .loop .inv .many in
-    (omega arith, omega arith, length-part 35 38 (ticket (top l)) (rw (whole-ticket l) (omega arith)), keyed-rows (rows-now l) (keys-now l)))
-    (λ c. let h = top (c .before .before .before .before .before .before .before .before .before .before .before .before .before) .before .before .before .before .before .before .route-keys-of .ensures .0 in search needs)
-    (λ c. let h = top (c .before .before .before .before .before .before .before .before .before .before .before .before .before .before) .before .before .before .before .before .before .before .route-bics-of .ensures .0 in search needs)
-    (λ c. search needs)
-    (λ c. search needs)
-    (λ c. search needs)
-    -- find-bic-requires-2
-    (λ c κs.
+    let k = top l .before .before .before .before .before .before .before .before .before .before .before .before .before .before .before .before .before .before .before .bic-chains .ensures in
+    let r = top l .before .before .before .before .before .before .before .before .before .before .before .before .before .before .before .before .before .before .before .before .before .bics-of .ensures in
+    let linked = k .1 in
+    let wide = r .0 in (
+      k .0,
+      omega arith,
+      omega arith,
+      length-part 11 16 (ticket (top l)) (rw (whole-ticket l) (omega arith)),
+      k .2,
+      distinct-rows (r .1) (top l .before .before .before .before .before .before .before .before .before .before .before .before .before .before .before .before .before .before .before .before .before .before .before .before .before .before .before .pre .roster .distinct),
+    )
+
+find-txid-requires : tie.Need-find-txid-requires Inv-loop2 μ-loop2 Inv-loop μ-loop
+find-txid-requires c κs =
     let l = c .before .before .before .before .before .before .before .before .before .before .before .before .before .before .before in
+    let x = index-now l in
+    let bucket = c .before .before .before .before .txid-bucket .ensures in
+    let few = few-orders l in
+    let long = x .long in
+    let linked = x .linked in (
+      x .headed,
+      omega arith,
+      omega arith,
+      bucket .0,
+      bucket .1,
+      same-chained (x .chained) (λ i h. ap txidBucket (sym (x .txids .row i h))),
+      distinct-rows (x .txids) (swept-sound l .orders .distinct),
+    )
+
+find-bic-requires-2 : tie.Need-find-bic-requires-2 Inv-loop2 μ-loop2 Inv-loop μ-loop
+find-bic-requires-2 c κs =
+    let l = c .before .before .before .before .before .before .before .before .before .before .before .before .before .before .before .before .before .before .before .before in
     let few = swept-sound l .roster .rows in
     let e = ap (λ (r : Roster). r .rows) (swept-roster l) in
-    let k = top l .before .before .before .before .before .before .route-keys-of .ensures in
-    let r = top l .before .before .before .before .before .before .before .route-bics-of .ensures in
-    let long = k .0 in
-    let wide = r .0 in
-    (omega arith, omega arith, length-part 11 27 (ticket (top l)) (rw (whole-ticket l) (omega arith)), keyed-rows (r .1) (k .1)))
-    (λ c. let h = top (c .before .before .before .before .before .before .before .before .before .before .before .before .before .before .before .before .before) .before .before .before .before .before .payees-of .ensures .0 in search needs)
-    (λ c. let h = top (c .before .before .before .before .before .before .before .before .before .before .before .before .before .before .before .before .before .before) .before .before .before .before .counts-of .ensures .0 in search needs)
-    -- end-of-requires
-    (λ c κs.
-    let l = c .before .before .before .before .before .before .before .before .before .before .before .before .before .before .before .before .before .before in
-    let p = top l .before .before .before .before .before .payees-of .ensures .0 in
-    let k = top l .before .before .before .before .counts-of .ensures .0 in
-    let f = row-few (c .before .before) in
-    (omega arith, omega arith))
-    (λ c κs. search needs)
-    (λ c κs. search needs)
-    -- sums-of-requires
-    (λ c κs.
+    let k = top l .before .before .before .before .before .before .before .before .before .before .before .before .before .bic-chains2 .ensures in
+    let r = top l .before .before .before .before .before .before .before .before .before .before .before .before .before .before .before .route-bics-of .ensures in
+    let linked = k .1 in
+    let wide = r .0 in (
+      k .0,
+      omega arith,
+      omega arith,
+      length-part 11 27 (ticket (top l)) (rw (whole-ticket l) (omega arith)),
+      k .2,
+      distinct-rows (r .1) (top l .before .before .before .before .before .before .before .before .before .before .before .before .before .before .before .before .before .before .before .before .before .before .before .before .before .before .before .pre .roster .routeDistinct),
+    )
+
+end-of-requires : tie.Need-end-of-requires Inv-loop2 μ-loop2 Inv-loop μ-loop
+end-of-requires c κs =
     let l = c .before .before .before .before .before .before .before .before .before .before .before .before .before .before .before .before .before .before .before .before .before .before .before in
-    subst (λ (r : Roster). (r .size ≤ 32) × (totalOf (r .size) (swept-book l .covers) ≤ mostTotal)) (swept-roster l)
-    (swept-sound l .roster .size, rw (total-sum (swept-book l)) (swept-sound l .limited)))
-    (λ c κs. search needs)
-    (λ c κs. search needs)
-    (λ c. let h = sender-number c in search needs)
-    (λ c. sender-number c)
-    (λ c. let h = order-number (c .before) in search needs)
-    (λ c. order-number (c .before))
-    (λ c. search needs)
-    (λ c. search needs)
-    (λ c. let h = whole-ticket (c .before .before .before .before .before .before .before .before .before .before .before .before .before .before .before .before .before .before .before .before .before .before .before .before .before .before) in search needs)
-    (λ c. search needs)
-    (λ c κs. search needs)
-    (λ c. let h = payee-number (c .before .before .before .before .before .before) in search needs)
-    (λ c. payee-number (c .before .before .before .before .before .before))
-    (λ c κs. search needs)
-    -- judge-requires
-    (λ c κs.
+    let p = top l .before .before .before .before .before .before .before .before .before .before .payees-of .ensures .0 in
+    let k = top l .before .before .before .before .before .before .before .before .before .counts-of .ensures .0 in
+    let f = row-few (c .before .before) in
+    (omega arith, omega arith)
+
+judge-requires : tie.Need-judge-requires Inv-loop2 μ-loop2 Inv-loop μ-loop
+judge-requires c κs =
     let l = left-j c in
-    subst Judgeable (sym (finding c .1)) (sought-judgeable (swept-book l) (swept-sound l) (entry (at-end l)) (ticket (top l))))
-    (λ c. let h = fits (c .before .before .before) .number in search needs)
-    (λ c. fits (c .before .before .before) .number)
-    (λ c. let h = top (left-v (c .before .before .before .before)) .loop .inv .long in search needs)
-    (λ c. search needs)
-    -- put-row-requires
-    (λ c κs.
-    let j = c .before .before .before .before .before in
-    let long = top (left-v j) .loop .inv .long in
-    let h = fits j .number in
-    (fits j .txid, omega arith))
-    (λ c. let h = fits (c .before .before .before .before .before .before .before .before) .txid in search needs)
-    (λ c κs. fits (c .before .before .before .before .before .before .before .before) .txid)
-    (λ c. let h = fits (c .before .before .before .before .before .before .before .before .before) .number in search needs)
-    (λ c. fits (c .before .before .before .before .before .before .before .before .before) .number)
-    (λ c. let h = fits (c .before .before .before .before .before .before .before .before .before .before) .first in search needs)
-    (λ c. fits (c .before .before .before .before .before .before .before .before .before .before) .first)
-    (λ c κs. fits (c .before .before .before .before .before .before .before .before .before .before .before) .firstRoom)
-    (λ c. let h = fits (c .before .before .before .before .before .before .before .before .before .before .before .before) .first in search needs)
-    (λ c. fits (c .before .before .before .before .before .before .before .before .before .before .before .before) .first)
-    (λ c. let h = fits (c .before .before .before .before .before .before .before .before .before .before .before .before .before) .second in search needs)
-    (λ c. fits (c .before .before .before .before .before .before .before .before .before .before .before .before .before) .second)
-    -- moved-requires-3
-    (λ c κs.
-    let j = c .before .before .before .before .before .before .before .before .before .before .before .before .before .before in
+    subst Judgeable (sym (finding c .1)) (sought-judgeable (swept-book l) (swept-sound l) (entry (at-end l)) (ticket (top l)))
+
+put-txid-requires : tie.Need-put-txid-requires Inv-loop2 μ-loop2 Inv-loop μ-loop
+put-txid-requires c κs =
+    let l = c .before .before .before .before .before .before .before .before .before .before .before .before .before .before .before .before .before .before .before .before .before .before .before .before .before .before .before .before .before .before .before .before .before .before .before .before .before .before .before .before .before .before .before .before in
+    let x = index-now l in
+    let bucket = c .before .before .before .before .before .before .before .before .before .before .before .before .before .before .before .before .before .before .before .before .before .before .before .before .before .before .before .before .before .before .before .before .before .txid-bucket .ensures .1 in
+    let number = fits (c .before .before .before .before .before .before .before) .number in
+    let long = x .long in
+    let headed = x .headed in
+    let linked = x .linked in
+    (omega arith, omega arith, omega arith, omega arith, txid-long l)
+
+moved-requires-3 : tie.Need-moved-requires-3 Inv-loop2 μ-loop2 Inv-loop μ-loop
+moved-requires-3 c κs =
+    let j = c .before .before .before .before .before .before .before .before .before .before .before .before .before .before .before .before .before in
     let w = swept-book (left-v j) in
     subst (λ (v : Cover). Room (d j .second .how) (d j .second .amount) (coverOf (set (w .covers) (d j .first .who) v) (d j .second .who)))
-    (sym (c .before .before .moved2 .ensures)) (fits j .secondRoom))
-    (λ c. let h = fits (c .before .before .before .before .before .before .before .before .before .before .before .before .before .before .before) .second in search needs)
-    (λ c. fits (c .before .before .before .before .before .before .before .before .before .before .before .before .before .before .before) .second)
-    -- put-told-requires-2
-    (λ c κs.
-    let j = c .before .before .before .before .before .before .before .before .before .before .before .before .before .before .before .before in
+    (sym (c .before .before .before .moved2 .ensures)) (fits j .secondRoom)
+
+put-told-requires-2 : tie.Need-put-told-requires-2 Inv-loop2 μ-loop2 Inv-loop μ-loop
+put-told-requires-2 c κs =
+    let j = c .before .before .before .before .before .before .before .before .before .before .before .before .before .before .before .before .before .before .before .before in
     let l = left-v j in
     let n = told-is l in
     let few = after-few (b (top l)) (sound (top l)) (ticket (top l)) in
     let two = listed-few (d j .told) in
     let has = room (at-end l .before .before .before) .report in
     let e = text-length l in
-    omega arith)
-    (λ c κs. (few-participants (told-at c), cut-fits c))
-    (λ c κs. let t = c .before .before .before .before .before .before in (few-participants t, uncut-whole t (c .before .before .before .before .before .if4 .taken)))
-    (λ c. let h = count-step (c .before .before) in omega arith)
-    (λ c. let h = count-step (c .before .before) in let few = few-reports (c .before .before) in omega arith)
-    (λ c. let h = ok (c .before .before .before) .rows in omega arith)
-    (λ c κs. let j = c .before .before .before in let h = has-room j .answer in let e = long-answers (top (left-f j)) in omega arith)
-    (λ c. let h = next-fits (c .before .before .before .before .before .before .before .before .before .before .before .before .before .before .before .before .before .before .before .before .before .before .before .before .before .before .before .before .before .before .before .before .before .before .before .before .before .before .before .before .before .before .before .before .before .before .before .before .before .before .before .before .before .before .before .before .before .before .before .before .before .before .before .before) in omega arith)
-    (λ c. let h = has-room (c .before .before .before .before .before .before) .ticket in omega arith)
-    -- loop-again
-    (λ c.
+    omega arith
+
+loop-again : tie.Need-loop-again Inv-loop2 μ-loop2 Inv-loop μ-loop
+loop-again c =
     let j = c .before .before .before .before .before .before in
     let l = left-f j in
     let t = top l in
@@ -923,15 +936,150 @@ run-spec =
           subst (Passed (l .before .loop2 .mark)) (sym (book-after j))
           (passed-applied (w j) (f j) (ok j) old (l .before .loop2 .mark) (let h = mark-in l in let e = swept-count l in omega arith) (l .before .loop2 .inv .0 .passed));
       few = let g = count-grows (w j) (f j) (ok j) in let h = mark-in l in let e = swept-count l in let k = ap (λ (v : Book). v .count) (book-after j) in omega arith;
-      txids =
-          rows-kept (w j) (f j) (ok j) old (book-after j) (rows-now l) (let h = ok j .number in let e = t .loop .inv .long in omega arith)
-          (c .before .before .before .before .before .before .before .before .before .before .before .before .before .before .before .before .before .before .before .before .put-row .ensures);
-      long = (simp length-sets at (ap length (c .before .before .before .before .before .before .before .before .before .before .before .before .before .before .before .before .before .before .before .before .put-row .ensures))) ∙ t .loop .inv .long;
-      keys =
-          keys-kept (w j) (f j) (ok j) old (book-after j) (keys-now l) (let h = ok j .number in let e = t .loop .inv .many in omega arith)
-          (ap (set (t .loop .keys) (f j .number)) (c .before .before .before .before .before .before .before .before .before .before .before .before .before .before .before .before .before .txid-key .ensures));
-      many = length-set (t .loop .keys) (f j .number) (c .before .before .before .before .before .before .before .before .before .before .before .before .before .before .before .before .before .txid-key .result) ∙ t .loop .inv .many;
-    })
+      index =
+          index-kept (w j) (f j) (ticket t) old (ok j .number) (txid-long l) (index-now l) _ (c .before .before .before .before .before .before .before .before .before .before .before .before .before .before .before .before .before .before .before .before .before .before .before .before .before .before .before .before .before .before .before .before .before .before .before .before .before .before .before .before .before .before .before .before .before .before .before .before .before .before .before .before .before .before .before .before .txid-bucket .ensures .0) (c .before .before .before .before .before .before .before .before .before .before .before .before .before .before .before .before .before .before .before .before .before .before .before .before .before .before .before .before .before .before .before .before .before .before .before .before .before .before .before .before .before .before .before .before .before .before .before .before .before .before .before .before .before .before .before .before .txid-bucket .ensures .1)
+          (c .before .before .before .before .before .before .before .before .before .before .before .before .before .before .before .before .before .before .before .before .before .before .put-txid .ensures .0) (c .before .before .before .before .before .before .before .before .before .before .before .before .before .before .before .before .before .before .before .before .before .before .put-txid .ensures .1) (c .before .before .before .before .before .before .before .before .before .before .before .before .before .before .before .before .before .before .before .before .before .before .put-txid .ensures .2) (named (judged-at (told-now j))) (book-after j);
+      sum =
+          second-all (c .before .before .before .before .before .before .before .before .before .before .before)
+          ∙ ap allOf (both-moved (told-now j))
+          ∙ sym (applied-all (w j) (swept-sound l) (f j) (ok j))
+          ∙ ap (λ (v : Book). allOf (v .covers)) (sym (book-after j));
+    }
+
+pub run-spec : {M : Type 1} → statement M
+run-spec =
+    tie.close
+    (tie.spec
+    Inv-loop2
+    μ-loop2
+    Inv-loop
+    μ-loop
+    (λ c κs. let a = c .before .before .before .before .before in (a .pre .roster .size, λ p h. bic-length _ (a .pre .roster .bic p h)))
+    (λ c. let h = c .before .bics-of .ensures .0 in search needs)
+    (λ c κs. let few = c .before .before .before .before .before .before .before .pre .roster .size in let h = c .before .bics-of .ensures .0 in (omega arith, omega arith))
+    (λ c κs. let a = c .before .before .before .before .before .before .before .before .before .before .before in (a .pre .roster .rows, λ i h. bic-length _ (a .pre .roster .routeBic i h)))
+    (λ c. let h = c .before .route-bics-of .ensures .0 in search needs)
+    (λ c κs. let few = c .before .before .before .before .before .before .before .before .before .before .before .before .before .pre .roster .rows in let h = c .before .route-bics-of .ensures .0 in (omega arith, omega arith))
+    (λ c κs. let a = c .before .before .before .before .before .before .before .before .before .before .before .before .before .before .before .before in (a .pre .roster .rows, λ i h. backward (a .args .t1 .roster .size) i (routeOf (a .args .t1 .roster) i .target) (a .pre .roster .leads i h)))
+    (λ c κs. let a = c .before .before .before .before .before .before .before .before .before .before .before .before .before .before .before .before .before in (a .pre .roster .rows, λ i h. backward (a .args .t1 .roster .size) i (routeOf (a .args .t1 .roster) i .target) (a .pre .roster .leads i h)))
+    (λ c κs. let s = c .before .before .before .before .before .before .before .before .before .before .before .before .before .before .before .before .before .before .before .pre .orders in (s .count, s .padded))
+    (λ c. let h = c .before .txids-of .ensures .0 in search needs)
+    (λ c κs. let few = c .before .before .before .before .before .before .before .before .before .before .before .before .before .before .before .before .before .before .before .before .before .pre .orders .count in let h = c .before .txids-of .ensures .0 in (omega arith, omega arith))
+    (λ c κs. let a = c .before .before .before .before .before .before .before .before .before .before .before .before .before .before .before .before .before .before .before .before .before .before .before .before .before in (a .pre .roster .size, rw (total-sum (a .args .t1)) (a .pre .limited)))
+    loop-holds
+    (λ c. let g = c .before .before .before .before .before .before .before .before .before .before .before .before .before .before .before .before .before .before .before .before .before .before .before .before .before .before .before .good in search needs)
+    (λ c. let g = c .before .before .before .before .before .before .before .before .before .before .before .before .before .before .before .before .before .before .before .before .before .before .before .before .before .before .before .good in search needs)
+    (λ c. let g = c .before .before .before .before .before .before .before .before .before .before .before .before .before .before .before .before .before .before .before .before .before .before .before .before .before .before .before .good in search needs)
+    (λ c. let g = c .loop .inv .going .answersLeft in let e = long-answers c in omega arith)
+    (λ c. let g = c .before .before .before .before .before .before .before .before .before .before .before .before .before .before .before .before .before .before .before .before .before .before .before .before .before .before .before .good in search needs)
+    (λ c. let g = c .loop .inv .going .reportsLeft in let e = long-reports c in omega arith)
+    (λ c κs. search needs)
+    (λ c. let g = c .before .before .before .before .before .before .before .before .before .before .before .before .before .before .before .before .before .before .before .before .before .before .before .before .before .before .before .before .before .good in search needs)
+    (λ c. let g = c .before .before .before .before .before .before .before .before .before .before .before .before .before .before .before .before .before .before .before .before .before .before .before .before .before .before .before .before .before .good in search needs)
+    (λ c. let g = c .before .before .before .before .before .before .before .before .before .before .before .before .before .before .before .before .before .before .before .before .before .before .before .before .before .before .before .before .before .good in search needs)
+    (λ c. let g = c .before .before .before .before .before .before .before .before .before .before .before .before .before .before .before .before .before .before .before .before .before .before .before .before .before .before .before .before .before .good in search needs)
+    (λ c. let h = room c .ticket in let g = c .before .before .before .before .before .before .before .before .before .before .before .before .before .before .before .before .before .before .before .before .before .before .before .before .before .before .before .before .before .good in search needs)
+    (λ c κs. search needs)
+    (λ c κs. search needs)
+    loop2-holds
+    (λ c. let h = mark-below c in search needs)
+    (λ c. mark-below c)
+    (λ c. now-sound (c .before .before) .orders .early _ (in-use (c .before .before)))
+    (λ c. let h = payee-below (c .before .before .before) in search needs)
+    (λ c. payee-below (c .before .before .before))
+    (λ c κs. search needs)
+    expire-requires
+    (λ c. let h = mark-below (c .before .before .before .before .before .before .before) in search needs)
+    (λ c. mark-below (c .before .before .before .before .before .before .before))
+    (λ c. let h = freeable (c .before .before) .who in search needs)
+    (λ c. freeable (c .before .before) .who)
+    (λ c κs. freeable (c .before .before .before) .fits)
+    (λ c. let h = freeable (c .before .before .before .before) .who in search needs)
+    (λ c. freeable (c .before .before .before .before) .who)
+    (λ c κs. told-fits (c .before .before .before .before .before))
+    (λ c. search needs)
+    (λ c. search needs)
+    loop2-again
+    (λ c κs. search needs)
+    (λ c κs. search needs)
+    (λ c κs. search needs)
+    (λ c. let h = top (c .before .before .before .before) .before .before .before .before .before .before .before .before .before .before .before .before .before .before .before .before .before .before .before .bic-chains .ensures .0 in search needs)
+    (λ c. let h = top (c .before .before .before .before .before) .before .before .before .before .before .before .before .before .before .before .before .before .before .before .before .before .before .before .before .bic-chains .ensures .1 in search needs)
+    (λ c. let h = top (c .before .before .before .before .before .before) .before .before .before .before .before .before .before .before .before .before .before .before .before .before .before .before .before .before .before .before .before .bics-of .ensures .0 in search needs)
+    (λ c. search needs)
+    (λ c. search needs)
+    (λ c. let h = whole-ticket (c .before .before .before .before .before .before) in search needs)
+    find-bic-requires
+    (λ c κs. search needs)
+    (λ c. search needs)
+    (λ c. search needs)
+    (λ c. let h = whole-ticket (c .before .before .before .before .before .before .before .before .before) in search needs)
+    (λ c κs. txid-long (c .before .before .before .before .before .before .before .before .before .before))
+    (λ c. let h = index-now (c .before .before .before .before .before .before .before .before .before .before .before .before) .headed in search needs)
+    (λ c. let h = index-now (c .before .before .before .before .before .before .before .before .before .before .before .before .before) .linked in search needs)
+    (λ c. let h = index-now (c .before .before .before .before .before .before .before .before .before .before .before .before .before .before) .long in search needs)
+    (λ c. search needs)
+    (λ c. search needs)
+    (λ c. let h = whole-ticket (c .before .before .before .before .before .before .before .before .before .before .before .before .before .before) in search needs)
+    find-txid-requires
+    (λ c. let h = top (c .before .before .before .before .before .before .before .before .before .before .before .before .before .before .before .before .before) .before .before .before .before .before .before .before .before .before .before .before .before .before .bic-chains2 .ensures .0 in search needs)
+    (λ c. let h = top (c .before .before .before .before .before .before .before .before .before .before .before .before .before .before .before .before .before .before) .before .before .before .before .before .before .before .before .before .before .before .before .before .bic-chains2 .ensures .1 in search needs)
+    (λ c. let h = top (c .before .before .before .before .before .before .before .before .before .before .before .before .before .before .before .before .before .before .before) .before .before .before .before .before .before .before .before .before .before .before .before .before .before .before .route-bics-of .ensures .0 in search needs)
+    (λ c. search needs)
+    (λ c. search needs)
+    (λ c. let h = whole-ticket (c .before .before .before .before .before .before .before .before .before .before .before .before .before .before .before .before .before .before .before) in search needs)
+    find-bic-requires-2
+    (λ c. let h = top (c .before .before .before .before .before .before .before .before .before .before .before .before .before .before .before .before .before .before .before .before .before .before) .before .before .before .before .before .before .before .before .before .before .payees-of .ensures .0 in search needs)
+    (λ c. let h = top (c .before .before .before .before .before .before .before .before .before .before .before .before .before .before .before .before .before .before .before .before .before .before .before) .before .before .before .before .before .before .before .before .before .counts-of .ensures .0 in search needs)
+    end-of-requires
+    (λ c κs. search needs)
+    (λ c κs. let l = c .before .before .before .before .before .before .before .before .before .before .before .before .before .before .before .before .before .before .before .before .before .before .before .before .before .before .before in let few = swept-sound l .roster .size in let e = ap (λ (r : Roster). r .size) (swept-roster l) in omega arith)
+    (λ c κs. search needs)
+    (λ c κs. search needs)
+    (λ c. let h = sender-number c in search needs)
+    (λ c. sender-number c)
+    (λ c. let h = order-number (c .before) in search needs)
+    (λ c. order-number (c .before))
+    (λ c. search needs)
+    (λ c. search needs)
+    (λ c. let h = whole-ticket (c .before .before .before .before .before .before .before .before .before .before .before .before .before .before .before .before .before .before .before .before .before .before .before .before .before .before .before .before .before .before) in search needs)
+    (λ c. search needs)
+    (λ c κs. search needs)
+    (λ c. let h = payee-number (c .before .before .before .before .before .before) in search needs)
+    (λ c. payee-number (c .before .before .before .before .before .before))
+    (λ c κs. search needs)
+    judge-requires
+    (λ c. let h = fits (c .before .before) .number in search needs)
+    (λ c. fits (c .before .before) .number)
+    (λ c. let h = index-now (c .before .before .before .before .before .before .before .before .before .before .before .before .before .before .before .before .before .before .before .before .before .before .before .before .before .before .before .before .before .before .before .before .before .before .before .before .before .before .before .before .before) .headed in search needs)
+    (λ c. let h = index-now (c .before .before .before .before .before .before .before .before .before .before .before .before .before .before .before .before .before .before .before .before .before .before .before .before .before .before .before .before .before .before .before .before .before .before .before .before .before .before .before .before .before .before) .linked in search needs)
+    (λ c. let h = index-now (c .before .before .before .before .before .before .before .before .before .before .before .before .before .before .before .before .before .before .before .before .before .before .before .before .before .before .before .before .before .before .before .before .before .before .before .before .before .before .before .before .before .before .before) .long in search needs)
+    (λ c. search needs)
+    (λ c. search needs)
+    (λ c. let h = whole-ticket (c .before .before .before .before .before .before .before .before .before .before .before .before .before .before .before .before .before .before .before .before .before .before .before .before .before .before .before .before .before .before .before .before .before .before .before .before .before .before .before .before .before .before .before) in search needs)
+    put-txid-requires
+    (λ c. let h = fits (c .before .before .before .before .before .before .before .before .before .before .before .before) .first in search needs)
+    (λ c. fits (c .before .before .before .before .before .before .before .before .before .before .before .before) .first)
+    (λ c κs. fits (c .before .before .before .before .before .before .before .before .before .before .before .before .before) .firstRoom)
+    (λ c κs. first-fits c)
+    (λ c. let h = fits (c .before .before .before .before .before .before .before .before .before .before .before .before .before .before .before) .first in search needs)
+    (λ c. fits (c .before .before .before .before .before .before .before .before .before .before .before .before .before .before .before) .first)
+    (λ c. let h = fits (c .before .before .before .before .before .before .before .before .before .before .before .before .before .before .before .before) .second in search needs)
+    (λ c. fits (c .before .before .before .before .before .before .before .before .before .before .before .before .before .before .before .before) .second)
+    moved-requires-3
+    (λ c κs. second-fits c)
+    (λ c. let h = fits (c .before .before .before .before .before .before .before .before .before .before .before .before .before .before .before .before .before .before .before) .second in search needs)
+    (λ c. fits (c .before .before .before .before .before .before .before .before .before .before .before .before .before .before .before .before .before .before .before) .second)
+    put-told-requires-2
+    (λ c κs. (few-participants (told-at c), cut-fits c))
+    (λ c κs. let t = c .before .before .before .before .before .before in (few-participants t, uncut-whole t (c .before .before .before .before .before .if4 .taken)))
+    (λ c. let h = count-step (c .before .before) in omega arith)
+    (λ c. let h = count-step (c .before .before) in let few = few-reports (c .before .before) in omega arith)
+    (λ c. let h = ok (c .before .before .before) .rows in omega arith)
+    (λ c κs. let j = c .before .before .before in let h = has-room j .answer in let e = long-answers (top (left-f j)) in omega arith)
+    (λ c. let h = next-fits (c .before .before .before .before .before .before .before .before .before .before .before .before .before .before .before .before .before .before .before .before .before .before .before .before .before .before .before .before .before .before .before .before .before .before .before .before .before .before .before .before .before .before .before .before .before .before .before .before .before .before .before .before .before .before .before .before .before .before .before .before .before .before .before .before .before .before .before .before .before .before .before .before) in omega arith)
+    (λ c. let h = has-room (c .before .before .before .before .before .before) .ticket in omega arith)
+    loop-again
     (λ c. long-answers (c .before .before))
     (λ c. long-reports (c .before .before))
     (λ c. ended _ (tickets (c .before .before)) (answers₀ (c .before .before)) (reports₀ (c .before .before)) (c .before .before .loop .inv .going) (none-more c)))

@@ -1,0 +1,214 @@
+-- Chains of rows: one more row, and what a search along a chain finds. Assumes nothing.
+use mathlib.Core.Path.{_≡_, refl, sym, _∙_, ap, ap₂, subst₂}
+use mathlib.Core.Bool.{Bool, true, false, cond}
+use mathlib.Core.List.{List}
+use mathlib.Core.Logic.{⊎-elim}
+use Prim.Native.Nat.{ℕ, zero, suc, _+_, _*_, _≤_, _<_}
+use native.Mathlib.Nat.{not-suc-le-zero}
+use native.Mathlib.Numerals.{add-one}
+use native.Mathlib.Omega.{arith}
+use borrow.Author.Tests.{eqb-true, eq-eqb, ne-eqb}
+use lib.Dec.{eqb}
+use lib.ListN.{length, getD, set, replicate, getD-replicate}
+use lib.Seq.{getD-set-same, getD-set-other}
+use Rattle.fields.specs.Number.{part}
+use Rattle.fields.specs.Text.{same}
+use Rattle.fields.specs.Search.{foundOr, firstTo}
+use Rattle.fields.specs.Rows.{firstRow, Indexed}
+use Rattle.fields.specs.declared.search.Found.{Found}
+use Rattle.fields.specs.declared.search.Found.the-variants.{At, Nothing}
+use Rattle.fields.proofs.Same.{same-true, same-refl}
+use Rattle.rules.proofs.Same.{same-or-not}
+use Rattle.index.specs.Chains.{buckets, lastTo, lastFound, Chained, Distinct, Searchable}
+
+never : {A : Type 0} → _≡_ {A = Bool} true false → A
+never e = let z : _≡_ {A = ℕ} 0 1 = cc in absurd (omega arith)
+
+-- the last that passes
+pub last-few : (test : ℕ → Bool) (n : ℕ) → lastTo test n ≤ n
+last-few test zero = omega arith
+last-few test (suc n) = go (test n) (last-few test n)
+  where
+    go : (b : Bool) → lastTo test n ≤ n → cond b (suc n) (lastTo test n) ≤ suc n
+    go true h = omega arith
+    go false h = omega arith
+
+pub last-passes : (test : ℕ → Bool) (n i : ℕ) → lastTo test n ≡ suc i → test i ≡ true
+last-passes test zero i e = absurd (omega arith)
+last-passes test (suc n) i e = go (test n) refl (last-passes test n i)
+  where
+    go : (b : Bool) → test n ≡ b → (lastTo test n ≡ suc i → test i ≡ true) → test i ≡ true
+    go true t on = let e′ : suc n ≡ suc i = rw t at e in let q : n ≡ i = omega arith in ap test (sym q) ∙ t
+    go false t on = on (rw t at e)
+
+pub last-same : (f g : ℕ → Bool) (n : ℕ) → ((i : ℕ) → i < n → f i ≡ g i) → lastTo f n ≡ lastTo g n
+last-same f g zero h = refl
+last-same f g (suc n) h = simp (last-same f g n (λ i l. h i (omega arith)), h n (omega arith))
+
+-- what passes g passes f: the last of g is not behind the last of f
+pub last-told : (f g : ℕ → Bool) (n : ℕ) → ((i : ℕ) → i < n → g i ≡ true → f i ≡ true) → lastTo g n ≡ lastTo g (lastTo f n)
+last-told f g zero tells = refl
+last-told f g (suc n) tells = go (f n) refl (g n) refl (last-told f g n (λ i l. tells i (omega arith)))
+  where
+    go : (b : Bool) → f n ≡ b → (c : Bool) → g n ≡ c → lastTo g n ≡ lastTo g (lastTo f n)
+        → lastTo g (suc n) ≡ lastTo g (cond (f n) (suc n) (lastTo f n))
+    go true p c q on = rw p
+    go false p true q on = never (sym (tells n (omega arith) q) ∙ p)
+    go false p false q on = rw (p, q) on
+
+-- where no two pass, the last is the first
+first-none : (test : ℕ → Bool) (n : ℕ) → ((i : ℕ) → i < n → test i ≡ false) → firstTo test n ≡ Nothing
+first-none test zero h = refl
+first-none test (suc n) h = simp (first-none test n (λ i l. h i (omega arith)), h n (omega arith))
+
+found-already : (f : Found) (n : ℕ) → foundOr f n false ≡ f
+found-already (At i) n = refl
+found-already Nothing n = refl
+
+first-last : (test : ℕ → Bool) (n : ℕ) → ((i j : ℕ) → i < j → j < n → test i ≡ true → test j ≡ false) → firstTo test n ≡ lastFound (lastTo test n)
+first-last test zero alone = refl
+first-last test (suc n) alone = go (test n) refl (first-last test n (λ i j l k. alone i j l (omega arith)))
+  where
+    none : test n ≡ true → (i : ℕ) → i < n → (b : Bool) → test i ≡ b → test i ≡ false
+    none t i l true e = never (sym t ∙ alone i n l (omega arith) e)
+    none t i l false e = e
+
+    go : (b : Bool) → test n ≡ b → firstTo test n ≡ lastFound (lastTo test n)
+        → foundOr (firstTo test n) n (test n) ≡ lastFound (cond (test n) (suc n) (lastTo test n))
+    go true t on = simp (t, first-none test n (λ i l. none t i l (test i) refl))
+    go false t on = rw t (found-already (firstTo test n) n ∙ on)
+
+-- no row is chained at first, and then one more
+pub none-chained : (bucketOf : ℕ → ℕ) (links : List ℕ) → Chained bucketOf 0 (replicate buckets 0) links
+none-chained bucketOf links =
+    record { head = λ h l. getD-replicate buckets h 0 0 l; link = λ i l. absurd (not-suc-le-zero l) }
+
+pub more-chained : {bucketOf : ℕ → ℕ} {n : ℕ} {heads links : List ℕ} → Chained bucketOf n heads links → length heads ≡ buckets → n < length links
+    → bucketOf n < buckets → Chained bucketOf (n + 1) (set heads (bucketOf n) (n + 1)) (set links n (getD heads (bucketOf n) 0))
+more-chained {bucketOf} {n} {heads} {links} c headed linked inside =
+    record {
+      head = λ h l. rw (add-one n) (⊎-elim (here h) (elsewhere h l) (same-or-not (bucketOf n) h));
+      link = λ i l. ⊎-elim (own i) (before i l) (same-or-not i n);
+    }
+  where
+    here : (h : ℕ) → bucketOf n ≡ h → getD (set heads (bucketOf n) (suc n)) h 0 ≡ cond (eqb (bucketOf n) h) (suc n) (lastTo (λ j. eqb (bucketOf j) h) n)
+    here h e = rw (← e) (getD-set-same heads (bucketOf n) (suc n) 0 (rw headed inside) ∙ simp (eq-eqb (bucketOf n) (bucketOf n) refl))
+
+    elsewhere : (h : ℕ) → h < buckets → (bucketOf n ≡ h → ⊥)
+        → getD (set heads (bucketOf n) (suc n)) h 0 ≡ cond (eqb (bucketOf n) h) (suc n) (lastTo (λ j. eqb (bucketOf j) h) n)
+    elsewhere h l other =
+        getD-set-other heads (bucketOf n) h (suc n) 0 (λ e. other (sym e)) ∙ c .head h l ∙ simp (ne-eqb (bucketOf n) h other)
+
+    own : (i : ℕ) → i ≡ n → getD (set links n (getD heads (bucketOf n) 0)) i 0 ≡ lastTo (λ j. eqb (bucketOf j) (bucketOf i)) i
+    own i e = rw e (getD-set-same links n (getD heads (bucketOf n) 0) 0 linked ∙ c .head (bucketOf n) inside)
+
+    before : (i : ℕ) → i < n + 1 → (i ≡ n → ⊥) → getD (set links n (getD heads (bucketOf n) 0)) i 0 ≡ lastTo (λ j. eqb (bucketOf j) (bucketOf i)) i
+    before i l other = getD-set-other links n i (getD heads (bucketOf n) 0) 0 other ∙ c .link i (omega arith)
+
+-- as the code leaves heads and links
+pub enchained : {bucketOf : ℕ → ℕ} {n b : ℕ} {heads links heads′ links′ : List ℕ} → Chained bucketOf n heads links → length heads ≡ buckets
+    → n < length links → b ≡ bucketOf n → b < buckets → heads′ ≡ set heads b (n + 1) → links′ ≡ set links n (getD heads b 0)
+    → Chained bucketOf (n + 1) heads′ links′
+enchained {bucketOf} {n} {b} {heads} {links} c headed linked is inside new-heads new-links =
+    subst₂ (Chained bucketOf (n + 1)) (sym (new-heads ∙ ap (λ (x : ℕ). set heads x (n + 1)) is))
+    (sym (new-links ∙ ap (λ (x : ℕ). set links n (getD heads x 0)) is)) (more-chained c headed linked (rw (← is) inside))
+
+-- the same buckets make the same chains
+pub same-chained : {f g : ℕ → ℕ} {n : ℕ} {heads links : List ℕ} → Chained f n heads links → ((i : ℕ) → i < n → f i ≡ g i) → Chained g n heads links
+same-chained {f} {g} {n} c e =
+    record {
+      head = λ h l. c .head h l ∙ last-same (λ j. eqb (f j) h) (λ j. eqb (g j) h) n (λ j k. ap (λ (b : ℕ). eqb b h) (e j k));
+      link = λ i l.
+          c .link i l
+          ∙ ap (λ (b : ℕ). lastTo (λ j. eqb (f j) b) i) (e i l)
+          ∙ last-same (λ j. eqb (f j) (g i)) (λ j. eqb (g j) (g i)) i (λ j k. ap (λ (b : ℕ). eqb b (g i)) (e j (omega arith)));
+    }
+
+-- rows that hold the fields of a table are distinct where the fields are
+pub distinct-rows : {width n : ℕ} {field : ℕ → List ℕ} {rows : List ℕ} → Indexed width field n rows
+    → ((i j : ℕ) → i < j → j < n → same (field i) (field j) ≡ false) → Distinct width n rows
+distinct-rows h d = record { differ = λ i j l k. rw (h .row i (omega arith), h .row j k) (d i j l k) }
+
+-- buckets by the bytes of rows: a row that holds a field is in the field's bucket
+pub searchable : (bucketOf : List ℕ → ℕ) {width n : ℕ} {heads links rows : List ℕ} → Chained (λ i. bucketOf (part width (width * i) rows)) n heads links
+    → length heads ≡ buckets → n ≤ length links → width * n ≤ length rows → Distinct width n rows → (field : List ℕ) (b : ℕ) → b ≡ bucketOf field → b < buckets
+    → Searchable width n b heads links rows field
+searchable bucketOf {width} {n} {heads} {links} {rows} c headed linked long distinct field b is inside =
+    record {
+      bucketOf = λ i. bucketOf (part width (width * i) rows);
+      chained = c;
+      inside = inside;
+      headed = headed;
+      linked = linked;
+      long = long;
+      distinct = distinct;
+      tells = λ i l e. ap bucketOf (same-true (part width (width * i) rows) field e) ∙ sym is;
+    }
+
+-- a search along a chain: what is left of it below a row of the bucket
+module _ (width n bucket : ℕ) (heads links rows field : List ℕ) (s : Searchable width n bucket heads links rows field) where
+  abbrev pub holds : ℕ → Bool
+  holds i = same (part width (width * i) rows) field
+
+  abbrev inBucket : ℕ → Bool
+  inBucket i = eqb (s .bucketOf i) bucket
+
+  in-bucket : (i : ℕ) → i < n → holds i ≡ true → inBucket i ≡ true
+  in-bucket i l e = eq-eqb (s .bucketOf i) bucket (s .tells i l e)
+
+  pub record LeftBelow (at : ℕ) : Type 0 where
+    pub few : at ≤ n
+    pub left : lastTo holds n ≡ lastTo holds at
+    pub own : (i : ℕ) → at ≡ suc i → s .bucketOf i ≡ bucket
+
+  -- at the head, and at the link of a row that does not hold the field
+  pub left-at-head : LeftBelow (getD heads bucket 0)
+  left-at-head =
+      let e = s .chained .head bucket (s .inside) in
+      record {
+        few = let l = last-few inBucket n in omega arith;
+        left = last-told inBucket holds n in-bucket ∙ ap (lastTo holds) (sym e);
+        own = λ i q. eqb-true (s .bucketOf i) bucket (last-passes inBucket n i (sym e ∙ q));
+      }
+
+  -- the link of a row leads to one before it
+  link-is : (i : ℕ) → LeftBelow (i + 1) → getD links i 0 ≡ lastTo inBucket i
+  link-is i w =
+      s .chained .link i (let l = w .few in omega arith) ∙ ap (λ (b : ℕ). lastTo (λ j. eqb (s .bucketOf j) b) i) (w .own i (add-one i))
+
+  pub link-falls : (i : ℕ) → LeftBelow (i + 1) → getD links i 0 ≤ i
+  link-falls i w = let e = link-is i w in let l = last-few inBucket i in omega arith
+
+  pub left-at-link : (i : ℕ) → LeftBelow (i + 1) → holds i ≡ false → LeftBelow (getD links i 0)
+  left-at-link i w other =
+      let below : i < n = let l = w .few in omega arith in
+      let e = link-is i w in
+      record {
+        few = let l = last-few inBucket i in omega arith;
+        left =
+            w .left
+            ∙ ap (lastTo holds) (add-one i)
+            ∙ ap (λ (b : Bool). cond b (suc i) (lastTo holds i)) other
+            ∙ last-told inBucket holds i (λ j l. in-bucket j (omega arith))
+            ∙ ap (lastTo holds) (sym e);
+        own = λ j q. eqb-true (s .bucketOf j) bucket (last-passes inBucket i j (sym e ∙ q));
+      }
+
+  -- no two rows hold the field
+  alone : (i j : ℕ) → i < j → j < n → holds i ≡ true → holds j ≡ false
+  alone i j l k e = go (holds j) refl
+    where
+      go : (b : Bool) → holds j ≡ b → b ≡ false
+      go true q =
+          never
+          (sym (ap₂ same (same-true (part width (width * i) rows) field e) (same-true (part width (width * j) rows) field q) ∙ same-refl field)
+          ∙ s .distinct .differ i j l k)
+      go false q = refl
+
+  pub found-there : (i : ℕ) → LeftBelow (i + 1) → holds i ≡ true → firstRow width n field rows ≡ At i
+  found-there i w e =
+      first-last holds n alone
+      ∙ ap lastFound (w .left ∙ ap (lastTo holds) (add-one i) ∙ ap (λ (b : Bool). cond b (suc i) (lastTo holds i)) e)
+
+  pub found-nowhere : LeftBelow 0 → firstRow width n field rows ≡ Nothing
+  found-nowhere w = first-last holds n alone ∙ ap lastFound (w .left)
