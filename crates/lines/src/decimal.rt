@@ -1,10 +1,41 @@
 // A number in decimal, written at a place.
+ghost use mathlib.Core.Path.{_≡_};
 ghost use Prim.Native.Nat.{_+_, _≤_};
 ghost use lib.ListN.{length};
 ghost use Rattle.lines.specs.Written.{Written};
 ghost use Rattle.lines.specs.Lines.{shown};
 
-// All digits but the last are those of n / 10, so it calls itself at most 19 times.
+// How many digits a number has.
+fn digits(n: u64) -> usize
+    ensures { λ r. ⌜ r ≡ length (shown n) ⌝ }
+{
+    let mut left = n;
+    let mut k = 1;
+    while 10 <= left {
+        left = left / 10;
+        k += 1;
+    }
+    k
+}
+
+// The last digit first.
+fn put_digits(text: &mut [u8], at: usize, n: u64) -> usize
+    requires { ⌜ at + length (shown n) ≤ length (now text) ⌝ }
+    ensures { λ r. ⌜ Written (now (text .entry)) (now (text .exit)) at (shown n) r ⌝ }
+{
+    let end = at + digits(n);
+    let mut left = n;
+    let mut i = end;
+    while 10 <= left {
+        i -= 1;
+        text[i] = b'0' + (left % 10) as u8;
+        left = left / 10;
+    }
+    text[at] = b'0' + left as u8;
+    end
+}
+
+// Most numbers of a line have one digit. Without the loops this is short enough for the compiler to put it into its callers.
 pub fn put_decimal(text: &mut [u8], at: usize, n: u64) -> usize
     requires { ⌜ at + length (shown n) ≤ length (now text) ⌝ }
     ensures { λ r. ⌜ Written (now (text .entry)) (now (text .exit)) at (shown n) r ⌝ }
@@ -13,7 +44,5 @@ pub fn put_decimal(text: &mut [u8], at: usize, n: u64) -> usize
         text[at] = b'0' + n as u8;
         return at + 1;
     }
-    let end = put_decimal(text, at, n / 10);
-    text[end] = b'0' + (n % 10) as u8;
-    end + 1
+    put_digits(text, at, n)
 }
