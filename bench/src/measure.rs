@@ -89,40 +89,40 @@ fn between(one: &[f64], other: &[f64], with: impl Fn(f64, f64) -> f64) -> Vec<f6
     one.iter().zip(other).map(|(&one, &other)| with(one, other)).collect()
 }
 
-/// A figure with the spread of the rounds around it.
+/// A figure of each round. What is compared lies within a round, since the machine's speed changes from one to another.
 pub struct Figure {
-    pub median: f64,
     rounds: Vec<f64>,
 }
 
 impl Figure {
-    /// The full file's median without the base's.
+    /// The full file's time without the base's.
     pub fn of_steps(times: &Times, share: f64) -> Self {
-        let rounds = between(&times.full, &times.base, |full, base| (full - base) / share);
-        Figure { median: (median(&times.full) - median(&times.base)) / share, rounds }
+        Figure { rounds: between(&times.full, &times.base, |full, base| (full - base) / share) }
     }
 
     pub fn of_base(times: &Times, share: f64) -> Self {
-        let rounds: Vec<f64> = times.base.iter().map(|base| base / share).collect();
-        Figure { median: median(&rounds), rounds }
+        Figure { rounds: times.base.iter().map(|base| base / share).collect() }
     }
 
     pub fn of_full(times: &Times) -> Self {
-        Figure { median: median(&times.full), rounds: times.full.clone() }
+        Figure { rounds: times.full.clone() }
     }
 
-    /// The ratio of the medians, with the ratios of the rounds.
     pub fn ratio(&self, other: &Figure) -> Self {
-        Figure { median: self.median / other.median, rounds: between(&self.rounds, &other.rounds, |one, other| one / other) }
+        Figure { rounds: between(&self.rounds, &other.rounds, |one, other| one / other) }
+    }
+
+    pub fn median(&self) -> f64 {
+        median(&self.rounds)
     }
 
     fn text(&self, decimals: usize) -> String {
         let [p10, p90] = [10, 90].map(|percent| percentile(&self.rounds, percent));
-        format!("{:>8.decimals$} {:>17}", self.median, format!("{p10:.decimals$} to {p90:.decimals$}"))
+        format!("{:>8.decimals$} {:>17}", self.median(), format!("{p10:.decimals$} to {p90:.decimals$}"))
     }
 }
 
-/// The cases' numbers, by the ratio of their medians.
+/// The cases' numbers, by their ratio.
 pub fn by_ratio(all: &[Pair]) -> Vec<usize> {
     let ratios: Vec<f64> = all.iter().map(steps_ratio).collect();
     let mut numbers: Vec<usize> = (0..all.len()).collect();
@@ -131,7 +131,7 @@ pub fn by_ratio(all: &[Pair]) -> Vec<usize> {
 }
 
 pub fn steps_ratio([proved, peer]: &Pair) -> f64 {
-    Figure::of_steps(proved, 1.0).median / Figure::of_steps(peer, 1.0).median
+    Figure::of_steps(proved, 1.0).ratio(&Figure::of_steps(peer, 1.0)).median()
 }
 
 pub fn print_heading(what: &str) {
