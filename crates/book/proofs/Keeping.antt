@@ -1,4 +1,5 @@
--- What the core's loop over tickets keeps: the promise so far, the mark, the index; and the index after a decision. Assumes nothing.
+-- What the core's loop over tickets keeps: the promise so far, the mark, the index, the sum of all cover; and the index after a decision.
+-- Assumes nothing.
 use mathlib.Core.Path.{_≡_, sym, _∙_, ap, subst, subst₂}
 use mathlib.Core.Bool.{Bool, cond}
 use mathlib.Core.List.{List}

@@ -5,6 +5,7 @@
 --     readDecimal  digits read as one number, the last counting ones
 --     remainder    what the number that characters spell leaves on division by 97
 --     moved        the first four characters put at the end
+--     ibanShape    all that is asked of an IBAN but its number
 -- Assumes nothing.
 use Prim.Native.Nat.{ℕ, _+_, _-_, _*_, _/_, _%_, _^_}
 use Prim.Native.Char.{code}
@@ -36,13 +37,15 @@ remainder s = readDecimal (digits s) % 97
 abbrev pub moved : List ℕ → List ℕ
 moved s = drop 4 s ++ take 4 s
 
--- 01: two A-Z, two digits, 1 to 30 letters or digits (5 to 34 in all). ISO 13616: move the first four to the end, read
--- letters of either case as 10 to 35; the number leaves 1 on division by 97
-unfoldable pub isIban : List ℕ → Bool
-isIban s =
+-- 01: two A-Z, two digits, 1 to 30 letters or digits (5 to 34 in all)
+abbrev pub ibanShape : List ℕ → Bool
+ibanShape s =
     leb 5 (length s)
     && leb (length s) 34
     && allIn Capital (take 2 s)
     && allIn Digit (take 2 (drop 2 s))
     && allIn LetterOrDigit (drop 4 s)
-    && eqb (remainder (moved s)) 1
+
+-- ISO 13616: move the first four to the end, read letters of either case as 10 to 35; the number leaves 1 on division by 97
+unfoldable pub isIban : List ℕ → Bool
+isIban s = ibanShape s && eqb (remainder (moved s)) 1

@@ -8,10 +8,10 @@ use borrow.Author.Tests.{le-leb, lt-leb}
 use lib.Dec.{leb, eqb}
 use lib.ListN.{length, getD}
 use Rattle.fields.specs.Text.{blank, unpadded}
+use Rattle.codes.specs.Iban.{ibanShape}
 use Rattle.codes.specs.Class.{isIn, allIn}
 use Rattle.codes.specs.Txid.{isTxid}
 use Rattle.codes.specs.declared.classes.Class.the-variants.{Capital, Digit, LetterOrDigit, Txid}
-use Rattle.padded.specs.Shape.{ibanShape}
 use Rattle.padded.proofs.Unpadding.{value-within, value-short, blank-first, zero-inside, zero-first, used-first}
 
 -- the first byte is used, and all before the padding are of the class

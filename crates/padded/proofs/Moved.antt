@@ -9,12 +9,11 @@ use lib.ListN.{length, take, drop}
 use Rattle.fields.specs.Text.{unpadded}
 use Rattle.fields.proofs.Tests.{and-left, and-right}
 use Rattle.codes.specs.Class.{allIn}
-use Rattle.codes.specs.Iban.{moved, remainder}
+use Rattle.codes.specs.Iban.{moved, remainder, ibanShape}
 use Rattle.codes.specs.Carry.{behind}
 use Rattle.codes.specs.declared.classes.Class.the-variants.{Capital, Digit, LetterOrDigit}
 use Rattle.codes.proofs.All.{all-first, all-spelt}
 use Rattle.codes.proofs.Carry.{four-behind}
-use Rattle.padded.specs.Shape.{ibanShape}
 use Rattle.padded.specs.Spelling.{spelt, speltMoved}
 use Rattle.padded.proofs.Fields.{four-before, shape-not-blank}
 use Rattle.padded.proofs.Spelt.{spelt-behind, spelt-unpadded}

@@ -1,4 +1,3 @@
 pub mod Padding
-pub mod Shape
 pub mod Spelling
 pub mod Carried

@@ -8,10 +8,9 @@ use codes::classes;
 use codes::classes::Class;
 ghost use mathlib.Core.Path.{_≡_};
 ghost use lib.ListN.{length};
-ghost use Rattle.codes.specs.Iban.{isIban};
+ghost use Rattle.codes.specs.Iban.{ibanShape, isIban};
 ghost use Rattle.codes.specs.Txid.{isTxid};
 ghost use Rattle.fields.specs.Text.{unpadded};
-ghost use Rattle.padded.specs.Shape.{ibanShape};
 
 pub fn txid_ok(s: &[u8]) -> bool
     requires { ⌜ length (now s) ≡ 35 ⌝ }

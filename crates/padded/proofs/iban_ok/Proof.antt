@@ -7,8 +7,7 @@ use borrow.Author.Needs.{needs}
 use borrow.Author.Tests.{not-true, not-false}
 use lib.Dec.{eqb}
 use Rattle.fields.specs.Text.{unpadded}
-use Rattle.codes.specs.Iban.{isIban, moved, remainder}
-use Rattle.padded.specs.Shape.{ibanShape}
+use Rattle.codes.specs.Iban.{ibanShape, isIban, moved, remainder}
 use Rattle.padded.proofs.Moved.{iban-number}
 use Rattle.padded.proofs.iban_ok.Statement.{statement}
 use Rattle.padded.proofs.iban_ok.Tie as tie
