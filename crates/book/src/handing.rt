@@ -1,5 +1,4 @@
 // Handing in one ticket of any bytes and length, with a report buffer of any bytes and length lent for it.
-use super::core;
 use judging::refusal;
 use report::answer;
 use rules::Book;

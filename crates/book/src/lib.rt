@@ -1,4 +1,3 @@
-// The book: opening one from a day file, the core that keeps one over many tickets, and handing in one ticket.
-pub mod core;
+// The book: opening one from a day file, and handing in one ticket.
 pub mod handing;
 pub mod opening;

@@ -1,5 +1,4 @@
 // Tickets taken by the core, as many as its buffers here have room for, and their lines.
-use book::core;
 use rules::Book;
 ghost use Prim.Native.Nat.{_+_, _^_, _≤_, _<_};
 ghost use lib.ListN.{length};

@@ -1,5 +1,4 @@
 // A day's tickets through the core, for a program in another language that wants answers and reports as bytes, and for measuring.
-use book::core;
 use book::opening;
 ghost use Rattle.steps.specs.Stepped.{Stepped};
 
