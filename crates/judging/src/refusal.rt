@@ -1,5 +1,5 @@
 // Refusals 6 and 11 to 22, each by an enum, and the first of 12 to 22 that applies.
-use orders::terms;
+use super::terms;
 use rules::Cover;
 use rules::finding::Finding;
 use rules::refusal::Backing;

@@ -1,5 +1,5 @@
 // What each kind of ticket asks for.
-use super::status;
+use orders::status;
 use rules::Order;
 use rules::Status;
 use rules::terms::Flow;

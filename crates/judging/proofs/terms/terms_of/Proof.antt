@@ -1,7 +1,7 @@
--- `orders::terms::terms_of` meets its contract: in each arm the kind is the one named. Assumes nothing.
+-- `judging::terms::terms_of` meets its contract: in each arm the kind is the one named. Assumes nothing.
 use borrow.Author.Needs.{needs}
-use Rattle.orders.proofs.terms.terms_of.Statement.{statement}
-use Rattle.orders.proofs.terms.terms_of.Tie as tie
+use Rattle.judging.proofs.terms.terms_of.Statement.{statement}
+use Rattle.judging.proofs.terms.terms_of.Tie as tie
 
 pub terms-of-spec : {M : Type 1} → statement M
 terms-of-spec =
