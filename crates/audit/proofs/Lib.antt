@@ -16,9 +16,11 @@ pub mod Answers
 pub mod Recalls
 pub mod Inquiries
 pub mod Opening
+pub mod Starting
 pub mod Running
 pub mod Balance
 pub mod Parties
+pub mod Carrying
 pub mod Theorem
 pub mod Corollaries
 pub mod Worked
