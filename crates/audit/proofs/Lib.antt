@@ -22,5 +22,7 @@ pub mod Balance
 pub mod Parties
 pub mod Carrying
 pub mod Theorem
+pub mod Nothing
+pub mod Fresh
 pub mod Corollaries
 pub mod Worked
