@@ -26,6 +26,6 @@ module _ {h : History} {b : Book} (c : Carried h b) where
 
   pub carried-one : (t : List ℕ) → Carried (stepEvent t (stepOf b t) ▹ h) (stepOf b t .book)
   carried-one t =
-      let buffer = replicate leastBuffer 0 in
+      let buffer : List ℕ = replicate leastBuffer 0 in
       subst (λ (s : Step). Carried (stepEvent t s ▹ h) (s .book))
       (lent-handed b t buffer (let l = length-replicate {A = ℕ} leastBuffer 0 in omega arith)) (carried-step c t buffer)
