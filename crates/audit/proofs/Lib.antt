@@ -4,6 +4,7 @@ pub mod Pieces
 pub mod Days
 pub mod Mistakes
 pub mod Wrong
+pub mod Continued
 pub mod Agreeing
 pub mod Fates
 pub mod Events

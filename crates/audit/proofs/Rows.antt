@@ -5,7 +5,7 @@
 --     AllFalse     of each, just these clauses fail, and the claim is false
 --     AllTrue      of each, no clause fails, and the claim holds
 -- Assumes nothing.
-use Prim.Native.Nat.{ℕ, zero, suc}
+use Prim.Native.Nat.{ℕ, zero, suc, _-_}
 use Prim.Native.String.{String}
 use mathlib.Core.Path.{_≡_}
 use mathlib.Core.Bool.{Bool, true, _&&_, not, cond}
@@ -13,16 +13,18 @@ use mathlib.Core.List.{List, [], _∷_, _++_, map}
 use borrow.Author.Tests.{not-true}
 use lib.ListN.{length, replicate}
 use Rattle.codes.specs.Answer.{answer}
-use Rattle.fields.specs.Text.{text, same}
+use Rattle.fields.specs.Text.{text, same, padded}
 use Rattle.fields.proofs.Tests.{and-left, and-right}
 use Rattle.fields.proofs.Same.{same-true}
 use Rattle.report.specs.declared.Report.{Report}
+use Rattle.dayfile.specs.Limits.{mostParticipants}
 use Rattle.dayfile.specs.declared.roster.Roster.{Roster}
-use Rattle.rules.specs.Book.{coverOf, unusedOrder}
+use Rattle.rules.specs.Book.{mostOrders, noCover, coverOf, unusedOrder}
 use Rattle.rules.specs.Status.{withStatus}
 use Rattle.rules.specs.Refusal.{leastBuffer}
 use Rattle.rules.specs.Inputs.{Input, bookFrom}
 use Rattle.rules.specs.declared.Status.{Status}
+use Rattle.rules.specs.declared.Order.{Order}
 use Rattle.rules.specs.declared.Cover.{Cover}
 use Rattle.rules.specs.declared.Book.{Book}
 use Rattle.audit.specs.History.{Event, History, from, _▹_, sumOver}
@@ -181,6 +183,22 @@ report to code order amount = record { to = to; code = code; order = order; amou
 -- cover: available, reserved, held
 abbrev pub cover : ℕ → ℕ → ℕ → Cover
 cover available reserved held = record { available = available; reserved = reserved; held = held; debit = 0 }
+
+-- an order: TxId, payer, payee, amount, time, status
+abbrev pub order : List ℕ → ℕ → ℕ → ℕ → ℕ → Status → Order
+order txid payer payee amount time status =
+    record { txid = padded 35 txid; payer = payer; payee = payee; amount = amount; time = time; status = status }
+
+-- a book to start from: clock, participants, covers and orders
+abbrev pub bookAt : ℕ → Roster → List Cover → List Order → Book
+bookAt clock ps cs os =
+    record {
+      clock = clock;
+      covers = cs ++ replicate (mostParticipants - length cs) noCover;
+      orders = os ++ replicate (mostOrders - length os) unusedOrder;
+      count = length os;
+      roster = ps;
+    }
 
 -- a book with these covers, and orders of these statuses
 abbrev pub bookWith : Roster → List Cover → List Status → Book
