@@ -61,13 +61,13 @@ append-none [] ts q = (refl, q)
 append-none (r ∷ rs) ts q = let z : _≡_ {A = ℕ} 0 1 = cc in absurd (omega arith)
 
 pub no-tickets : (i : ℕ) (h : History) → allEndings i h ≡ [] → endingTickets i h ≡ 0
-no-tickets i (from b) q = ap (λ (l : List Report). cond {A = ℕ} (isNone l) 0 1) q
+no-tickets i (from b) q = simp q
 no-tickets i (e ▹ h) q =
     let both = append-none (endingsIn i (e .reports)) (allEndings i h) q in
-    let this : ownEndings i e h ≡ 0 - cond (asksAbout i e h) 1 0 = ap (λ (l : List Report). length l - cond (asksAbout i e h) 1 0) (both .0) in
-    let count = no-endings-count (asksAbout i e h) in
+    let none : length (endingsIn i (e .reports)) ≡ 0 = ap (λ (l : List Report). length l) (both .0) in
+    let this : ownEndings i e h ≡ 0 = omega arith in
     let before = no-tickets i h (both .1) in
-    rw (this, count, before)
+    rw (this, before)
 
 module _ (ps : Roster) (h : History) (i : ℕ) (o o′ : Order) (e : Event) (a : OrderAgrees ps h i o) (other : opens i e h ≡ false) (s : SameOrder o o′) where
   -- how the endings of this event count

@@ -28,8 +28,7 @@ pub called-runs : {b end : Book} {inputs : List Input} {seen : List Seen} → Ca
 called-runs done = (refl, refl)
 called-runs (then {b} {end} {x} {r} {after} {inputs} h c) =
     let rest = called-runs c in
-    let is : handedIn r after ≡ outcomeOf b x = h .outcome in
-    (
+    let is : handedIn r after ≡ outcomeOf b x = h .outcome in (
       ap₂ (λ (s : Seen) (ss : List Seen). s ∷ ss) (ap (seen x) is) (rest .0 ∙ ap (λ (o : Outcome). seenFrom (o .book) inputs) is),
       rest .1 ∙ ap (λ (o : Outcome). bookFrom (o .book) inputs) is,
     )
