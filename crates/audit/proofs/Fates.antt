@@ -16,7 +16,7 @@ use Rattle.rules.specs.Book.{isBank}
 use Rattle.rules.specs.Status.{isWaiting}
 use Rattle.rules.specs.declared.Order.{Order}
 use Rattle.audit.specs.History.{Event, History, from, _▹_}
-use Rattle.audit.specs.Orders.{opens, ofOrder, isNone, asksAbout, ownEndings, endingTickets, allEndings, endCode}
+use Rattle.audit.specs.Orders.{opens, ofOrder, startEndings, isNone, asksAbout, ownEndings, endingTickets, allEndings, endCode}
 use Rattle.audit.specs.Claim.{AllCarry}
 use Rattle.audit.proofs.Agreeing.{OrderAgrees}
 
@@ -61,7 +61,7 @@ append-none [] ts q = (refl, q)
 append-none (r ∷ rs) ts q = let z : _≡_ {A = ℕ} 0 1 = cc in absurd (omega arith)
 
 pub no-tickets : (i : ℕ) (h : History) → allEndings i h ≡ [] → endingTickets i h ≡ 0
-no-tickets i (from b) q = simp q
+no-tickets i (from b) q = let none : cond {A = ℕ} (isNone (startEndings i b)) 0 1 ≡ 0 = rw q in omega arith
 no-tickets i (e ▹ h) q =
     let both = append-none (endingsIn i (e .reports)) (allEndings i h) q in
     let none : length (endingsIn i (e .reports)) ≡ 0 = ap (λ (l : List Report). length l) (both .0) in
