@@ -11,6 +11,7 @@ use Rattle.ticket.specs.declared.Fields.{Fields}
 use Rattle.report.specs.Ending.{endingsIn}
 use Rattle.report.specs.declared.Report.{Report}
 use Rattle.report.proofs.Ending.{ending-other-order, endings-without}
+use Rattle.dayfile.specs.declared.roster.Roster.{Roster}
 use Rattle.rules.specs.Book.{noOrder, orderOf, coverOf}
 use Rattle.rules.specs.Status.{withStatus}
 use Rattle.rules.specs.Cover.{Enough, moved, transferred}
@@ -23,7 +24,7 @@ use Rattle.rules.specs.declared.Book.{Book}
 use Rattle.rules.proofs.Same.{same-or-not}
 use Rattle.rules.proofs.Moving.{gain, loss, onlyFor, Fitted, fitted, transfer-fitted, transfer-whole, transfer-leaves}
 use Rattle.rules.proofs.Accepting as accepting
-use Rattle.audit.specs.History.{History, size}
+use Rattle.audit.specs.History.{History}
 use Rattle.audit.specs.Sums.{goesOut, comesIn}
 use Rattle.audit.specs.Orders.{isOrder, asksAbout}
 use Rattle.audit.proofs.Fates.{SameOrder}
@@ -45,15 +46,15 @@ others-quiet i j (r ∷ rs) a differs =
 pub status-same : (o : Order) (s : Status) → SameOrder o (withStatus o s)
 status-same o s = record { amount = refl; time = refl; txid = refl; payer = refl; payee = refl }
 
-module _ {file : List ℕ} {h : History} {w : Book} {t : List ℕ} {f : Fields} {rs₀ : List Report} (k : Taken file h w t f rs₀) (rs : List Report) where
+module _ {ps : Roster} {h : History} {w : Book} {t : List ℕ} {f : Fields} {rs₀ : List Report} (k : Taken ps h w t f rs₀) (rs : List Report) where
   pub order-held : namesOrder (termsOf (f .kind) .subject) ≡ true → accepting.orderNumber w f t < w .count
   order-held named = accepting.order-found w f t (k .passed .r16) named .below
 
   pub about-own : (o′ : Order) (cs : List Cover) → namesOrder (termsOf (f .kind) .subject) ≡ true → isOrder (takenEvent t rs₀ rs) ≡ false
       → AllAbout (accepting.orderNumber w f t) rs
       → OwnOrder (asksAbout (accepting.orderNumber w f t) (takenEvent t rs₀ rs) h) (accepting.orderNumber w f t) (accepting.theOrder w f t) o′ rs
-      → ((p : ℕ) → p < size file → OwnCover file h (takenEvent t rs₀ rs) p (coverOf (w .covers) p) (coverOf cs p))
-      → OwnStep file h (takenEvent t rs₀ rs) w
+      → ((p : ℕ) → p < ps .size → OwnCover ps h (takenEvent t rs₀ rs) p (coverOf (w .covers) p) (coverOf cs p))
+      → OwnStep ps h (takenEvent t rs₀ rs) w
       (record { clock = w .clock; covers = cs; orders = set (w .orders) (accepting.orderNumber w f t) o′; count = w .count; roster = w .roster }) rs
   about-own o′ cs named isnt about this covers =
       record {
@@ -87,11 +88,11 @@ module _ {file : List ℕ} {h : History} {w : Book} {t : List ℕ} {f : Fields} 
       → moved (u .how) (u .amount) (coverOf (transferred v (w .covers)) (u .who)) .held ≡ coverOf (transferred v (w .covers)) (u .who) .held
       → moved (u .how) (u .amount) (coverOf (transferred v (w .covers)) (u .who)) .debit ≡ coverOf (transferred v (w .covers)) (u .who) .debit
       → (p : ℕ)
-      → goesOut file p (takenEvent t rs₀ rs) h ≡ onlyFor (v .who) p (loss (v .how) (v .amount) (coverOf (w .covers) (v .who))) + onlyFor (u .who) p (loss (u .how) (u .amount) (coverOf (transferred v (w .covers)) (u .who)))
-      → comesIn file p (takenEvent t rs₀ rs) h ≡ onlyFor (v .who) p (gain (v .how) (v .amount)) + onlyFor (u .who) p (gain (u .how) (u .amount))
-      → OwnCover file h (takenEvent t rs₀ rs) p (coverOf (w .covers) p) (coverOf (transferred u (transferred v (w .covers))) p)
+      → goesOut ps p (takenEvent t rs₀ rs) h ≡ onlyFor (v .who) p (loss (v .how) (v .amount) (coverOf (w .covers) (v .who))) + onlyFor (u .who) p (loss (u .how) (u .amount) (coverOf (transferred v (w .covers)) (u .who)))
+      → comesIn ps p (takenEvent t rs₀ rs) h ≡ onlyFor (v .who) p (gain (v .how) (v .amount)) + onlyFor (u .who) p (gain (u .how) (u .amount))
+      → OwnCover ps h (takenEvent t rs₀ rs) p (coverOf (w .covers) p) (coverOf (transferred u (transferred v (w .covers))) p)
   two-covers quiet v u hv hu ev eu heldv debitv heldu debitu p out in′ =
-      cover-goes file h (takenEvent t rs₀ rs) p (coverOf (w .covers) p) (coverOf (transferred u (transferred v (w .covers))) p)
+      cover-goes ps h (takenEvent t rs₀ rs) p (coverOf (w .covers) p) (coverOf (transferred u (transferred v (w .covers))) p)
       (let a = transfer-whole fit v hv ev p in let b = transfer-whole (transfer-fitted fit v) u hu eu p in omega arith)
       (uncut k rs quiet p)
       (inr (transfer-leaves (transfer-fitted fit v) u hu (λ (c : Cover). c .held) heldu p ∙ transfer-leaves fit v hv (λ (c : Cover). c .held) heldv p))

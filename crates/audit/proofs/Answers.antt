@@ -11,6 +11,7 @@ use Rattle.ticket.specs.declared.kinds.Kind.the-variants as kind
 use Rattle.ticket.proofs.Telling.{tells-bytes}
 use Rattle.report.specs.Ending.{endingsIn}
 use Rattle.report.specs.declared.Report.{Report}
+use Rattle.dayfile.specs.declared.roster.Roster.{Roster}
 use Rattle.rules.specs.Book.{coverOf}
 use Rattle.rules.specs.Status.{isWaiting, withStatus}
 use Rattle.rules.specs.Cover.{transferred}
@@ -29,7 +30,7 @@ use Rattle.rules.proofs.Moving.{for-none}
 use Rattle.rules.proofs.Keeping.{backed}
 use Rattle.rules.proofs.Accepting.{fieldsOf}
 use Rattle.rules.proofs.Accepting as accepting
-use Rattle.audit.specs.History.{History, size}
+use Rattle.audit.specs.History.{History}
 use Rattle.audit.specs.Sums.{firstWith}
 use Rattle.audit.specs.Orders.{asksAbout}
 use Rattle.audit.specs.Claim.{AllCarry}
@@ -39,9 +40,9 @@ use Rattle.audit.proofs.Telling.{NoCuts, first-after}
 use Rattle.audit.proofs.Own.{Taken, takenEvent, OwnStepOf, kind-is, sent, sender-below}
 use Rattle.audit.proofs.About.{AllAbout, status-same, order-held, about-own, two-covers}
 
-module _ {file : List ℕ} {h : History} {w : Book} {t : List ℕ} {time n : ℕ} {rs₀ : List Report} where
+module _ {ps : Roster} {h : History} {w : Book} {t : List ℕ} {time n : ℕ} {rs₀ : List Report} where
   -- yes: the payer's report, and perhaps more
-  module _ (k : Taken file h w t (fieldsOf kind.Yes time n) rs₀) where
+  module _ (k : Taken ps h w t (fieldsOf kind.Yes time n) rs₀) where
     abbrev f : Fields
     f = fieldsOf kind.Yes time n
 
@@ -81,8 +82,8 @@ module _ {file : List ℕ} {h : History} {w : Book} {t : List ℕ} {time n : ℕ
       first-told : firstWith 2 (rs₀ ++ rs) ≡ toPayer x 2 ∷ []
       first-told = first-after 2 rs₀ rs (k .code) refl
 
-      yes-cover : (p : ℕ) → p < size file
-          → OwnCover file h (takenEvent t rs₀ rs) p (coverOf (w .covers) p)
+      yes-cover : (p : ℕ) → p < ps .size
+          → OwnCover ps h (takenEvent t rs₀ rs) p (coverOf (w .covers) p)
           (coverOf (transferred (by (o .payee) Give (o .amount)) (transferred (by (o .payer) Spend (o .amount)) (w .covers))) p)
       yes-cover p l =
           let s = k .midway .sound in
@@ -92,7 +93,7 @@ module _ {file : List ℕ} {h : History} {w : Book} {t : List ℕ} {time n : ℕ
           (rw (kind-is k, yes-flag, first-told) (let z = for-none (o .payee) p in omega arith))
           (rw (kind-is k, yes-flag, first-told, sent k refl p l, yes-party) (let z = for-none (o .payer) p in omega arith))
 
-      yes-with : OwnStep file h (takenEvent t rs₀ rs) w (applied w (decisionOf x)) rs
+      yes-with : OwnStep ps h (takenEvent t rs₀ rs) w (applied w (decisionOf x)) rs
       yes-with =
           about-own k rs (withStatus o (status.Settled mark.None)) (transferred (by (o .payee) Give (o .amount)) (transferred (by (o .payer) Spend (o .amount)) (w .covers)))
           refl (rw (kind-is k)) (refl, about) yes-order yes-cover
@@ -106,19 +107,19 @@ module _ {file : List ℕ} {h : History} {w : Book} {t : List ℕ} {time n : ℕ
         go false = refl
 
     -- the payee is told too if it is a bank
-    pub yes-own : OwnStepOf file h w t (fieldsOf kind.Yes time n) rs₀
+    pub yes-own : OwnStepOf ps h w t (fieldsOf kind.Yes time n) rs₀
     yes-own = go (x .bank)
       where
-        go : (z : Bool) → let rs = listed (cond z (Two (toPayer x 2) (toPayee x 2)) (One (toPayer x 2))) in OwnStep file h (takenEvent t rs₀ rs) w (applied w (decisionOf x)) rs
+        go : (z : Bool) → let rs = listed (cond z (Two (toPayer x 2) (toPayee x 2)) (One (toPayer x 2))) in OwnStep ps h (takenEvent t rs₀ rs) w (applied w (decisionOf x)) rs
         go true = yes-with (toPayee x 2 ∷ []) (refl, tt) (refl, refl, tt) (refl, tt) (simp (eq-eqb j j refl))
         go false = yes-with [] tt tt tt refl
 
   -- no: report 3 to payer only
-  module _ (k : Taken file h w t (fieldsOf kind.No time n) rs₀) where
+  module _ (k : Taken ps h w t (fieldsOf kind.No time n) rs₀) where
     pub no-flag : flagByte t ≡ 2
     no-flag = let b = tells-bytes t (fieldsOf kind.No time n) (k .tells) in let l = b .low in let m = b .high in omega arith
 
-    pub no-own : OwnStepOf file h w t (fieldsOf kind.No time n) rs₀
+    pub no-own : OwnStepOf ps h w t (fieldsOf kind.No time n) rs₀
     no-own =
         let f = fieldsOf kind.No time n in
         let j = accepting.orderNumber w f t in

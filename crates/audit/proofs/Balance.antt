@@ -20,16 +20,16 @@ use Rattle.rules.specs.declared.Book.{Book}
 use Rattle.rules.proofs.Moving.{onlyFor, for-who, for-others}
 use Rattle.rules.proofs.Accepting.{fieldsOf}
 use Rattle.rules.proofs.Accepting as accepting
-use Rattle.audit.specs.History.{Event, History, size, isKind, isYes}
+use Rattle.audit.specs.History.{Event, History, isKind, isYes}
 use Rattle.audit.specs.Sums.{firstWith, settledTo, settledFrom, returnBy, returnTo}
 use Rattle.audit.proofs.Telling.{first-after}
 use Rattle.audit.proofs.Own.{Taken, takenEvent, kind-is, amount-is, sent, sender-known}
 use Rattle.audit.proofs.About.{order-held}
 use Rattle.audit.proofs.Answers.{yes-flag, yes-told, no-flag}
 
-pub record Balanced (file : List ℕ) (e : Event) : Type 0 where
-  pub settled : sumTo (λ p. settledFrom p e) (size file) ≡ sumTo (λ p. settledTo file p e) (size file)
-  pub returned : sumTo (λ p. returnBy file p e) (size file) ≡ sumTo (λ p. returnTo p e) (size file)
+pub record Balanced (ps : Roster) (e : Event) : Type 0 where
+  pub settled : sumTo (λ p. settledFrom p e) (ps .size) ≡ sumTo (λ p. settledTo ps p e) (ps .size)
+  pub returned : sumTo (λ p. returnBy ps p e) (ps .size) ≡ sumTo (λ p. returnTo p e) (ps .size)
 
 -- what counts for one of them alone is the sum
 only-sum : (who n size : ℕ) → who < size → sumTo (λ p. onlyFor who p n) size ≡ n
@@ -40,43 +40,43 @@ only-sum who n size l =
     omega arith
 
 -- an event that is no yes and no return
-pub unmoved : (file : List ℕ) (e : Event) → isYes e ≡ false → isKind 6 e ≡ false → Balanced file e
-unmoved file e no-yes no-return =
+pub unmoved : (ps : Roster) (e : Event) → isYes e ≡ false → isKind 6 e ≡ false → Balanced ps e
+unmoved ps e no-yes no-return =
     record {
       settled =
-          sum-zero (λ p. settledFrom p e) (size file) (λ p l. rw no-yes) ∙ sym (sum-zero (λ p. settledTo file p e) (size file) (λ p l. rw no-yes));
+          sum-zero (λ p. settledFrom p e) (ps .size) (λ p l. rw no-yes) ∙ sym (sum-zero (λ p. settledTo ps p e) (ps .size) (λ p l. rw no-yes));
       returned =
-          sum-zero (λ p. returnBy file p e) (size file) (λ p l. rw no-return) ∙ sym (sum-zero (λ p. returnTo p e) (size file) (λ p l. rw no-return));
+          sum-zero (λ p. returnBy ps p e) (ps .size) (λ p l. rw no-return) ∙ sym (sum-zero (λ p. returnTo p e) (ps .size) (λ p l. rw no-return));
     }
 
-module _ {file : List ℕ} {h : History} {w : Book} {t : List ℕ} {f : Fields} {rs₀ : List Report} (k : Taken file h w t f rs₀) (named : namesOrder (termsOf (f .kind) .subject) ≡ true) where
+module _ {ps : Roster} {h : History} {w : Book} {t : List ℕ} {f : Fields} {rs₀ : List Report} (k : Taken ps h w t f rs₀) (named : namesOrder (termsOf (f .kind) .subject) ≡ true) where
   -- the parties of the order that a ticket is about
-  pub payer-known : accepting.theOrder w f t .payer < size file
+  pub payer-known : accepting.theOrder w f t .payer < ps .size
   payer-known =
       subst (λ (r : Roster). accepting.theOrder w f t .payer < r .size) (k .midway .roster)
       (k .midway .sound .orders .payer (accepting.orderNumber w f t) (order-held k [] named))
 
-  payee-known : accepting.theOrder w f t .payee < size file
+  payee-known : accepting.theOrder w f t .payee < ps .size
   payee-known =
       subst (λ (r : Roster). accepting.theOrder w f t .payee < r .size) (k .midway .roster)
       (k .midway .sound .orders .payee (accepting.orderNumber w f t) (order-held k [] named))
 
-module _ {file : List ℕ} {h : History} {w : Book} {t : List ℕ} {time n : ℕ} {rs₀ : List Report} where
+module _ {ps : Roster} {h : History} {w : Book} {t : List ℕ} {time n : ℕ} {rs₀ : List Report} where
   -- a yes: from the payer to the payee
-  yes-balanced : Taken file h w t (fieldsOf kind.Yes time n) rs₀
-      → Balanced file (takenEvent t rs₀ (toldBy w (decisionOf (finding w (fieldsOf kind.Yes time n) t))))
+  yes-balanced : Taken ps h w t (fieldsOf kind.Yes time n) rs₀
+      → Balanced ps (takenEvent t rs₀ (toldBy w (decisionOf (finding w (fieldsOf kind.Yes time n) t))))
   yes-balanced k =
       let party : accepting.senderNumber w f t ≡ o .payee = accepting.right-party w f t (k .passed .r17) refl in
       record {
         settled =
-            sum-same (λ p. settledFrom p (takenEvent t rs₀ rs)) (λ p. onlyFor (o .payer) p (o .amount)) (size file) (λ p l. rw (kind-is k, yes-flag k, yes-told k))
-            ∙ only-sum (o .payer) (o .amount) (size file) (payer-known k refl)
+            sum-same (λ p. settledFrom p (takenEvent t rs₀ rs)) (λ p. onlyFor (o .payer) p (o .amount)) (ps .size) (λ p l. rw (kind-is k, yes-flag k, yes-told k))
+            ∙ only-sum (o .payer) (o .amount) (ps .size) (payer-known k refl)
             ∙ sym
-            (sum-same (λ p. settledTo file p (takenEvent t rs₀ rs)) (λ p. onlyFor (o .payee) p (o .amount)) (size file) (λ p l. rw (kind-is k, yes-flag k, yes-told k, sent k refl p l, party))
-            ∙ only-sum (o .payee) (o .amount) (size file) (payee-known k refl));
+            (sum-same (λ p. settledTo ps p (takenEvent t rs₀ rs)) (λ p. onlyFor (o .payee) p (o .amount)) (ps .size) (λ p l. rw (kind-is k, yes-flag k, yes-told k, sent k refl p l, party))
+            ∙ only-sum (o .payee) (o .amount) (ps .size) (payee-known k refl));
         returned =
-            sum-zero (λ p. returnBy file p (takenEvent t rs₀ rs)) (size file) (λ p l. rw (kind-is k))
-            ∙ sym (sum-zero (λ p. returnTo p (takenEvent t rs₀ rs)) (size file) (λ p l. rw (kind-is k)));
+            sum-zero (λ p. returnBy ps p (takenEvent t rs₀ rs)) (ps .size) (λ p l. rw (kind-is k))
+            ∙ sym (sum-zero (λ p. returnTo p (takenEvent t rs₀ rs)) (ps .size) (λ p l. rw (kind-is k)));
       }
     where
       f : Fields
@@ -92,20 +92,20 @@ module _ {file : List ℕ} {h : History} {w : Book} {t : List ℕ} {time n : ℕ
       rs = toldBy w (decisionOf x)
 
   -- a return: from the payee to the payer
-  return-balanced : Taken file h w t (fieldsOf kind.Return time n) rs₀
-      → Balanced file (takenEvent t rs₀ (toldBy w (decisionOf (finding w (fieldsOf kind.Return time n) t))))
+  return-balanced : Taken ps h w t (fieldsOf kind.Return time n) rs₀
+      → Balanced ps (takenEvent t rs₀ (toldBy w (decisionOf (finding w (fieldsOf kind.Return time n) t))))
   return-balanced k =
       let first : firstWith 6 (rs₀ ++ rs) ≡ rs = first-after 6 rs₀ rs (k .code) refl in
       record {
         settled =
-            sum-zero (λ p. settledFrom p (takenEvent t rs₀ rs)) (size file) (λ p l. rw (kind-is k))
-            ∙ sym (sum-zero (λ p. settledTo file p (takenEvent t rs₀ rs)) (size file) (λ p l. rw (kind-is k)));
+            sum-zero (λ p. settledFrom p (takenEvent t rs₀ rs)) (ps .size) (λ p l. rw (kind-is k))
+            ∙ sym (sum-zero (λ p. settledTo ps p (takenEvent t rs₀ rs)) (ps .size) (λ p l. rw (kind-is k)));
         returned =
-            sum-same (λ p. returnBy file p (takenEvent t rs₀ rs)) (λ p. onlyFor (accepting.senderNumber w f t) p n) (size file) (λ p l. rw (kind-is k, sent k refl p l, amount-is k))
-            ∙ only-sum (accepting.senderNumber w f t) n (size file) (sender-known k refl)
+            sum-same (λ p. returnBy ps p (takenEvent t rs₀ rs)) (λ p. onlyFor (accepting.senderNumber w f t) p n) (ps .size) (λ p l. rw (kind-is k, sent k refl p l, amount-is k))
+            ∙ only-sum (accepting.senderNumber w f t) n (ps .size) (sender-known k refl)
             ∙ sym
-            (sum-same (λ p. returnTo p (takenEvent t rs₀ rs)) (λ p. onlyFor (o .payer) p n) (size file) (λ p l. rw (kind-is k, first, amount-is k))
-            ∙ only-sum (o .payer) n (size file) (payer-known k refl));
+            (sum-same (λ p. returnTo p (takenEvent t rs₀ rs)) (λ p. onlyFor (o .payer) p n) (ps .size) (λ p l. rw (kind-is k, first, amount-is k))
+            ∙ only-sum (o .payer) n (ps .size) (payer-known k refl));
       }
     where
       f : Fields
@@ -117,22 +117,22 @@ module _ {file : List ℕ} {h : History} {w : Book} {t : List ℕ} {time n : ℕ
       rs : List Report
       rs = toldBy w (decisionOf (finding w f t))
 
-  no-balanced : Taken file h w t (fieldsOf kind.No time n) rs₀
-      → Balanced file (takenEvent t rs₀ (toldBy w (decisionOf (finding w (fieldsOf kind.No time n) t))))
+  no-balanced : Taken ps h w t (fieldsOf kind.No time n) rs₀
+      → Balanced ps (takenEvent t rs₀ (toldBy w (decisionOf (finding w (fieldsOf kind.No time n) t))))
   no-balanced k =
-      unmoved file (takenEvent t rs₀ (toldBy w (decisionOf (finding w (fieldsOf kind.No time n) t)))) (rw (kind-is k, no-flag k)) (rw (kind-is k))
+      unmoved ps (takenEvent t rs₀ (toldBy w (decisionOf (finding w (fieldsOf kind.No time n) t)))) (rw (kind-is k, no-flag k)) (rw (kind-is k))
 
-  pub own-balanced : (j : Kind) → Taken file h w t (fieldsOf j time n) rs₀
-      → Balanced file (takenEvent t rs₀ (toldBy w (decisionOf (finding w (fieldsOf j time n) t))))
-  own-balanced kind.CoverIn k = unmoved file _ (rw (kind-is k)) (rw (kind-is k))
-  own-balanced kind.CoverOut k = unmoved file _ (rw (kind-is k)) (rw (kind-is k))
-  own-balanced kind.Order k = unmoved file _ (rw (kind-is k)) (rw (kind-is k))
+  pub own-balanced : (j : Kind) → Taken ps h w t (fieldsOf j time n) rs₀
+      → Balanced ps (takenEvent t rs₀ (toldBy w (decisionOf (finding w (fieldsOf j time n) t))))
+  own-balanced kind.CoverIn k = unmoved ps _ (rw (kind-is k)) (rw (kind-is k))
+  own-balanced kind.CoverOut k = unmoved ps _ (rw (kind-is k)) (rw (kind-is k))
+  own-balanced kind.Order k = unmoved ps _ (rw (kind-is k)) (rw (kind-is k))
   own-balanced kind.Yes k = yes-balanced k
   own-balanced kind.No k = no-balanced k
-  own-balanced kind.Recall k = unmoved file _ (rw (kind-is k)) (rw (kind-is k))
+  own-balanced kind.Recall k = unmoved ps _ (rw (kind-is k)) (rw (kind-is k))
   own-balanced kind.Return k = return-balanced k
-  own-balanced kind.Decline k = unmoved file _ (rw (kind-is k)) (rw (kind-is k))
-  own-balanced kind.Inquiry k = unmoved file _ (rw (kind-is k)) (rw (kind-is k))
-  own-balanced kind.Cut k = unmoved file _ (rw (kind-is k)) (rw (kind-is k))
-  own-balanced kind.Confirm k = unmoved file _ (rw (kind-is k)) (rw (kind-is k))
-  own-balanced kind.Tick k = unmoved file _ (rw (kind-is k)) (rw (kind-is k))
+  own-balanced kind.Decline k = unmoved ps _ (rw (kind-is k)) (rw (kind-is k))
+  own-balanced kind.Inquiry k = unmoved ps _ (rw (kind-is k)) (rw (kind-is k))
+  own-balanced kind.Cut k = unmoved ps _ (rw (kind-is k)) (rw (kind-is k))
+  own-balanced kind.Confirm k = unmoved ps _ (rw (kind-is k)) (rw (kind-is k))
+  own-balanced kind.Tick k = unmoved ps _ (rw (kind-is k)) (rw (kind-is k))

@@ -30,7 +30,7 @@ use Rattle.rules.proofs.Moving.{nobody-moves}
 use Rattle.rules.proofs.Cutting.{Closed, cut-right, cut-each}
 use Rattle.rules.proofs.Stepping.{all-closed}
 use Rattle.rules.proofs.Accepting.{fieldsOf}
-use Rattle.audit.specs.History.{History, size}
+use Rattle.audit.specs.History.{History, _▹_}
 use Rattle.audit.specs.Sums.{lastCutIn, lastCut}
 use Rattle.audit.proofs.Events.{OwnCover}
 use Rattle.audit.proofs.Telling.{cuts-append, fours-no-cuts, no-cuts}
@@ -103,18 +103,18 @@ marks-told p told (opening.Cover n) c z = go (ltb n (c .available)) (ltb (c .ava
     go false true = record { held = inl (z .held); debit = inr (simp (eq-eqb p p refl)) }
     go false false = record { held = inl (z .held); debit = inl (z .debit) }
 
-module _ {file : List ℕ} {h : History} {w : Book} {t : List ℕ} {time n : ℕ} {rs₀ : List Report}
-    (k : Taken file h w t (fieldsOf kind.Cut time n) rs₀) where
+module _ {ps : Roster} {h : History} {w : Book} {t : List ℕ} {time n : ℕ} {rs₀ : List Report}
+    (k : Taken ps h w t (fieldsOf kind.Cut time n) rs₀) where
   abbrev rs : List Report
   rs = cutReportsTo (w .roster) (w .covers) (w .roster .size)
 
-  cut-cover : (p : ℕ) → p < w .roster .size → OwnCover file h (takenEvent t rs₀ rs) p (coverOf (w .covers) p) (coverOf (cutTo (w .roster) (w .covers) (w .roster .size)) p)
+  cut-cover : (p : ℕ) → p < w .roster .size → OwnCover ps h (takenEvent t rs₀ rs) p (coverOf (w .covers) p) (coverOf (cutTo (w .roster) (w .covers) (w .roster .size)) p)
   cut-cover p l =
       let o = participantOf (w .roster) p .opening in
       let c = coverOf (w .covers) p in
       let z = all-closed w (k .passed .r21) p l in
       let m = marks-told p (lastCut p h) o c z in
-      let told : lastCut p (takenEvent t rs₀ rs ∷ h) ≡ lastCutIn p (lastCut p h) (cutReport p o c) =
+      let told : lastCut p (takenEvent t rs₀ rs ▹ h) ≡ lastCutIn p (lastCut p h) (cutReport p o c) =
       cuts-append p (lastCut p h) rs₀ rs
       ∙ ap (λ (x : ℕ). lastCutIn p x rs) (no-cuts p (lastCut p h) rs₀ (fours-no-cuts rs₀ (k .code)))
       ∙ all-told (w .roster) (w .covers) p (lastCut p h) (w .roster .size) l in
@@ -125,7 +125,7 @@ module _ {file : List ℕ} {h : History} {w : Book} {t : List ℕ} {time n : ℕ
         debit = λ before. rw told (m .debit);
       })
 
-  pub cut-own : OwnStepOf file h w t (fieldsOf kind.Cut time n) rs₀
+  pub cut-own : OwnStepOf ps h w t (fieldsOf kind.Cut time n) rs₀
   cut-own =
       steady k (applied w (orderKept (finding w (fieldsOf kind.Cut time n) t) nobody true Told.Nobody)) rs refl refl (orders-kept k)
       (rw (kind-is k)) (λ i. no-ending i (w .roster) (w .covers) (w .roster .size))

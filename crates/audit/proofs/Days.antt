@@ -13,18 +13,19 @@ use Rattle.ticket.specs.declared.kinds.Kind.the-variants.{Tick}
 use Rattle.dayfile.specs.DayFile.{dayFile}
 use Rattle.dayfile.specs.Route.{followed}
 use Rattle.dayfile.specs.Writing.{fileBytes, bank, bankOpening, linked, direct, onward}
+use Rattle.rules.specs.Book.{bookOf}
 use Rattle.rules.specs.Find.{senderIn, orderIn, routeIn, wayIn, anyOpen}
 use Rattle.rules.specs.Cover.{total}
 use Rattle.rules.specs.Tick.{tick}
 use Rattle.rules.specs.Step.{stepOf, handed}
 use Rattle.rules.proofs.Names.{bicA, bicB, bicC, bicD, bicE, bicL, bicZ, tx1, tx2, tx3, tx4, tx5, tx6, tx7, tx8, ibanD, twoBanks}
 use Rattle.audit.proofs.Testing.{claim-holds}
-use Rattle.audit.proofs.Rows.{Day, IsRight, runOf, eventsOn}
+use Rattle.audit.proofs.Rows.{Day, IsRight, seenOn, bookOn}
 
 abbrev pub caseD : Day
 caseD = record {
   shows = "D: a yes at 24 to an order of 5";
-  file = twoBanks [];
+  start = bookOf (twoBanks []);
   tickets =
       (coverInTicket 0 bicA 1000
       ∷ orderTicket 5 bicA bicB 400 tx1 ibanD
@@ -39,7 +40,7 @@ caseD = record {
 abbrev pub caseE : Day
 caseE = record {
   shows = "E: a yes at 25";
-  file = twoBanks [];
+  start = bookOf (twoBanks []);
   tickets =
       (coverInTicket 0 bicA 1000
       ∷ orderTicket 5 bicA bicB 400 tx1 ibanD
@@ -52,7 +53,7 @@ caseE = record {
 }
 
 -- two banks that wish an opening cover, one that doesn't, a linked system; two routes lead on to the second bank's
-abbrev busyFile : List ℕ
+abbrev pub busyFile : List ℕ
 busyFile =
     fileBytes
     (bankOpening bicA 500 ∷ bankOpening bicB 300 ∷ bank bicC ∷ linked bicL ∷ [])
@@ -74,7 +75,7 @@ tickWithFlag =
 abbrev pub busyDay : Day
 busyDay = record {
   shows = "a busy day";
-  file = busyFile;
+  start = bookOf busyFile;
   tickets =
       (coverInTicket 0 bicA 1000
       ∷ coverInTicket 1 bicB 200
@@ -136,12 +137,12 @@ busyDay = record {
 
 pub caseD-right : IsRight caseD
 unfolding isBic isIban isTxid reading dayFile followed senderIn orderIn routeIn wayIn anyOpen total tick stepOf handed
-caseD-right = (refl, refl, refl, claim-holds (caseD .file) (eventsOn caseD) (runOf caseD .book) refl)
+caseD-right = (refl, refl, refl, claim-holds (seenOn caseD) (bookOn caseD) refl)
 
 pub caseE-right : IsRight caseE
 unfolding isBic isIban isTxid reading dayFile followed senderIn orderIn routeIn wayIn anyOpen total tick stepOf handed
-caseE-right = (refl, refl, refl, claim-holds (caseE .file) (eventsOn caseE) (runOf caseE .book) refl)
+caseE-right = (refl, refl, refl, claim-holds (seenOn caseE) (bookOn caseE) refl)
 
 pub busyDay-right : IsRight busyDay
 unfolding isBic isIban isTxid reading dayFile followed senderIn orderIn routeIn wayIn anyOpen total tick stepOf handed
-busyDay-right = (refl, refl, refl, claim-holds (busyDay .file) (eventsOn busyDay) (runOf busyDay .book) refl)
+busyDay-right = (refl, refl, refl, claim-holds (seenOn busyDay) (bookOn busyDay) refl)

@@ -12,7 +12,7 @@ use Rattle.ticket.specs.Layout.{timeOf, amountOf, txidOf}
 use Rattle.report.specs.Ending.{endingsIn}
 use Rattle.report.specs.declared.Report.{Report}
 use Rattle.report.proofs.Ending.{endings-append}
-use Rattle.dayfile.specs.DayFile.{dayFile}
+use Rattle.dayfile.specs.declared.roster.Roster.{Roster}
 use Rattle.rules.specs.Book.{orderOf, coverOf, isBank}
 use Rattle.rules.specs.Status.{isWaiting}
 use Rattle.rules.specs.Cover.{whole}
@@ -22,7 +22,7 @@ use Rattle.rules.specs.declared.Cover.{Cover}
 use Rattle.rules.specs.declared.Book.{Book}
 use Rattle.rules.proofs.Same.{same-or-not, below-or-not}
 use Rattle.rules.proofs.Expiring.{expiredIf, fours, Expires}
-use Rattle.audit.specs.History.{Event, History, size, isSentBy}
+use Rattle.audit.specs.History.{Event, History, _▹_, isSentBy}
 use Rattle.audit.specs.Sums.{firstWith, lastCut, goesOut, comesIn}
 use Rattle.audit.specs.Orders.{isOrder, orderCount, opens, toBank, isNone, isFirst4, letsExpire, mustExpire, asksAbout, allEndings}
 use Rattle.audit.proofs.Agreeing.{OrderAgrees, CoverAgrees, Agrees}
@@ -36,31 +36,31 @@ pub record OwnOrder (asks : Bool) (i : ℕ) (o o′ : Order) (rs : List Report) 
   pub quiet : (isWaiting (o .status) && isFirst4 (endingsIn i rs)) ≡ false
 
 -- participant p's cover, before and after
-pub record OwnCover (file : List ℕ) (h : History) (e : Event) (p : ℕ) (c c′ : Cover) : Type 0 where
-  pub adds : whole c′ + goesOut file p e h ≡ whole c + comesIn file p e h
-  pub held : (c .held ≡ 0) ⊎ (lastCut p h ≡ 11) → (c′ .held ≡ 0) ⊎ (lastCut p (e ∷ h) ≡ 11)
-  pub debit : (c .debit ≡ 0) ⊎ (lastCut p h ≡ 10) → (c′ .debit ≡ 0) ⊎ (lastCut p (e ∷ h) ≡ 10)
+pub record OwnCover (ps : Roster) (h : History) (e : Event) (p : ℕ) (c c′ : Cover) : Type 0 where
+  pub adds : whole c′ + goesOut ps p e h ≡ whole c + comesIn ps p e h
+  pub held : (c .held ≡ 0) ⊎ (lastCut p h ≡ 11) → (c′ .held ≡ 0) ⊎ (lastCut p (e ▹ h) ≡ 11)
+  pub debit : (c .debit ≡ 0) ⊎ (lastCut p h ≡ 10) → (c′ .debit ≡ 0) ⊎ (lastCut p (e ▹ h) ≡ 10)
 
 -- an order that the ticket opens
-pub record Opened (file : List ℕ) (e : Event) (o : Order) : Type 0 where
+pub record Opened (ps : Roster) (e : Event) (o : Order) : Type 0 where
   pub amount : amountOf (e .ticket) ≡ o .amount
   pub time : timeOf (e .ticket) ≡ o .time
   pub txid : txidOf (e .ticket) ≡ unpadded (o .txid)
-  pub bank : toBank file (firstWith 1 (e .reports)) ≡ isBank (dayFile file .roster) (o .payee)
-  pub payer : (p : ℕ) → p < size file → isSentBy file p e ≡ eqb (o .payer) p
+  pub bank : toBank ps (firstWith 1 (e .reports)) ≡ isBank ps (o .payee)
+  pub payer : (p : ℕ) → p < ps .size → isSentBy ps p e ≡ eqb (o .payer) p
   pub waiting : isWaiting (o .status) ≡ true
 
-pub data Growth (file : List ℕ) (e : Event) (w b′ : Book) : Type 0 where
-  keeps : isOrder e ≡ false → b′ .count ≡ w .count → Growth file e w b′
-  gains : isOrder e ≡ true → b′ .count ≡ w .count + 1 → Opened file e (orderOf (b′ .orders) (w .count)) → Growth file e w b′
+pub data Growth (ps : Roster) (e : Event) (w b′ : Book) : Type 0 where
+  keeps : isOrder e ≡ false → b′ .count ≡ w .count → Growth ps e w b′
+  gains : isOrder e ≡ true → b′ .count ≡ w .count + 1 → Opened ps e (orderOf (b′ .orders) (w .count)) → Growth ps e w b′
 
 -- the ticket's own step, from book w to book b′ with reports rs
-pub record OwnStep (file : List ℕ) (h : History) (e : Event) (w b′ : Book) (rs : List Report) : Type 0 where
+pub record OwnStep (ps : Roster) (h : History) (e : Event) (w b′ : Book) (rs : List Report) : Type 0 where
   pub roster : b′ .roster ≡ w .roster
-  pub growth : Growth file e w b′
+  pub growth : Growth ps e w b′
   pub order : (i : ℕ) → i < w .count → OwnOrder (asksAbout i e h) i (orderOf (w .orders) i) (orderOf (b′ .orders) i) rs
   pub none : (i : ℕ) → w .count ≤ i → endingsIn i rs ≡ []
-  pub cover : (p : ℕ) → p < size file → OwnCover file h e p (coverOf (w .covers) p) (coverOf (b′ .covers) p)
+  pub cover : (p : ℕ) → p < ps .size → OwnCover ps h e p (coverOf (w .covers) p) (coverOf (b′ .covers) p)
 
 -- an order's endings: those of the expiries, and those of the ticket's own step
 module _ (i : ℕ) (o : Order) (rs₀ rs : List Report) where
@@ -94,10 +94,10 @@ same-after : (d : Bool) (o o′ : Order) → SameOrder (expiredIf d o) o′ → 
 same-after true o o′ s = record { amount = s .amount; time = s .time; txid = s .txid; payer = s .payer; payee = s .payee }
 same-after false o o′ s = s
 
-module _ (file : List ℕ) (h : History) (b w b′ : Book) (t : List ℕ) (n : ℕ) (rs₀ rs : List Report) (expires : ℕ → Bool)
-    (a : Agrees file h b) (x : Expires expires b w rs₀) (sound : Sound b′)
-    (own : OwnStep file h (record { ticket = t; refusal = n; reports = rs₀ ++ rs }) w b′ rs)
-    (must : (i : ℕ) → i < b .count → mustExpire file i (record { ticket = t; refusal = n; reports = rs₀ ++ rs }) h ≡ expires i) where
+module _ (ps : Roster) (h : History) (b w b′ : Book) (t : List ℕ) (n : ℕ) (rs₀ rs : List Report) (expires : ℕ → Bool)
+    (a : Agrees ps h b) (x : Expires expires b w rs₀) (sound : Sound b′)
+    (own : OwnStep ps h (record { ticket = t; refusal = n; reports = rs₀ ++ rs }) w b′ rs)
+    (must : (i : ℕ) → i < b .count → mustExpire ps i (record { ticket = t; refusal = n; reports = rs₀ ++ rs }) h ≡ expires i) where
   abbrev e : Event
   e = record { ticket = t; refusal = n; reports = rs₀ ++ rs }
 
@@ -113,10 +113,10 @@ module _ (file : List ℕ) (h : History) (b w b′ : Book) (t : List ℕ) (n : �
   own-after : (i : ℕ) → i < b .count → OwnOrder (asksAbout i e h) i (expiredIf (expires i) (orderOf (b .orders) i)) (orderOf (b′ .orders) i) rs
   own-after i l = rw (x .order i l) at (own .order i (in-w i l))
 
-  order-after : (i : ℕ) → i < b .count → OrderAgrees file (e ∷ h) i (orderOf (b′ .orders) i)
+  order-after : (i : ℕ) → i < b .count → OrderAgrees ps (e ▹ h) i (orderOf (b′ .orders) i)
   order-after i l =
       let o = own-after i l in
-      order-goes file h i (orderOf (b .orders) i) (orderOf (b′ .orders) i) e (a .order i l) (not-opened i l)
+      order-goes ps h i (orderOf (b .orders) i) (orderOf (b′ .orders) i) e (a .order i l) (not-opened i l)
       (same-after (expires i) (orderOf (b .orders) i) (orderOf (b′ .orders) i) (o .same))
       (fate-after i (orderOf (b .orders) i) rs₀ rs (asksAbout i e h) (expires i) (orderOf (b′ .orders) i) (x .waited i) (x .ends i l) (o .fate))
 
@@ -124,10 +124,10 @@ module _ (file : List ℕ) (h : History) (b w b′ : Book) (t : List ℕ) (n : �
   no-endings : (i : ℕ) → b .count ≤ i → endingsIn i (rs₀ ++ rs) ≡ []
   no-endings i l = both-parts i (orderOf (b .orders) i) rs₀ rs [] (x .none i l) ∙ own .none i (rw (x .count) l)
 
-  none-after : (i : ℕ) → b .count ≤ i → allEndings i (e ∷ h) ≡ []
+  none-after : (i : ℕ) → b .count ≤ i → allEndings i (e ▹ h) ≡ []
   none-after i l = ap₂ _++_ (no-endings i l) (a .none i l)
 
-  expiry-after : (i : ℕ) → letsExpire i e h ≡ mustExpire file i e h
+  expiry-after : (i : ℕ) → letsExpire i e h ≡ mustExpire ps i e h
   expiry-after i =
       ⊎-elim
       (λ (l : i < b .count).
@@ -142,7 +142,7 @@ module _ (file : List ℕ) (h : History) (b w b′ : Book) (t : List ℕ) (n : �
   known-after : (i : ℕ) → orderCount h ≤ i → endingsIn i (e .reports) ≡ []
   known-after i l = no-endings i (rw (a .count) l)
 
-  cover-after : (p : ℕ) → p < size file → CoverAgrees file (e ∷ h) p (coverOf (b′ .covers) p)
+  cover-after : (p : ℕ) → p < ps .size → CoverAgrees ps (e ▹ h) p (coverOf (b′ .covers) p)
   cover-after p l =
       let before = a .cover p l in
       let apart = x .cover p (rw (a .roster) l) in
@@ -154,7 +154,7 @@ module _ (file : List ℕ) (h : History) (b w b′ : Book) (t : List ℕ) (n : �
       }
 
   -- an order that the ticket opens
-  new-order : isOrder e ≡ true → (o : Order) → Opened file e o → OrderAgrees file (e ∷ h) (b .count) o
+  new-order : isOrder e ≡ true → (o : Order) → Opened ps e o → OrderAgrees ps (e ▹ h) (b .count) o
   new-order is o opened =
       let this : opens (b .count) e h ≡ true = rw (is, eq-eqb (orderCount h) (b .count) (sym (a .count))) in
       let nothing = none-after (b .count) (omega arith) in
@@ -165,14 +165,14 @@ module _ (file : List ℕ) (h : History) (b w b′ : Book) (t : List ℕ) (n : �
         bank = rw this (opened .bank);
         payer = λ p l. rw this (opened .payer p l);
         waiting = ap isNone nothing ∙ sym (opened .waiting);
-        once = no-tickets (b .count) (e ∷ h) nothing ∙ ap (λ (y : Bool). cond {A = ℕ} y 0 1) (sym (opened .waiting));
+        once = no-tickets (b .count) (e ▹ h) nothing ∙ ap (λ (y : Bool). cond {A = ℕ} y 0 1) (sym (opened .waiting));
         alike = rw nothing tt;
       }
 
-  pub agrees-after : Agrees file (e ∷ h) b′
+  pub agrees-after : Agrees ps (e ▹ h) b′
   agrees-after = go (own .growth)
     where
-      rest : b′ .count ≡ orderCount (e ∷ h) → ((i : ℕ) → i < b′ .count → OrderAgrees file (e ∷ h) i (orderOf (b′ .orders) i)) → b .count ≤ b′ .count → Agrees file (e ∷ h) b′
+      rest : b′ .count ≡ orderCount (e ▹ h) → ((i : ℕ) → i < b′ .count → OrderAgrees ps (e ▹ h) i (orderOf (b′ .orders) i)) → b .count ≤ b′ .count → Agrees ps (e ▹ h) b′
       rest count order grows =
           record {
             sound = sound;
@@ -185,7 +185,7 @@ module _ (file : List ℕ) (h : History) (b w b′ : Book) (t : List ℕ) (n : �
             known = (known-after, a .known);
           }
 
-      go : Growth file e w b′ → Agrees file (e ∷ h) b′
+      go : Growth ps e w b′ → Agrees ps (e ▹ h) b′
       go (Growth.keeps isnt count) =
           let c = x .count in
           rest (count ∙ c ∙ a .count ∙ rw isnt) (λ i l. order-after i (omega arith)) (omega arith)

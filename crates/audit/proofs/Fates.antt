@@ -11,14 +11,14 @@ use lib.ListN.{length}
 use Rattle.report.specs.Ending.{endingsIn}
 use Rattle.report.specs.declared.Report.{Report}
 use Rattle.fields.specs.Text.{unpadded}
-use Rattle.dayfile.specs.DayFile.{dayFile}
+use Rattle.dayfile.specs.declared.roster.Roster.{Roster}
 use Rattle.rules.specs.Book.{isBank}
 use Rattle.rules.specs.Status.{isWaiting}
 use Rattle.rules.specs.declared.Order.{Order}
-use Rattle.audit.specs.History.{Event, History}
-use Rattle.audit.specs.Orders.{opens, ofOrder, isNone, asksAbout, ownEndings, endingTickets, allEndings}
+use Rattle.audit.specs.History.{Event, History, from, _▹_}
+use Rattle.audit.specs.Orders.{opens, ofOrder, startEndings, isNone, asksAbout, ownEndings, endingTickets, allEndings, endCode}
 use Rattle.audit.specs.Claim.{AllCarry}
-use Rattle.audit.proofs.Agreeing.{endCode, OrderAgrees}
+use Rattle.audit.proofs.Agreeing.{OrderAgrees}
 
 -- order i was o and is o′ after reports rs; asks: the ticket is an inquiry about it
 pub data Fate (asks : Bool) (i : ℕ) (o o′ : Order) (rs : List Report) : Type 0 where
@@ -38,8 +38,9 @@ pub record SameOrder (o o′ : Order) : Type 0 where
   pub payee : o′ .payee ≡ o .payee
 
 -- an order that a ticket doesn't open is read off what was before
-pub of-before : {A : Type 0} (none : A) (f : Event → A) (i : ℕ) (e : Event) (h : History) → opens i e h ≡ false → ofOrder none f i (e ∷ h) ≡ ofOrder none f i h
-of-before none f i e h other = ap (λ (x : Bool). cond x (f e) (ofOrder none f i h)) other
+pub of-before : {A : Type 0} (none : A) (row : Order → A) (f : Event → A) (i : ℕ) (e : Event) (h : History) → opens i e h ≡ false
+    → ofOrder none row f i (e ▹ h) ≡ ofOrder none row f i h
+of-before none row f i e h other = ap (λ (x : Bool). cond x (f e) (ofOrder none row f i h)) other
 
 carry-append : (code amount : ℕ) (rs ts : List Report) → AllCarry code amount rs → AllCarry code amount ts → AllCarry code amount (rs ++ ts)
 carry-append code amount [] ts a b = b
@@ -60,20 +61,20 @@ append-none [] ts q = (refl, q)
 append-none (r ∷ rs) ts q = let z : _≡_ {A = ℕ} 0 1 = cc in absurd (omega arith)
 
 pub no-tickets : (i : ℕ) (h : History) → allEndings i h ≡ [] → endingTickets i h ≡ 0
-no-tickets i [] q = refl
-no-tickets i (e ∷ h) q =
+no-tickets i (from b) q = let none : cond {A = ℕ} (isNone (startEndings i b)) 0 1 ≡ 0 = rw q in omega arith
+no-tickets i (e ▹ h) q =
     let both = append-none (endingsIn i (e .reports)) (allEndings i h) q in
-    let this : ownEndings i e h ≡ 0 - cond (asksAbout i e h) 1 0 = ap (λ (l : List Report). length l - cond (asksAbout i e h) 1 0) (both .0) in
-    let count = no-endings-count (asksAbout i e h) in
+    let none : length (endingsIn i (e .reports)) ≡ 0 = ap (λ (l : List Report). length l) (both .0) in
+    let this : ownEndings i e h ≡ 0 = omega arith in
     let before = no-tickets i h (both .1) in
-    rw (this, count, before)
+    rw (this, before)
 
-module _ (file : List ℕ) (h : History) (i : ℕ) (o o′ : Order) (e : Event) (a : OrderAgrees file h i o) (other : opens i e h ≡ false) (s : SameOrder o o′) where
+module _ (ps : Roster) (h : History) (i : ℕ) (o o′ : Order) (e : Event) (a : OrderAgrees ps h i o) (other : opens i e h ≡ false) (s : SameOrder o o′) where
   -- how the endings of this event count
   counts : ℕ → ℕ
   counts n = cond (eqb (n - cond (asksAbout i e h) 1 0) 0) 0 1
 
-  tickets : (rs : List Report) → endingsIn i (e .reports) ≡ rs → endingTickets i (e ∷ h) ≡ counts (length rs) + endingTickets i h
+  tickets : (rs : List Report) → endingsIn i (e .reports) ≡ rs → endingTickets i (e ▹ h) ≡ counts (length rs) + endingTickets i h
   unfolding counts
   tickets rs q = ap (λ (l : List Report). counts (length l) + endingTickets i h) q
 
@@ -94,29 +95,29 @@ module _ (file : List ℕ) (h : History) (i : ℕ) (o o′ : Order) (e : Event) 
       go false l = simp (ne-eqb (suc n - 0) 0 (λ q. omega arith))
 
   -- the endings so far, with those of this event
-  so-far : (rs : List Report) → endingsIn i (e .reports) ≡ rs → allEndings i (e ∷ h) ≡ rs ++ allEndings i h
+  so-far : (rs : List Report) → endingsIn i (e .reports) ≡ rs → allEndings i (e ▹ h) ≡ rs ++ allEndings i h
   so-far rs q = ap (λ (l : List Report). l ++ allEndings i h) q
 
   -- what is read off its ticket, and how it ended
-  together : isNone (allEndings i (e ∷ h)) ≡ isWaiting (o′ .status) → endingTickets i (e ∷ h) ≡ cond (isWaiting (o′ .status)) 0 1
-      → AllCarry (endCode (o′ .status)) (o .amount) (allEndings i (e ∷ h)) → OrderAgrees file (e ∷ h) i o′
+  together : isNone (allEndings i (e ▹ h)) ≡ isWaiting (o′ .status) → endingTickets i (e ▹ h) ≡ cond (isWaiting (o′ .status)) 0 1
+      → AllCarry (endCode (o′ .status)) (o .amount) (allEndings i (e ▹ h)) → OrderAgrees ps (e ▹ h) i o′
   together waiting once alike =
       record {
-        amount = of-before _ _ i e h other ∙ a .amount ∙ sym (s .amount);
-        time = of-before _ _ i e h other ∙ a .time ∙ sym (s .time);
-        txid = of-before _ _ i e h other ∙ a .txid ∙ ap unpadded (sym (s .txid));
-        bank = of-before _ _ i e h other ∙ a .bank ∙ ap (isBank (dayFile file .roster)) (sym (s .payee));
-        payer = λ p l. of-before _ _ i e h other ∙ a .payer p l ∙ ap (λ (q : ℕ). eqb q p) (sym (s .payer));
+        amount = of-before _ _ _ i e h other ∙ a .amount ∙ sym (s .amount);
+        time = of-before _ _ _ i e h other ∙ a .time ∙ sym (s .time);
+        txid = of-before _ _ _ i e h other ∙ a .txid ∙ ap unpadded (sym (s .txid));
+        bank = of-before _ _ _ i e h other ∙ a .bank ∙ ap (isBank ps) (sym (s .payee));
+        payer = λ p l. of-before _ _ _ i e h other ∙ a .payer p l ∙ ap (λ (q : ℕ). eqb q p) (sym (s .payer));
         waiting = waiting;
         once = once;
-        alike = subst (λ (n : ℕ). AllCarry (endCode (o′ .status)) n (allEndings i (e ∷ h))) (sym (s .amount)) alike;
+        alike = subst (λ (n : ℕ). AllCarry (endCode (o′ .status)) n (allEndings i (e ▹ h))) (sym (s .amount)) alike;
       }
 
   -- none while it waits, one after
   abbrev ends : Bool → ℕ
   ends x = cond x 0 1
 
-  pub order-goes : Fate (asksAbout i e h) i o o′ (e .reports) → OrderAgrees file (e ∷ h) i o′
+  pub order-goes : Fate (asksAbout i e h) i o o′ (e .reports) → OrderAgrees ps (e ▹ h) i o′
   order-goes (kept none w c) =
       together
       (ap isNone (so-far [] none) ∙ a .waiting ∙ sym w)

@@ -12,6 +12,7 @@ use Rattle.ticket.specs.declared.Fields.{Fields}
 use Rattle.ticket.specs.declared.kinds.Kind.the-variants as kind
 use Rattle.report.specs.Ending.{endingsIn}
 use Rattle.report.specs.declared.Report.{Report}
+use Rattle.dayfile.specs.declared.roster.Roster.{Roster}
 use Rattle.rules.specs.Status.{isWaiting}
 use Rattle.rules.specs.Cover.{transferred}
 use Rattle.rules.specs.Tell.{listed}
@@ -28,16 +29,15 @@ use Rattle.rules.specs.declared.Book.{Book}
 use Rattle.rules.proofs.Moving.{for-none}
 use Rattle.rules.proofs.Accepting.{fieldsOf}
 use Rattle.rules.proofs.Accepting as accepting
-use Rattle.audit.specs.History.{History, size}
-use Rattle.audit.specs.Orders.{orderCount, orderTxid, asksAbout}
-use Rattle.audit.proofs.Agreeing.{endCode}
+use Rattle.audit.specs.History.{History}
+use Rattle.audit.specs.Orders.{orderCount, orderTxid, asksAbout, endCode}
 use Rattle.audit.proofs.Fates.{Fate, SameOrder}
 use Rattle.audit.proofs.Events.{OwnOrder, OwnStep}
 use Rattle.audit.proofs.Telling.{NoCuts}
 use Rattle.audit.proofs.Own.{Taken, takenEvent, OwnStepOf, kind-is, sender-below}
 use Rattle.audit.proofs.About.{AllAbout, about-own, two-covers}
 
-module _ {file : List ℕ} {h : History} {w : Book} {t : List ℕ} {time n : ℕ} {rs₀ : List Report} (k : Taken file h w t (fieldsOf kind.Inquiry time n) rs₀) where
+module _ {ps : Roster} {h : History} {w : Book} {t : List ℕ} {time n : ℕ} {rs₀ : List Report} (k : Taken ps h w t (fieldsOf kind.Inquiry time n) rs₀) where
   abbrev f : Fields
   f = fieldsOf kind.Inquiry time n
 
@@ -63,7 +63,7 @@ module _ {file : List ℕ} {h : History} {w : Book} {t : List ℕ} {time n : ℕ
   alike = record { amount = refl; time = refl; txid = refl; payer = refl; payee = refl }
 
   answered : (rs : List Report) → AllAbout j rs → NoCuts rs → OwnOrder (asksAbout j (takenEvent t rs₀ rs) h) j o o rs
-      → OwnStep file h (takenEvent t rs₀ rs) w (applied w (orderKept x nobody false Told.Nobody)) rs
+      → OwnStep ps h (takenEvent t rs₀ rs) w (applied w (orderKept x nobody false Told.Nobody)) rs
   answered rs about quiet this =
       let someone : 0 < w .roster .size = let b = sender-below k refl in omega arith in
       about-own k rs o (transferred nobody (transferred nobody (w .covers))) refl (rw (kind-is k)) about this
@@ -79,20 +79,20 @@ module _ {file : List ℕ} {h : History} {w : Book} {t : List ℕ} {time n : ℕ
   repeat-order r rs w′ is code amount =
       record { fate = Fate.repeated (asks (r ∷ rs)) w′ w′ refl r is (code, amount, tt); same = alike; quiet = rw w′ }
 
-  settled : (m : Recall) → o .status ≡ status.Settled m → let rs = listed (settledAnswer x m) in OwnStep file h (takenEvent t rs₀ rs) w (applied w (orderKept x nobody false Told.Nobody)) rs
+  settled : (m : Recall) → o .status ≡ status.Settled m → let rs = listed (settledAnswer x m) in OwnStep ps h (takenEvent t rs₀ rs) w (applied w (orderKept x nobody false Told.Nobody)) rs
   settled m e =
       go m (ap isWaiting e) (sym (ap endCode e))
     where
       go : (m : Recall) → isWaiting (o .status) ≡ false → _≡_ {A = ℕ} 2 (endCode (o .status))
-          → let rs = listed (settledAnswer x m) in OwnStep file h (takenEvent t rs₀ rs) w (applied w (orderKept x nobody false Told.Nobody)) rs
+          → let rs = listed (settledAnswer x m) in OwnStep ps h (takenEvent t rs₀ rs) w (applied w (orderKept x nobody false Told.Nobody)) rs
       go mark.None w′ c = answered _ (refl, tt) (refl, tt) (repeat-order (toPayer x 2) [] w′ (simp (eq-eqb j j refl)) c refl)
       go mark.Asked w′ c = answered _ (refl, (refl, tt)) (refl, (refl, tt)) (repeat-order (toPayer x 2) (toPayee x 8 ∷ []) w′ (simp (eq-eqb j j refl)) c refl)
       go mark.Declined w′ c = answered _ (refl, (refl, tt)) (refl, (refl, tt)) (repeat-order (toPayer x 2) (toPayer x 7 ∷ []) w′ (simp (eq-eqb j j refl)) c refl)
 
-  by-status : (s : Status) → o .status ≡ s → let rs = listed (answerOf x s) in OwnStep file h (takenEvent t rs₀ rs) w (applied w (orderKept x nobody false Told.Nobody)) rs
+  by-status : (s : Status) → o .status ≡ s → let rs = listed (answerOf x s) in OwnStep ps h (takenEvent t rs₀ rs) w (applied w (orderKept x nobody false Told.Nobody)) rs
   by-status status.Waiting e = go (x .bank)
     where
-      go : (z : Bool) → let rs = cond z (toPayer x 9) (toPayee x 8) ∷ [] in OwnStep file h (takenEvent t rs₀ rs) w (applied w (orderKept x nobody false Told.Nobody)) rs
+      go : (z : Bool) → let rs = cond z (toPayer x 9) (toPayee x 8) ∷ [] in OwnStep ps h (takenEvent t rs₀ rs) w (applied w (orderKept x nobody false Told.Nobody)) rs
       go true = answered _ (refl, tt) (refl, tt) (quiet-order (toPayer x 9 ∷ []) (simp and-false))
       go false = answered _ (refl, tt) (refl, tt) (quiet-order (toPayee x 8 ∷ []) (simp and-false))
   by-status status.Refused e = answered _ (refl, tt) (refl, tt) (repeat-order (toPayer x 3) [] (ap isWaiting e) (simp (eq-eqb j j refl)) (sym (ap endCode e)) refl)
@@ -100,5 +100,5 @@ module _ {file : List ℕ} {h : History} {w : Book} {t : List ℕ} {time n : ℕ
   by-status status.Returned e = answered _ (refl, tt) (refl, tt) (quiet-order (toPayer x 6 ∷ []) (simp and-false))
   by-status (status.Settled m) e = settled m e
 
-  pub inquiry-own : OwnStepOf file h w t (fieldsOf kind.Inquiry time n) rs₀
+  pub inquiry-own : OwnStepOf ps h w t (fieldsOf kind.Inquiry time n) rs₀
   inquiry-own = by-status (o .status) refl

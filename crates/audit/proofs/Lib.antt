@@ -4,6 +4,7 @@ pub mod Pieces
 pub mod Days
 pub mod Mistakes
 pub mod Wrong
+pub mod Continued
 pub mod Agreeing
 pub mod Fates
 pub mod Events
@@ -16,9 +17,13 @@ pub mod Answers
 pub mod Recalls
 pub mod Inquiries
 pub mod Opening
+pub mod Starting
 pub mod Running
 pub mod Balance
 pub mod Parties
+pub mod Carrying
 pub mod Theorem
+pub mod Nothing
+pub mod Fresh
 pub mod Corollaries
 pub mod Worked

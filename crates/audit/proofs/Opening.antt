@@ -11,7 +11,6 @@ use Rattle.ticket.specs.declared.Fields.{Fields}
 use Rattle.ticket.specs.declared.kinds.Kind.the-variants as kind
 use Rattle.report.specs.Ending.{endingsIn}
 use Rattle.report.specs.declared.Report.{Report}
-use Rattle.dayfile.specs.DayFile.{dayFile}
 use Rattle.dayfile.specs.declared.roster.Roster.{Roster}
 use Rattle.rules.specs.Book.{noOrder, orderOf, isBank}
 use Rattle.rules.specs.Tell.{tellOrder}
@@ -23,14 +22,14 @@ use Rattle.rules.specs.declared.Book.{Book}
 use Rattle.rules.proofs.Moving.{for-none}
 use Rattle.rules.proofs.Accepting.{fieldsOf}
 use Rattle.rules.proofs.Accepting as accepting
-use Rattle.audit.specs.History.{History, size}
+use Rattle.audit.specs.History.{History}
 use Rattle.audit.specs.Orders.{toBank, asksAbout}
 use Rattle.audit.proofs.Events.{Opened, Growth}
 use Rattle.audit.proofs.Telling.{first-after}
 use Rattle.audit.proofs.Own.{Taken, takenEvent, OwnStepOf, order-left, kind-is, amount-is, sent, sender-below}
 use Rattle.audit.proofs.About.{two-covers}
 
-module _ {file : List ℕ} {h : History} {w : Book} {t : List ℕ} {time n : ℕ} {rs₀ : List Report} (k : Taken file h w t (fieldsOf kind.Order time n) rs₀) where
+module _ {ps : Roster} {h : History} {w : Book} {t : List ℕ} {time n : ℕ} {rs₀ : List Report} (k : Taken ps h w t (fieldsOf kind.Order time n) rs₀) where
   abbrev f : Fields
   f = fieldsOf kind.Order time n
 
@@ -47,23 +46,23 @@ module _ {file : List ℕ} {h : History} {w : Book} {t : List ℕ} {time n : ℕ
   last : orderOf (set (w .orders) (w .count) o) (w .count) ≡ o
   last = getD-set-same (w .orders) (w .count) o noOrder (rw (k .midway .sound .orders .long) (accepting.room-left w f t (k .passed .r15) refl))
 
-  pub order-payee : o .payee < size file
+  pub order-payee : o .payee < ps .size
   order-payee = subst (λ (r : Roster). o .payee < r .size) (k .midway .roster) (accepting.payee-known w f t (k .midway .sound .roster) (k .passed .r14) refl)
 
-  opened : Opened file (takenEvent t rs₀ rs) o
+  opened : Opened ps (takenEvent t rs₀ rs) o
   opened =
       record {
         amount = amount-is k;
         time = sym (k .tells .time) ∙ sym (k .clock);
         txid = refl;
         bank =
-            ap (toBank file) (first-after 1 rs₀ rs (k .code) refl)
-            ∙ ap (λ (x : Bool). x && isBank (dayFile file .roster) (o .payee)) (lt-ltb (o .payee) (size file) order-payee);
+            ap (toBank ps) (first-after 1 rs₀ rs (k .code) refl)
+            ∙ ap (λ (x : Bool). x && isBank ps (o .payee)) (lt-ltb (o .payee) (ps .size) order-payee);
         payer = λ p l. sent k refl p l;
         waiting = refl;
       }
 
-  pub order-own : OwnStepOf file h w t (fieldsOf kind.Order time n) rs₀
+  pub order-own : OwnStepOf ps h w t (fieldsOf kind.Order time n) rs₀
   order-own =
       let sender = sender-below k refl in
       record {

@@ -15,7 +15,6 @@ use Rattle.ticket.specs.declared.Fields.{Fields}
 use Rattle.ticket.proofs.Telling.{Tells, tells-bytes}
 use Rattle.report.specs.Ending.{endingsIn}
 use Rattle.report.specs.declared.Report.{Report}
-use Rattle.dayfile.specs.DayFile.{dayFile}
 use Rattle.dayfile.specs.Roster.{participantOf}
 use Rattle.dayfile.specs.declared.roster.Roster.{Roster}
 use Rattle.rules.specs.Book.{noOrder, orderOf, coverOf}
@@ -36,22 +35,21 @@ use Rattle.rules.proofs.Refusing.{NoRefusal}
 use Rattle.rules.proofs.Accepting as accepting
 use Rattle.rules.proofs.Senders.{who-sends}
 use Rattle.rules.proofs.Expiring.{AllCode}
-use Rattle.audit.specs.History.{Event, History, size}
+use Rattle.audit.specs.History.{Event, History, _▹_}
 use Rattle.audit.specs.Sums.{lastCut, goesOut, comesIn}
-use Rattle.audit.specs.Orders.{isOrder, orderCount, orderTxid, asksAbout}
-use Rattle.audit.proofs.Agreeing.{endCode}
+use Rattle.audit.specs.Orders.{isOrder, orderCount, orderTxid, asksAbout, endCode}
 use Rattle.audit.proofs.Fates.{Fate}
 use Rattle.audit.proofs.Events.{OwnOrder, OwnCover, Growth, OwnStep}
 use Rattle.audit.proofs.Telling.{NoCuts, cut-after}
 
 -- what is known of the book after the expiries
-pub record Midway (file : List ℕ) (h : History) (w : Book) : Type 0 where
+pub record Midway (ps : Roster) (h : History) (w : Book) : Type 0 where
   pub sound : Sound w
-  pub roster : w .roster ≡ dayFile file .roster
+  pub roster : w .roster ≡ ps
   pub count : w .count ≡ orderCount h
   pub txid : (i : ℕ) → i < w .count → orderTxid i h ≡ unpadded (orderOf (w .orders) i .txid)
-  pub held : (p : ℕ) → p < size file → (coverOf (w .covers) p .held ≡ 0) ⊎ (lastCut p h ≡ 11)
-  pub debit : (p : ℕ) → p < size file → (coverOf (w .covers) p .debit ≡ 0) ⊎ (lastCut p h ≡ 10)
+  pub held : (p : ℕ) → p < ps .size → (coverOf (w .covers) p .held ≡ 0) ⊎ (lastCut p h ≡ 11)
+  pub debit : (p : ℕ) → p < ps .size → (coverOf (w .covers) p .debit ≡ 0) ⊎ (lastCut p h ≡ 10)
 
 -- an order that is as it was, and that nothing is told of
 pub order-left : (asks : Bool) (i : ℕ) (o o′ : Order) (rs : List Report) → o′ ≡ o → endingsIn i rs ≡ [] → OwnOrder asks i o o′ rs
@@ -70,19 +68,19 @@ order-left asks i o o′ rs same quiet =
     }
 
 -- held and open debit are as they were, or nothing; no cut is told
-pub cover-goes : (file : List ℕ) (h : History) (e : Event) (p : ℕ) (c c′ : Cover)
-    → whole c′ + goesOut file p e h ≡ whole c + comesIn file p e h → lastCut p (e ∷ h) ≡ lastCut p h
-    → (c′ .held ≡ 0) ⊎ (c′ .held ≡ c .held) → (c′ .debit ≡ 0) ⊎ (c′ .debit ≡ c .debit) → OwnCover file h e p c c′
-cover-goes file h e p c c′ adds told held debit = record { adds = adds; held = mark 11 (c .held) (c′ .held) held; debit = mark 10 (c .debit) (c′ .debit) debit }
+pub cover-goes : (ps : Roster) (h : History) (e : Event) (p : ℕ) (c c′ : Cover)
+    → whole c′ + goesOut ps p e h ≡ whole c + comesIn ps p e h → lastCut p (e ▹ h) ≡ lastCut p h
+    → (c′ .held ≡ 0) ⊎ (c′ .held ≡ c .held) → (c′ .debit ≡ 0) ⊎ (c′ .debit ≡ c .debit) → OwnCover ps h e p c c′
+cover-goes ps h e p c c′ adds told held debit = record { adds = adds; held = mark 11 (c .held) (c′ .held) held; debit = mark 10 (c .debit) (c′ .debit) debit }
   where
-    mark : (code n n′ : ℕ) → (n′ ≡ 0) ⊎ (n′ ≡ n) → (n ≡ 0) ⊎ (lastCut p h ≡ code) → (n′ ≡ 0) ⊎ (lastCut p (e ∷ h) ≡ code)
+    mark : (code n n′ : ℕ) → (n′ ≡ 0) ⊎ (n′ ≡ n) → (n ≡ 0) ⊎ (lastCut p h ≡ code) → (n′ ≡ 0) ⊎ (lastCut p (e ▹ h) ≡ code)
     mark code n n′ (inl nothing) before = inl nothing
     mark code n n′ (inr same) (inl nothing) = inl (same ∙ nothing)
     mark code n n′ (inr same) (inr was) = inr (told ∙ was)
 
 -- a ticket with fields f that no refusal applies to, after the expiries with reports rs₀
-pub record Taken (file : List ℕ) (h : History) (w : Book) (t : List ℕ) (f : Fields) (rs₀ : List Report) : Type 0 where
-  pub midway : Midway file h w
+pub record Taken (ps : Roster) (h : History) (w : Book) (t : List ℕ) (f : Fields) (rs₀ : List Report) : Type 0 where
+  pub midway : Midway ps h w
   pub tells : Tells t f
   pub clock : w .clock ≡ f .time
   pub passed : NoRefusal (finding w f t)
@@ -93,12 +91,12 @@ abbrev pub takenEvent : List ℕ → List Report → List Report → Event
 takenEvent t rs₀ rs = record { ticket = t; refusal = 0; reports = rs₀ ++ rs }
 
 -- its own step
-abbrev pub OwnStepOf : List ℕ → History → Book → List ℕ → Fields → List Report → Type 0
-OwnStepOf file h w t f rs₀ =
+abbrev pub OwnStepOf : Roster → History → Book → List ℕ → Fields → List Report → Type 0
+OwnStepOf ps h w t f rs₀ =
     let d = decisionOf (finding w f t) in
-    OwnStep file h (takenEvent t rs₀ (toldBy w d)) w (applied w d) (toldBy w d)
+    OwnStep ps h (takenEvent t rs₀ (toldBy w d)) w (applied w d) (toldBy w d)
 
-module _ {file : List ℕ} {h : History} {w : Book} {t : List ℕ} {f : Fields} {rs₀ : List Report} (k : Taken file h w t f rs₀) where
+module _ {ps : Roster} {h : History} {w : Book} {t : List ℕ} {f : Fields} {rs₀ : List Report} (k : Taken ps h w t f rs₀) where
   pub kind-is : kindByte t ≡ kindNumber (f .kind)
   kind-is = tells-bytes t f (k .tells) .number
 
@@ -106,8 +104,8 @@ module _ {file : List ℕ} {h : History} {w : Book} {t : List ℕ} {f : Fields} 
   amount-is = sym (k .tells .amount)
 
   -- its sender
-  pub sent : namesSender (termsOf (f .kind) .subject) ≡ true → (p : ℕ) → p < size file
-      → same (participantOf (dayFile file .roster) p .bic) (senderOf t) ≡ eqb (accepting.senderNumber w f t) p
+  pub sent : namesSender (termsOf (f .kind) .subject) ≡ true → (p : ℕ) → p < ps .size
+      → same (participantOf ps p .bic) (senderOf t) ≡ eqb (accepting.senderNumber w f t) p
   sent named p l =
       ap (λ (r : Roster). same (participantOf r p .bic) (senderOf t)) (sym (k .midway .roster))
       ∙ who-sends (w .roster) (k .midway .sound .roster) (senderOf t) (accepting.senderNumber w f t) (accepting.sender-found w f t (k .passed .r12) named) p
@@ -116,13 +114,13 @@ module _ {file : List ℕ} {h : History} {w : Book} {t : List ℕ} {f : Fields} 
   pub sender-below : namesSender (termsOf (f .kind) .subject) ≡ true → accepting.senderNumber w f t < w .roster .size
   sender-below named = accepting.sender-found w f t (k .passed .r12) named .below
 
-  pub sender-known : namesSender (termsOf (f .kind) .subject) ≡ true → accepting.senderNumber w f t < size file
+  pub sender-known : namesSender (termsOf (f .kind) .subject) ≡ true → accepting.senderNumber w f t < ps .size
   sender-known named = subst (λ (r : Roster). accepting.senderNumber w f t < r .size) (k .midway .roster) (sender-below named)
 
   -- a step that leaves every order as it is, and tells no ending
   pub steady : (b′ : Book) (rs : List Report) → b′ .roster ≡ w .roster → b′ .count ≡ w .count → ((i : ℕ) → orderOf (b′ .orders) i ≡ orderOf (w .orders) i)
       → isOrder (takenEvent t rs₀ rs) ≡ false → ((i : ℕ) → endingsIn i rs ≡ [])
-      → ((p : ℕ) → p < size file → OwnCover file h (takenEvent t rs₀ rs) p (coverOf (w .covers) p) (coverOf (b′ .covers) p)) → OwnStep file h (takenEvent t rs₀ rs) w b′ rs
+      → ((p : ℕ) → p < ps .size → OwnCover ps h (takenEvent t rs₀ rs) p (coverOf (w .covers) p) (coverOf (b′ .covers) p)) → OwnStep ps h (takenEvent t rs₀ rs) w b′ rs
   steady b′ rs roster count orders isnt quiet covers =
       record {
         roster = roster;
@@ -137,21 +135,21 @@ module _ {file : List ℕ} {h : History} {w : Book} {t : List ℕ} {f : Fields} 
   orders-kept i = ap (λ (os : List Order). orderOf os i) (set-getD (w .orders) (accepting.orderNumber w f t) noOrder)
 
   -- no cut is told
-  pub uncut : (rs : List Report) → NoCuts rs → (p : ℕ) → lastCut p (takenEvent t rs₀ rs ∷ h) ≡ lastCut p h
+  pub uncut : (rs : List Report) → NoCuts rs → (p : ℕ) → lastCut p (takenEvent t rs₀ rs ▹ h) ≡ lastCut p h
   uncut rs n p = cut-after p (lastCut p h) rs₀ rs (k .code) n
 
   -- one cover moves, and nothing is told
   pub moved-own : (v : Transfer) → v .who < w .roster .size → Enough (v .how) (v .amount) (coverOf (w .covers) (v .who)) → isOrder (takenEvent t rs₀ []) ≡ false
       → (moved (v .how) (v .amount) (coverOf (w .covers) (v .who)) .held ≡ 0) ⊎ (moved (v .how) (v .amount) (coverOf (w .covers) (v .who)) .held ≡ coverOf (w .covers) (v .who) .held)
       → (moved (v .how) (v .amount) (coverOf (w .covers) (v .who)) .debit ≡ 0) ⊎ (moved (v .how) (v .amount) (coverOf (w .covers) (v .who)) .debit ≡ coverOf (w .covers) (v .who) .debit)
-      → ((p : ℕ) → p < size file → goesOut file p (takenEvent t rs₀ []) h ≡ onlyFor (v .who) p (loss (v .how) (v .amount) (coverOf (w .covers) (v .who))))
-      → ((p : ℕ) → p < size file → comesIn file p (takenEvent t rs₀ []) h ≡ onlyFor (v .who) p (gain (v .how) (v .amount)))
-      → OwnStep file h (takenEvent t rs₀ []) w (applied w (orderKept (finding w f t) v false Told.Nobody)) []
+      → ((p : ℕ) → p < ps .size → goesOut ps p (takenEvent t rs₀ []) h ≡ onlyFor (v .who) p (loss (v .how) (v .amount) (coverOf (w .covers) (v .who))))
+      → ((p : ℕ) → p < ps .size → comesIn ps p (takenEvent t rs₀ []) h ≡ onlyFor (v .who) p (gain (v .how) (v .amount)))
+      → OwnStep ps h (takenEvent t rs₀ []) w (applied w (orderKept (finding w f t) v false Told.Nobody)) []
   moved-own v who enough isnt held debit out in′ =
       steady (applied w (orderKept (finding w f t) v false Told.Nobody)) [] refl refl orders-kept isnt (λ i. refl)
       (λ p l.
       rw (nobody-moves (transferred v (w .covers)))
-      (cover-goes file h (takenEvent t rs₀ []) p (coverOf (w .covers) p) (coverOf (transferred v (w .covers)) p)
+      (cover-goes ps h (takenEvent t rs₀ []) p (coverOf (w .covers) p) (coverOf (transferred v (w .covers)) p)
       (let e = transfer-whole fit v who enough p in let o = out p l in let i = in′ p l in omega arith)
       (uncut [] tt p)
       (mark (λ (c : Cover). c .held) held p)

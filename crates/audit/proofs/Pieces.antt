@@ -5,6 +5,7 @@ use Prim.Native.Nat.{ℕ}
 use Prim.Native.String.{String}
 use Rattle.ticket.specs.Writing.{coverInTicket, orderTicket, yesTicket, tickTicket}
 use Rattle.dayfile.specs.Writing.{fileBytes, bank, bankOpening, linked, direct}
+use Rattle.rules.specs.Book.{bookOf}
 use Rattle.rules.specs.declared.Status.{Status}
 use Rattle.rules.specs.declared.Cover.{Cover}
 use Rattle.rules.proofs.Names.{bicA, bicB, bicL, tx1, tx2, ibanD, twoBanks}
@@ -24,7 +25,8 @@ opening = fileBytes (bankOpening bicA 100 ∷ bank bicB ∷ []) (direct bicB 1 �
 -- what it shows, the day file, the events, the book's covers and its orders' statuses, the clauses that fail
 abbrev pub row : String → List ℕ → List Event → List Cover → List Status → String → Written
 row shows file events covers statuses fails =
-    record { shows = shows; file = file; events = events; book = bookWith file covers statuses; fails = fails }
+    let b = bookOf file in
+    record { shows = shows; start = b; events = events; book = bookWith (b .roster) covers statuses; fails = fails }
 
 -- A lodges 1000
 abbrev pub lodged : Event

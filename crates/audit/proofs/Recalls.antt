@@ -9,6 +9,7 @@ use Rattle.ticket.specs.declared.Fields.{Fields}
 use Rattle.ticket.specs.declared.kinds.Kind.the-variants as kind
 use Rattle.report.specs.Ending.{isEnding}
 use Rattle.report.specs.declared.Report.{Report}
+use Rattle.dayfile.specs.declared.roster.Roster.{Roster}
 use Rattle.rules.specs.Book.{coverOf}
 use Rattle.rules.specs.Status.{isWaiting, isUnmarked, isAsked, withStatus}
 use Rattle.rules.specs.Cover.{transferred}
@@ -26,10 +27,9 @@ use Rattle.rules.proofs.Moving.{for-none}
 use Rattle.rules.proofs.Accepting.{fieldsOf}
 use Rattle.rules.proofs.Accepting as accepting
 use Rattle.rules.proofs.Stepping.{unmarked-not-waiting, asked-not-waiting}
-use Rattle.audit.specs.History.{History, size}
+use Rattle.audit.specs.History.{History}
 use Rattle.audit.specs.Sums.{firstWith, goesOut, comesIn}
-use Rattle.audit.specs.Orders.{isOrder, asksAbout}
-use Rattle.audit.proofs.Agreeing.{endCode}
+use Rattle.audit.specs.Orders.{isOrder, asksAbout, endCode}
 use Rattle.audit.proofs.Fates.{Fate}
 use Rattle.audit.proofs.Events.{OwnOrder, OwnStep}
 use Rattle.audit.proofs.Telling.{isCut, first-after}
@@ -57,14 +57,14 @@ marked-order : (asks : Bool) (i : ℕ) (o : Order) (s : Status) (r : Report) →
 marked-order asks i o s r isnt w′ w c =
     record { fate = Fate.kept (rw isnt) (w′ ∙ sym w) c; same = status-same o s; quiet = rw (isnt, w) }
 
-module _ {file : List ℕ} {h : History} {w : Book} {t : List ℕ} {f : Fields} {rs₀ : List Report} (k : Taken file h w t f rs₀)
+module _ {ps : Roster} {h : History} {w : Book} {t : List ℕ} {f : Fields} {rs₀ : List Report} (k : Taken ps h w t f rs₀)
     (named : namesOrder (termsOf (f .kind) .subject) ≡ true) (sends : namesSender (termsOf (f .kind) .subject) ≡ true) where
   -- the order's mark changes, one report that is no ending is told, and no cover moves
   mark-own : (s : Status) (r : Report) → r .order ≡ accepting.orderNumber w f t → isEnding (accepting.orderNumber w f t) r ≡ false → isCut r ≡ false
       → isWaiting s ≡ false → isWaiting (accepting.theOrder w f t .status) ≡ false → endCode s ≡ endCode (accepting.theOrder w f t .status)
       → isOrder (takenEvent t rs₀ (r ∷ [])) ≡ false
-      → ((p : ℕ) → goesOut file p (takenEvent t rs₀ (r ∷ [])) h ≡ 0) → ((p : ℕ) → comesIn file p (takenEvent t rs₀ (r ∷ [])) h ≡ 0)
-      → OwnStep file h (takenEvent t rs₀ (r ∷ [])) w (applied w (orderBecomes (finding w f t) s nobody nobody (One r))) (r ∷ [])
+      → ((p : ℕ) → goesOut ps p (takenEvent t rs₀ (r ∷ [])) h ≡ 0) → ((p : ℕ) → comesIn ps p (takenEvent t rs₀ (r ∷ [])) h ≡ 0)
+      → OwnStep ps h (takenEvent t rs₀ (r ∷ [])) w (applied w (orderBecomes (finding w f t) s nobody nobody (One r))) (r ∷ [])
   mark-own s r about isnt quiet w′ ended same no-order out in′ =
       let o = accepting.theOrder w f t in
       let j = accepting.orderNumber w f t in
@@ -75,9 +75,9 @@ module _ {file : List ℕ} {h : History} {w : Book} {t : List ℕ} {f : Fields} 
       two-covers k (r ∷ []) (quiet, tt) nobody nobody someone someone tt tt refl refl refl refl p
       (let z = for-none 0 p in let a = out p in omega arith) (let z = for-none 0 p in let a = in′ p in omega arith))
 
-module _ {file : List ℕ} {h : History} {w : Book} {t : List ℕ} {time n : ℕ} {rs₀ : List Report} where
-  pub recall-own : Taken file h w t (fieldsOf kind.Recall time n) rs₀
-      → OwnStepOf file h w t (fieldsOf kind.Recall time n) rs₀
+module _ {ps : Roster} {h : History} {w : Book} {t : List ℕ} {time n : ℕ} {rs₀ : List Report} where
+  pub recall-own : Taken ps h w t (fieldsOf kind.Recall time n) rs₀
+      → OwnStepOf ps h w t (fieldsOf kind.Recall time n) rs₀
   recall-own k =
       let f : Fields = fieldsOf kind.Recall time n in
       let j = accepting.orderNumber w f t in
@@ -86,8 +86,8 @@ module _ {file : List ℕ} {h : History} {w : Book} {t : List ℕ} {time n : ℕ
       mark-own k refl refl (status.Settled mark.Asked) (toPayee (finding w f t) 5) refl (and-false (eqb j j)) refl refl
       (unmarked-not-waiting (o .status) right) (sym (unmarked-code (o .status) right)) (rw (kind-is k)) (λ p. rw (kind-is k)) (λ p. rw (kind-is k))
 
-  pub decline-own : Taken file h w t (fieldsOf kind.Decline time n) rs₀
-      → OwnStepOf file h w t (fieldsOf kind.Decline time n) rs₀
+  pub decline-own : Taken ps h w t (fieldsOf kind.Decline time n) rs₀
+      → OwnStepOf ps h w t (fieldsOf kind.Decline time n) rs₀
   decline-own k =
       let f : Fields = fieldsOf kind.Decline time n in
       let j = accepting.orderNumber w f t in
@@ -97,8 +97,8 @@ module _ {file : List ℕ} {h : History} {w : Book} {t : List ℕ} {time n : ℕ
       (asked-not-waiting (o .status) right) (sym (asked-code (o .status) right)) (rw (kind-is k)) (λ p. rw (kind-is k)) (λ p. rw (kind-is k))
 
   -- the payee's available falls, the payer's rises, as told by report 6
-  pub return-own : Taken file h w t (fieldsOf kind.Return time n) rs₀
-      → OwnStepOf file h w t (fieldsOf kind.Return time n) rs₀
+  pub return-own : Taken ps h w t (fieldsOf kind.Return time n) rs₀
+      → OwnStepOf ps h w t (fieldsOf kind.Return time n) rs₀
   return-own k =
       let right = accepting.status-meets w f t (k .passed .r18) in
       let party : accepting.senderNumber w f t ≡ o .payee = accepting.right-party w f t (k .passed .r17) refl in

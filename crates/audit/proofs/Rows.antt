@@ -1,11 +1,11 @@
--- Rows of histories. A day is what the rules give for a day file and its tickets; a written history is put down by hand, right or wrong.
---     Day          a day file, its tickets, and what the sums, the orders and the book at the end come to
+-- Rows of histories. A day is what the rules give for a book and tickets; a written history is put down by hand, right or wrong.
+--     Day          a book, tickets, and what the sums, the orders and the book at the end come to
 --     IsRight      they come to that, and the claim holds
---     Written      events, the book at the end, and the claim's clauses that fail of them, by name
+--     Written      a book, events, the book at the end, and the claim's clauses that fail of them, by name
 --     AllFalse     of each, just these clauses fail, and the claim is false
 --     AllTrue      of each, no clause fails, and the claim holds
 -- Assumes nothing.
-use Prim.Native.Nat.{ℕ, zero, suc}
+use Prim.Native.Nat.{ℕ, zero, suc, _-_}
 use Prim.Native.String.{String}
 use mathlib.Core.Path.{_≡_}
 use mathlib.Core.Bool.{Bool, true, _&&_, not, cond}
@@ -13,54 +13,58 @@ use mathlib.Core.List.{List, [], _∷_, _++_, map}
 use borrow.Author.Tests.{not-true}
 use lib.ListN.{length, replicate}
 use Rattle.codes.specs.Answer.{answer}
-use Rattle.fields.specs.Text.{text, same}
+use Rattle.fields.specs.Text.{text, same, padded}
 use Rattle.fields.proofs.Tests.{and-left, and-right}
 use Rattle.fields.proofs.Same.{same-true}
 use Rattle.report.specs.declared.Report.{Report}
-use Rattle.rules.specs.Book.{bookOf, coverOf, unusedOrder}
+use Rattle.dayfile.specs.Limits.{mostParticipants}
+use Rattle.dayfile.specs.declared.roster.Roster.{Roster}
+use Rattle.rules.specs.Book.{mostOrders, noCover, coverOf, unusedOrder}
 use Rattle.rules.specs.Status.{withStatus}
 use Rattle.rules.specs.Refusal.{leastBuffer}
+use Rattle.rules.specs.Inputs.{Input, bookFrom}
 use Rattle.rules.specs.declared.Status.{Status}
+use Rattle.rules.specs.declared.Order.{Order}
 use Rattle.rules.specs.declared.Cover.{Cover}
 use Rattle.rules.specs.declared.Book.{Book}
-use Rattle.audit.specs.History.{Event, History, sumOver, size}
+use Rattle.audit.specs.History.{Event, History, from, _▹_, sumOver}
 use Rattle.audit.specs.Sums.{coverIn, coverOut, debit, credit, settledTo, settledFrom, returnBy, returnTo}
 use Rattle.audit.specs.Orders.{orderCount, orderAmount, orderTime, isForBank, waits, allEndings}
 use Rattle.audit.specs.Claim.{Claim}
-use Rattle.audit.specs.Run.{Input, Run, eventsOf, run}
+use Rattle.audit.specs.Run.{historyOf}
 use Rattle.audit.proofs.Testing.{clauses, allPass, claim-holds, claim-fails}
 
-abbrev pub inputs : List (List ℕ) → List Input → List Input
-inputs [] before = before
-inputs (t ∷ ts) before = inputs ts (record { ticket = t; buffer = replicate leastBuffer 0 } ∷ before)
-
--- the run of the rules on tickets, oldest first, each with a buffer of the least length, all zero
-abbrev pub ruled : List ℕ → List (List ℕ) → Run
-ruled file tickets = run file (inputs tickets [])
+-- tickets, each with a buffer of the least length, all zero
+abbrev pub inputs : List (List ℕ) → List Input
+inputs [] = []
+inputs (t ∷ ts) = record { ticket = t; buffer = replicate leastBuffer 0 } ∷ inputs ts
 
 -- a participant's eight sums: cover in and out, debits and credits, settled to and from, returns by and to
-abbrev pub sums : List ℕ → History → ℕ → List ℕ
-sums file h p =
-    sumOver (λ e before. coverIn file p e) h
-    ∷ sumOver (λ e before. coverOut file p e) h
-    ∷ sumOver (debit file p) h
-    ∷ sumOver (credit file p) h
-    ∷ sumOver (λ e before. settledTo file p e) h
-    ∷ sumOver (λ e before. settledFrom p e) h
-    ∷ sumOver (λ e before. returnBy file p e) h
-    ∷ sumOver (λ e before. returnTo p e) h
+abbrev pub sums : Roster → History → ℕ → List ℕ
+sums ps h p =
+    since (λ e before. coverIn ps p e)
+    ∷ since (λ e before. coverOut ps p e)
+    ∷ since (debit ps p)
+    ∷ since (credit ps p)
+    ∷ since (λ e before. settledTo ps p e)
+    ∷ since (λ e before. settledFrom p e)
+    ∷ since (λ e before. returnBy ps p e)
+    ∷ since (λ e before. returnTo p e)
     ∷ []
+  where
+    since : (Event → History → ℕ) → ℕ
+    since f = sumOver (λ b. 0) f h
 
 -- a participant's cover in the book: available, reserved, held
 abbrev pub coverLeft : Book → ℕ → List ℕ
 coverLeft b p = let c = coverOf (b .covers) p in c .available ∷ c .reserved ∷ c .held ∷ []
 
 -- an order as seen: amount, time, whether for a bank, whether it waits, and the codes of its endings, newest ticket first
-abbrev pub orderSeen : List ℕ → History → ℕ → List ℕ
-orderSeen file h i =
+abbrev pub orderSeen : Roster → History → ℕ → List ℕ
+orderSeen ps h i =
     orderAmount i h
     ∷ orderTime i h
-    ∷ answer (isForBank file i h)
+    ∷ answer (isForBank ps i h)
     ∷ answer (waits i h)
     ∷ map (λ (r : Report). r .code) (allEndings i h)
 
@@ -71,7 +75,7 @@ eachTo row (suc n) = eachTo row n ++ (row n ∷ [])
 
 pub record Day : Type 0 where
   pub shows : String
-  pub file : List ℕ
+  pub start : Book
   pub tickets : List (List ℕ)
   -- each participant's eight sums
   pub sums : List (List ℕ)
@@ -80,33 +84,33 @@ pub record Day : Type 0 where
   -- each participant's cover at the end
   pub covers : List (List ℕ)
 
-abbrev pub runOf : Day → Run
-runOf d = ruled (d .file) (d .tickets)
+abbrev pub seenOn : Day → History
+seenOn d = historyOf (d .start) (inputs (d .tickets))
 
-abbrev pub eventsOn : Day → History
-eventsOn d = eventsOf (runOf d .seen)
+abbrev pub bookOn : Day → Book
+bookOn d = bookFrom (d .start) (inputs (d .tickets))
 
 abbrev pub IsRight : Day → Type 0
 IsRight d =
-    (eachTo (sums (d .file) (eventsOn d)) (size (d .file)) ≡ d .sums)
-    × (eachTo (orderSeen (d .file) (eventsOn d)) (orderCount (eventsOn d)) ≡ d .orders)
-    × (eachTo (coverLeft (runOf d .book)) (size (d .file)) ≡ d .covers)
-    × Claim (d .file) (eventsOn d) (runOf d .book)
+    (eachTo (sums (d .start .roster) (seenOn d)) (d .start .roster .size) ≡ d .sums)
+    × (eachTo (orderSeen (d .start .roster) (seenOn d)) (orderCount (seenOn d)) ≡ d .orders)
+    × (eachTo (coverLeft (bookOn d)) (d .start .roster .size) ≡ d .covers)
+    × Claim (seenOn d) (bookOn d)
 
 -- oldest first
 pub record Written : Type 0 where
   pub shows : String
-  pub file : List ℕ
+  pub start : Book
   pub events : List Event
   pub book : Book
   pub fails : String
 
 abbrev pub newestFirst : List Event → History → History
 newestFirst [] before = before
-newestFirst (e ∷ rest) before = newestFirst rest (e ∷ before)
+newestFirst (e ∷ rest) before = newestFirst rest (e ▹ before)
 
-abbrev pub historyOf : Written → History
-historyOf w = newestFirst (w .events) []
+abbrev pub written : Written → History
+written w = newestFirst (w .events) (from (w .start))
 
 -- the names of the clauses that fail
 abbrev pub failing : List Bool → List String → List (List ℕ)
@@ -124,18 +128,18 @@ abbrev pub clauseNames : List String
 clauseNames = "told" ∷ "cover" ∷ "reserved" ∷ "held" ∷ "waiting" ∷ "expiry" ∷ "known" ∷ "once" ∷ "alike" ∷ []
 
 abbrev pub clausesOf : Written → List Bool
-clausesOf w = clauses (w .file) (historyOf w) (w .book)
+clausesOf w = clauses (written w) (w .book)
 
 abbrev pub failsOf : Written → List ℕ
 failsOf w = withCommas (failing (clausesOf w) clauseNames)
 
 abbrev pub AllFalse : List Written → Type 0
 AllFalse [] = Unit {0}
-AllFalse (w ∷ ws) = (failsOf w ≡ text (w .fails)) × (Claim (w .file) (historyOf w) (w .book) → ⊥) × AllFalse ws
+AllFalse (w ∷ ws) = (failsOf w ≡ text (w .fails)) × (Claim (written w) (w .book) → ⊥) × AllFalse ws
 
 abbrev pub AllTrue : List Written → Type 0
 AllTrue [] = Unit {0}
-AllTrue (w ∷ ws) = (failsOf w ≡ text (w .fails)) × Claim (w .file) (historyOf w) (w .book) × AllTrue ws
+AllTrue (w ∷ ws) = (failsOf w ≡ text (w .fails)) × Claim (written w) (w .book) × AllTrue ws
 
 -- the tests that the checker computes
 abbrev pub allWrong : List Written → Bool
@@ -153,7 +157,7 @@ all-false (w ∷ ws) e =
     let fails = not (allPass (clausesOf w)) in
     let rest = and-right named (fails && allWrong ws) e in (
       same-true (failsOf w) (text (w .fails)) (and-left named (fails && allWrong ws) e),
-      claim-fails (w .file) (historyOf w) (w .book) (not-true (allPass (clausesOf w)) (and-left fails (allWrong ws) rest)),
+      claim-fails (written w) (w .book) (not-true (allPass (clausesOf w)) (and-left fails (allWrong ws) rest)),
       all-false ws (and-right fails (allWrong ws) rest),
     )
 
@@ -164,7 +168,7 @@ all-true (w ∷ ws) e =
     let passes = allPass (clausesOf w) in
     let rest = and-right named (passes && allPassed ws) e in (
       same-true (failsOf w) (text (w .fails)) (and-left named (passes && allPassed ws) e),
-      claim-holds (w .file) (historyOf w) (w .book) (and-left passes (allPassed ws) rest),
+      claim-holds (written w) (w .book) (and-left passes (allPassed ws) rest),
       all-true ws (and-right passes (allPassed ws) rest),
     )
 
@@ -180,13 +184,23 @@ report to code order amount = record { to = to; code = code; order = order; amou
 abbrev pub cover : ℕ → ℕ → ℕ → Cover
 cover available reserved held = record { available = available; reserved = reserved; held = held; debit = 0 }
 
--- a book with these covers, and orders of these statuses
-abbrev pub bookWith : List ℕ → List Cover → List Status → Book
-bookWith file cs ss =
+-- an order: TxId, payer, payee, amount, time, status
+abbrev pub order : List ℕ → ℕ → ℕ → ℕ → ℕ → Status → Order
+order txid payer payee amount time status =
+    record { txid = padded 35 txid; payer = payer; payee = payee; amount = amount; time = time; status = status }
+
+-- a book to start from: clock, participants, covers and orders
+abbrev pub bookAt : ℕ → Roster → List Cover → List Order → Book
+bookAt clock ps cs os =
     record {
-      clock = 0;
-      covers = cs;
-      orders = map (λ (s : Status). withStatus unusedOrder s) ss;
-      count = length ss;
-      roster = bookOf file .roster;
+      clock = clock;
+      covers = cs ++ replicate (mostParticipants - length cs) noCover;
+      orders = os ++ replicate (mostOrders - length os) unusedOrder;
+      count = length os;
+      roster = ps;
     }
+
+-- a book with these covers, and orders of these statuses
+abbrev pub bookWith : Roster → List Cover → List Status → Book
+bookWith ps cs ss =
+    record { clock = 0; covers = cs; orders = map (λ (s : Status). withStatus unusedOrder s) ss; count = length ss; roster = ps }

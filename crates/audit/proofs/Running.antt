@@ -1,39 +1,33 @@
--- History and book agree after every list of inputs. Assumes nothing.
+-- One step: where history and book agreed before, they agree after. Assumes nothing.
 use mathlib.Core.Path.{_≡_, refl, sym, subst, _∙_, ap}
 use mathlib.Core.Bool.{Bool, true, false, and-false}
 use mathlib.Core.List.{List, [], _∷_, _++_, append-nil}
-use mathlib.Core.Logic.{inl}
 use Prim.Native.Nat.{ℕ, _≤_, _<_}
-use native.Mathlib.Nat.{not-suc-le-zero}
 use native.Mathlib.Omega.{arith}
 use borrow.Author.Tests.{le-leb, lt-leb, ne-eqb}
 use lib.Dec.{leb}
-use lib.ListN.{getD-replicate}
 use Rattle.fields.specs.Text.{unpadded}
 use Rattle.ticket.specs.declared.Fields.{Fields}
 use Rattle.ticket.specs.declared.kinds.Kind.{Kind}
 use Rattle.ticket.specs.declared.kinds.Kind.the-variants as kind
 use Rattle.ticket.proofs.Telling.{Tells}
 use Rattle.report.specs.declared.Report.{Report}
-use Rattle.dayfile.specs.Limits.{mostParticipants}
 use Rattle.dayfile.specs.declared.roster.Roster.{Roster}
-use Rattle.rules.specs.Book.{noCover, orderOf, isBank, bookOf}
+use Rattle.rules.specs.Book.{orderOf, isBank}
 use Rattle.rules.specs.Tick.{Step, atTime, tick}
 use Rattle.rules.specs.Find.{finding}
 use Rattle.rules.specs.Decision.{decisionOf, applied, toldBy}
-use Rattle.rules.specs.Step.{untouched, ticked, accepted, handed, outcome}
+use Rattle.rules.specs.Step.{untouched, ticked, accepted, handed}
 use Rattle.rules.specs.declared.Order.{Order}
 use Rattle.rules.specs.declared.Book.{Book}
 use Rattle.rules.proofs.Refusing.{NoRefusal}
 use Rattle.rules.proofs.Sweeping as sweeping
 use Rattle.rules.proofs.Expiring.{dueIn, expiredIf, Expires, tick-expires, nothing-expires}
 use Rattle.rules.proofs.Courses.{handed-goes}
-use Rattle.rules.proofs.Stepping.{own-sound, file-sound}
-use Rattle.rules.proofs.Reporting.{buffer-reads-back}
+use Rattle.rules.proofs.Stepping.{own-sound}
 use Rattle.rules.proofs.Accepting.{fieldsOf}
-use Rattle.audit.specs.History.{Event, History, Each, size}
+use Rattle.audit.specs.History.{Event, History, _▹_, Each}
 use Rattle.audit.specs.Orders.{setsClock, isForBank, mustExpire}
-use Rattle.audit.specs.Run.{Input, eventsOf, run}
 use Rattle.audit.proofs.Agreeing.{Agrees, waits-in-book}
 use Rattle.audit.proofs.Events.{agrees-after}
 use Rattle.audit.proofs.Own.{Midway, Taken, OwnStepOf}
@@ -45,8 +39,8 @@ use Rattle.audit.proofs.Recalls.{recall-own, return-own, decline-own}
 use Rattle.audit.proofs.Inquiries.{inquiry-own}
 
 -- the own step of every kind
-own-step : {file : List ℕ} {h : History} {w : Book} {t : List ℕ} {time n : ℕ} {rs₀ : List Report} (k : Kind)
-    → Taken file h w t (fieldsOf k time n) rs₀ → OwnStepOf file h w t (fieldsOf k time n) rs₀
+own-step : {ps : Roster} {h : History} {w : Book} {t : List ℕ} {time n : ℕ} {rs₀ : List Report} (k : Kind)
+    → Taken ps h w t (fieldsOf k time n) rs₀ → OwnStepOf ps h w t (fieldsOf k time n) rs₀
 own-step kind.CoverIn k = cover-in-own k
 own-step kind.CoverOut k = cover-out-own k
 own-step kind.Order k = order-own k
@@ -60,25 +54,25 @@ own-step kind.Cut k = cut-own k
 own-step kind.Confirm k = confirm-own k
 own-step kind.Tick k = tick-own k
 
-module _ (file : List ℕ) (h : History) (b : Book) (a : Agrees file h b) (t : List ℕ) where
+module _ (ps : Roster) (h : History) (b : Book) (a : Agrees ps h b) (t : List ℕ) where
   -- the event that a step is
   abbrev happens : Step → Event
   happens s = record { ticket = t; refusal = s .refusal; reports = s .reports }
 
   -- which orders a ticket that sets the clock must let expire
   must-be-due : (f : Fields) → Tells t f → (n : ℕ) (rs : List Report) → setsClock (record { ticket = t; refusal = n; reports = rs }) ≡ true
-      → (i : ℕ) → i < b .count → mustExpire file i (record { ticket = t; refusal = n; reports = rs }) h ≡ dueIn (atTime b (f .time)) i
+      → (i : ℕ) → i < b .count → mustExpire ps i (record { ticket = t; refusal = n; reports = rs }) h ≡ dueIn (atTime b (f .time)) i
   must-be-due f tells n rs sets i l =
       let o = a .order i l in
-      let bank : isForBank file i h ≡ isBank (b .roster) (orderOf (b .orders) i .payee) =
+      let bank : isForBank ps i h ≡ isBank (b .roster) (orderOf (b .orders) i .payee) =
       o .bank ∙ ap (λ (r : Roster). isBank r (orderOf (b .orders) i .payee)) (sym (a .roster)) in
-      rw (sets, waits-in-book file h b a i l, bank, o .time, sym (tells .time))
+      rw (sets, waits-in-book ps h b a i l, bank, o .time, sym (tells .time))
 
   -- a ticket turned back by 6 to 11 changes nothing
-  turned : (n : ℕ) → 6 ≤ n → n ≤ 11 → Agrees file (happens (untouched b n) ∷ h) b
+  turned : (n : ℕ) → 6 ≤ n → n ≤ 11 → Agrees ps (happens (untouched b n) ▹ h) b
   turned n low high =
-      agrees-after file h b b b t n [] [] (λ i. false) a (nothing-expires b) (a .sound)
-      (nothing-own file h b t n [] tt (ne-eqb n 0 (λ e. omega arith)))
+      agrees-after ps h b b b t n [] [] (λ i. false) a (nothing-expires b) (a .sound)
+      (nothing-own ps h b t n [] tt (ne-eqb n 0 (λ e. omega arith)))
       (λ i l. rw (le-leb 6 n low, le-leb n 11 high))
 
   module _ (f : Fields) (tells : Tells t f) (l : b .clock ≤ f .time) where
@@ -94,7 +88,7 @@ module _ (file : List ℕ) (h : History) (b : Book) (a : Agrees file h b) (t : L
     expires : Expires (dueIn (atTime b (f .time))) b w rs₀
     expires = tick-expires b (a .sound) (f .time) l
 
-    midway : Midway file h w
+    midway : Midway ps h w
     midway =
         record {
           sound = swept .sound;
@@ -112,69 +106,29 @@ module _ (file : List ℕ) (h : History) (b : Book) (a : Agrees file h b) (t : L
         same true o = refl
         same false o = refl
 
-    -- a ticket refused by 12 to 22 leaves what a tick leaves
-    refused : (n : ℕ) → 12 ≤ n → n ≤ 22 → Agrees file (happens (ticked (tick b (f .time)) n) ∷ h) w
-    refused n low high =
-        subst (λ (rs : List Report). Agrees file (record { ticket = t; refusal = n; reports = rs } ∷ h) w) (append-nil rs₀)
-        (agrees-after file h b w w t n rs₀ [] (dueIn (atTime b (f .time))) a expires (swept .sound)
-        (nothing-own file h w t n rs₀ (expires .code) (ne-eqb n 0 (λ e. omega arith)))
+    -- a ticket refused by 12 or more leaves what a tick leaves
+    refused : (n : ℕ) → 12 ≤ n → Agrees ps (happens (ticked (tick b (f .time)) n) ▹ h) w
+    refused n low =
+        subst (λ (rs : List Report). Agrees ps (record { ticket = t; refusal = n; reports = rs } ▹ h) w) (append-nil rs₀)
+        (agrees-after ps h b w w t n rs₀ [] (dueIn (atTime b (f .time))) a expires (swept .sound)
+        (nothing-own ps h w t n rs₀ (expires .code) (ne-eqb n 0 (λ e. omega arith)))
         (must-be-due f tells n (rs₀ ++ []) (rw (lt-leb n 11 low, and-false (leb 6 n)))))
 
     -- an accepted ticket
-    pub the-ticket : NoRefusal (finding w f t) → Taken file h w t f rs₀
+    pub the-ticket : NoRefusal (finding w f t) → Taken ps h w t f rs₀
     the-ticket passed = record { midway = midway; tells = tells; clock = swept .clock; passed = passed; code = expires .code }
 
     taken : NoRefusal (finding w f t)
-        → Agrees file (happens (accepted (tick b (f .time)) (decisionOf (finding w f t))) ∷ h) (applied w (decisionOf (finding w f t)))
+        → Agrees ps (happens (accepted (tick b (f .time)) (decisionOf (finding w f t))) ▹ h) (applied w (decisionOf (finding w f t)))
     taken passed =
-        agrees-after file h b w (applied w (decisionOf (finding w f t))) t 0 rs₀ (toldBy w (decisionOf (finding w f t))) (dueIn (atTime b (f .time))) a expires
+        agrees-after ps h b w (applied w (decisionOf (finding w f t))) t 0 rs₀ (toldBy w (decisionOf (finding w f t))) (dueIn (atTime b (f .time))) a expires
         (own-sound w (swept .sound) (f .amount) (f .time) t (f .kind) tells passed)
         (own-step (f .kind) (the-ticket passed))
         (must-be-due f tells 0 (rs₀ ++ toldBy w (decisionOf (finding w f t))) refl)
 
-  pub step-agrees : (buffer : List ℕ) → Agrees file (happens (handed b t buffer) ∷ h) (handed b t buffer .book)
+  pub step-agrees : (buffer : List ℕ) → Agrees ps (happens (handed b t buffer) ▹ h) (handed b t buffer .book)
   step-agrees buffer =
-      handed-goes b t (λ (s : Step). Agrees file (happens s ∷ h) (s .book)) turned
-      (λ f tells l n low high. refused f tells l n low high)
+      handed-goes b t (λ (s : Step). Agrees ps (happens s ▹ h) (s .book)) turned
+      (λ f tells l n low. refused f tells l n low)
       (λ f tells l passed. taken f tells l passed)
       buffer
-
--- the fresh book of a day file, and nothing seen
-fresh-agrees : (file : List ℕ) → Agrees file [] (bookOf file)
-fresh-agrees file =
-    record {
-      sound = file-sound file;
-      roster = refl;
-      count = refl;
-      order = λ i l. absurd (not-suc-le-zero l);
-      none = λ i l. refl;
-      cover =
-          λ p l.
-          let none = getD-replicate mostParticipants p noCover noCover (let few = file-sound file .roster .size in omega arith) in
-          rw none (record { adds = refl; held = inl refl; debit = inl refl });
-      expiry = tt;
-      known = tt;
-    }
-
-pub run-agrees : (file : List ℕ) (inputs : List Input) → Agrees file (eventsOf (run file inputs .seen)) (run file inputs .book)
-run-agrees file [] = fresh-agrees file
-run-agrees file (x ∷ before) =
-    let a = run-agrees file before in
-    let b = run file before .book in
-    subst (λ (rs : List Report). Agrees file (record { ticket = x .ticket; refusal = outcome b (x .ticket) (x .buffer) .refusal; reports = rs } ∷ eventsOf (run file before .seen)) (outcome b (x .ticket) (x .buffer) .book))
-    (sym (buffer-reads-back b (a .sound) (x .ticket) (x .buffer)))
-    (step-agrees file (eventsOf (run file before .seen)) b a (x .ticket) (x .buffer))
-
--- what holds of each step's event holds of each event of a run
-pub run-each : (file : List ℕ) (P : Event → Type 0)
-    → ((h : History) (b : Book) → Agrees file h b → (t buffer : List ℕ) → P (record { ticket = t; refusal = handed b t buffer .refusal; reports = handed b t buffer .reports }))
-    → (inputs : List Input) → Each (λ e before. P e) (eventsOf (run file inputs .seen))
-run-each file P holds [] = tt
-run-each file P holds (x ∷ before) =
-    let a = run-agrees file before in
-    let b = run file before .book in (
-      subst (λ (rs : List Report). P (record { ticket = x .ticket; refusal = outcome b (x .ticket) (x .buffer) .refusal; reports = rs }))
-          (sym (buffer-reads-back b (a .sound) (x .ticket) (x .buffer)))
-          (holds (eventsOf (run file before .seen)) b a (x .ticket) (x .buffer)),
-      run-each file P holds before,
-    )

@@ -12,12 +12,13 @@ use Rattle.fields.proofs.Tests.{and-left, and-right}
 use Rattle.fields.proofs.UpTo.{all-at}
 use Rattle.report.specs.Ending.{isEnding, endingsIn}
 use Rattle.report.specs.declared.Report.{Report}
+use Rattle.dayfile.specs.declared.roster.Roster.{Roster}
 use Rattle.rules.specs.Book.{orderOf, coverOf}
 use Rattle.rules.specs.Status.{isWaiting}
 use Rattle.rules.specs.Cover.{whole}
 use Rattle.rules.specs.declared.Book.{Book}
 use Rattle.rules.proofs.Same.{below-or-not}
-use Rattle.audit.specs.History.{Event, History, Each, size}
+use Rattle.audit.specs.History.{Event, History, from, _▹_, participants, Each}
 use Rattle.audit.specs.Sums.{outgoing, incoming}
 use Rattle.audit.specs.Orders.{orderCount, orderAmount, waits, waitingTotal, letsExpire, mustExpire, endingTickets, allEndings, tellsParties}
 use Rattle.audit.specs.Claim.{AllCarry, codeOf, Claim}
@@ -44,12 +45,12 @@ all-of : (test : ℕ → Bool) (n : ℕ) → ((i : ℕ) → i < n → test i ≡
 all-of test zero h = refl
 all-of test (suc n) h = and-both (allTo test n) (test n) (all-of test n (λ i l. h i (omega arith))) (h n (omega arith))
 
-module _ (file : List ℕ) (h : History) (b : Book) where
+module _ (ps : Roster) (h : History) (b : Book) where
   abbrev pub coverAt : ℕ → Bool
-  coverAt p = eqb (whole (coverOf (b .covers) p) + outgoing file p h) (incoming file p h)
+  coverAt p = eqb (whole (coverOf (b .covers) p) + outgoing ps p h) (incoming ps p h)
 
   abbrev pub reservedAt : ℕ → Bool
-  reservedAt p = eqb (coverOf (b .covers) p .reserved) (waitingTotal file p h)
+  reservedAt p = eqb (coverOf (b .covers) p .reserved) (waitingTotal ps p h)
 
   abbrev pub waitingAt : ℕ → Bool
   waitingAt i = agree (isWaiting (orderOf (b .orders) i .status)) (waits i h)
@@ -59,28 +60,28 @@ onceAt h i = eqb (endingTickets i h) (cond (waits i h) 0 1)
 
 -- a test of each event and what was before it
 abbrev pub eachOf : (Event → History → Bool) → History → Bool
-eachOf test [] = true
-eachOf test (e ∷ before) = test e before && eachOf test before
+eachOf test (from b) = true
+eachOf test (e ▹ before) = test e before && eachOf test before
 
 each-true : (test : Event → History → Bool) (P : Event → History → Type 0) → ((e : Event) (before : History) → test e before ≡ true → P e before)
     → (h : History) → eachOf test h ≡ true → Each P h
-each-true test P tells [] t = tt
-each-true test P tells (e ∷ before) t =
+each-true test P tells (from b) t = tt
+each-true test P tells (e ▹ before) t =
     (tells e before (and-left (test e before) (eachOf test before) t), each-true test P tells before (and-right (test e before) (eachOf test before) t))
 
 true-each : (test : Event → History → Bool) (P : Event → History → Type 0) → ((e : Event) (before : History) → P e before → test e before ≡ true)
     → (h : History) → Each P h → eachOf test h ≡ true
-true-each test P tells [] c = refl
-true-each test P tells (e ∷ before) c = and-both (test e before) (eachOf test before) (tells e before (c .0)) (true-each test P tells before (c .1))
+true-each test P tells (from b) c = refl
+true-each test P tells (e ▹ before) c = and-both (test e before) (eachOf test before) (tells e before (c .0)) (true-each test P tells before (c .1))
 
 -- two facts of each event
 both-each : (P Q : Event → History → Type 0) (h : History) → Each P h → Each Q h → Each (λ e before. P e before × Q e before) h
-both-each P Q [] a b = tt
-both-each P Q (e ∷ before) a b = ((a .0, b .0), both-each P Q before (a .1) (b .1))
+both-each P Q (from start) a b = tt
+both-each P Q (e ▹ before) a b = ((a .0, b .0), both-each P Q before (a .1) (b .1))
 
 each-so : (P Q : Event → History → Type 0) → ((e : Event) (before : History) → P e before → Q e before) → (h : History) → Each P h → Each Q h
-each-so P Q so [] a = tt
-each-so P Q so (e ∷ before) a = (so e before (a .0), each-so P Q so before (a .1))
+each-so P Q so (from b) a = tt
+each-so P Q so (e ▹ before) a = (so e before (a .0), each-so P Q so before (a .1))
 
 -- each ending has a number below n
 abbrev pub isEndingCode : Report → Bool
@@ -130,27 +131,27 @@ known-below n (r ∷ rs) k =
         absurd (omega arith)
 
 -- at an event, the orders before it and n more
-abbrev pub expiryAt : List ℕ → Event → History → ℕ → Bool
-expiryAt file e before i = agree (letsExpire i e before) (mustExpire file i e before)
+abbrev pub expiryAt : Roster → Event → History → ℕ → Bool
+expiryAt ps e before i = agree (letsExpire i e before) (mustExpire ps i e before)
 
-abbrev pub expiryIn : List ℕ → ℕ → Event → History → Bool
-expiryIn file n e before = allTo (expiryAt file e before) (orderCount before + n)
+abbrev pub expiryIn : Roster → ℕ → Event → History → Bool
+expiryIn ps n e before = allTo (expiryAt ps e before) (orderCount before + n)
 
 abbrev pub knownIn : Event → History → Bool
 knownIn e before = endingsBelow (orderCount before) (e .reports)
 
 -- no other order is let expire, and none must
-no-other : (file : List ℕ) (e : Event) (before : History) (i : ℕ) → orderCount before ≤ i → endingsIn i (e .reports) ≡ []
-    → letsExpire i e before ≡ mustExpire file i e before
-no-other file e before i l none = simp (none, and-false, le-ltb i (orderCount before) l)
+no-other : (ps : Roster) (e : Event) (before : History) (i : ℕ) → orderCount before ≤ i → endingsIn i (e .reports) ≡ []
+    → letsExpire i e before ≡ mustExpire ps i e before
+no-other ps e before i l none = simp (none, and-false, le-ltb i (orderCount before) l)
 
-expiry-tells : (file : List ℕ) (n : ℕ) (e : Event) (before : History) → (expiryIn file n e before ≡ true) × Known (orderCount before) (e .reports)
-    → (i : ℕ) → letsExpire i e before ≡ mustExpire file i e before
+expiry-tells : (ps : Roster) (n : ℕ) (e : Event) (before : History) → (expiryIn ps n e before ≡ true) × Known (orderCount before) (e .reports)
+    → (i : ℕ) → letsExpire i e before ≡ mustExpire ps i e before
 unfolding Known
-expiry-tells file n e before (t, k) i =
+expiry-tells ps n e before (t, k) i =
     ⊎-elim
-    (λ (l : i < orderCount before + n). agree-true (letsExpire i e before) (mustExpire file i e before) (all-at (expiryAt file e before) (orderCount before + n) i t l))
-    (λ (l : orderCount before + n ≤ i). no-other file e before i (omega arith) (k i (omega arith)))
+    (λ (l : i < orderCount before + n). agree-true (letsExpire i e before) (mustExpire ps i e before) (all-at (expiryAt ps e before) (orderCount before + n) i t l))
+    (λ (l : orderCount before + n ≤ i). no-other ps e before i (omega arith) (k i (omega arith)))
     (below-or-not i (orderCount before + n))
 
 abbrev pub carry : ℕ → ℕ → List Report → Bool
@@ -177,14 +178,15 @@ true-carry code amount (r ∷ rs) c =
     (true-carry code amount rs (c .2))
 
 -- the clauses in the claim's order
-abbrev pub clauses : List ℕ → History → Book → List Bool
-clauses file h b =
-    eachOf (λ e before. tellsParties file e) h
-    ∷ allTo (coverAt file h b) (size file)
-    ∷ allTo (reservedAt file h b) (size file)
+abbrev pub clauses : History → Book → List Bool
+clauses h b =
+    let ps = participants h in
+    eachOf (λ e before. tellsParties ps e) h
+    ∷ allTo (coverAt ps h b) (ps .size)
+    ∷ allTo (reservedAt ps h b) (ps .size)
     ∷ eqb (b .count) (orderCount h)
-    ∷ allTo (waitingAt file h b) (orderCount h)
-    ∷ eachOf (expiryIn file (orderCount h)) h
+    ∷ allTo (waitingAt ps h b) (orderCount h)
+    ∷ eachOf (expiryIn ps (orderCount h)) h
     ∷ eachOf knownIn h
     ∷ allTo (onceAt h) (orderCount h)
     ∷ allTo (alikeAt h) (orderCount h)
@@ -208,48 +210,51 @@ all-passing : (cs : List Bool) → Passing cs → allPass cs ≡ true
 all-passing [] p = refl
 all-passing (c ∷ cs) p = and-both c (allPass cs) (p .0) (all-passing cs (p .1))
 
-module _ (file : List ℕ) (h : History) (b : Book) where
+module _ (h : History) (b : Book) where
+  abbrev ps : Roster
+  ps = participants h
+
   -- every clause passes: the claim holds
-  pub claim-holds : allPass (clauses file h b) ≡ true → Claim file h b
+  pub claim-holds : allPass (clauses h b) ≡ true → Claim h b
   unfolding Known
   claim-holds t =
-      let all = passing (clauses file h b) t in
+      let all = passing (clauses h b) t in
       let c = all .1 in
       let expiry = c .1 .1 .1 .1 .0 in
       let known = each-true knownIn (λ e before. Known (orderCount before) (e .reports)) (λ e before. below-known (orderCount before) (e .reports)) h (c .1 .1 .1 .1 .1 .0) in
       record {
-        told = each-true (λ e before. tellsParties file e) (λ e before. tellsParties file e ≡ true) (λ e before q. q) h (all .0);
-        cover = λ p l. eqb-true _ _ (all-at (coverAt file h b) (size file) p (c .0) l);
-        reserved = λ p l. eqb-true _ _ (all-at (reservedAt file h b) (size file) p (c .1 .0) l);
+        told = each-true (λ e before. tellsParties ps e) (λ e before. tellsParties ps e ≡ true) (λ e before q. q) h (all .0);
+        cover = λ p l. eqb-true _ _ (all-at (coverAt ps h b) (ps .size) p (c .0) l);
+        reserved = λ p l. eqb-true _ _ (all-at (reservedAt ps h b) (ps .size) p (c .1 .0) l);
         held = eqb-true _ _ (c .1 .1 .0);
-        waiting = λ i l. agree-true _ _ (all-at (waitingAt file h b) (orderCount h) i (c .1 .1 .1 .0) l);
+        waiting = λ i l. agree-true _ _ (all-at (waitingAt ps h b) (orderCount h) i (c .1 .1 .1 .0) l);
         expiry =
-            each-so (λ e before. (expiryIn file (orderCount h) e before ≡ true) × Known (orderCount before) (e .reports))
-            (λ e before. (i : ℕ) → letsExpire i e before ≡ mustExpire file i e before) (expiry-tells file (orderCount h)) h
-            (both-each (λ e before. expiryIn file (orderCount h) e before ≡ true) (λ e before. Known (orderCount before) (e .reports)) h
-            (each-true (expiryIn file (orderCount h)) (λ e before. expiryIn file (orderCount h) e before ≡ true) (λ e before q. q) h expiry) known);
+            each-so (λ e before. (expiryIn ps (orderCount h) e before ≡ true) × Known (orderCount before) (e .reports))
+            (λ e before. (i : ℕ) → letsExpire i e before ≡ mustExpire ps i e before) (expiry-tells ps (orderCount h)) h
+            (both-each (λ e before. expiryIn ps (orderCount h) e before ≡ true) (λ e before. Known (orderCount before) (e .reports)) h
+            (each-true (expiryIn ps (orderCount h)) (λ e before. expiryIn ps (orderCount h) e before ≡ true) (λ e before q. q) h expiry) known);
         known = known;
         once = λ i l. eqb-true _ _ (all-at (onceAt h) (orderCount h) i (c .1 .1 .1 .1 .1 .1 .0) l);
         alike = λ i l. carry-true (codeOf (allEndings i h)) (orderAmount i h) (allEndings i h) (all-at (alikeAt h) (orderCount h) i (c .1 .1 .1 .1 .1 .1 .1 .0) l);
       }
 
   -- the claim holds: every clause passes
-  pub clauses-pass : Claim file h b → allPass (clauses file h b) ≡ true
+  pub clauses-pass : Claim h b → allPass (clauses h b) ≡ true
   unfolding Known
   clauses-pass c =
-      all-passing (clauses file h b) (
-        true-each (λ e before. tellsParties file e) (λ e before. tellsParties file e ≡ true) (λ e before q. q) h (c .told),
+      all-passing (clauses h b) (
+        true-each (λ e before. tellsParties ps e) (λ e before. tellsParties ps e ≡ true) (λ e before q. q) h (c .told),
         (
-          all-of (coverAt file h b) (size file) (λ p l. eq-eqb _ _ (c .cover p l)),
+          all-of (coverAt ps h b) (ps .size) (λ p l. eq-eqb _ _ (c .cover p l)),
           (
-            all-of (reservedAt file h b) (size file) (λ p l. eq-eqb _ _ (c .reserved p l)),
+            all-of (reservedAt ps h b) (ps .size) (λ p l. eq-eqb _ _ (c .reserved p l)),
             (
               eq-eqb _ _ (c .held),
               (
-                all-of (waitingAt file h b) (orderCount h) (λ i l. true-agree _ _ (c .waiting i l)),
+                all-of (waitingAt ps h b) (orderCount h) (λ i l. true-agree _ _ (c .waiting i l)),
                 (
-                  true-each (expiryIn file (orderCount h)) (λ e before. (i : ℕ) → letsExpire i e before ≡ mustExpire file i e before)
-                      (λ e before t. all-of (expiryAt file e before) (orderCount before + orderCount h) (λ i l. true-agree _ _ (t i))) h (c .expiry),
+                  true-each (expiryIn ps (orderCount h)) (λ e before. (i : ℕ) → letsExpire i e before ≡ mustExpire ps i e before)
+                      (λ e before t. all-of (expiryAt ps e before) (orderCount before + orderCount h) (λ i l. true-agree _ _ (t i))) h (c .expiry),
                   (
                     true-each knownIn (λ e before. Known (orderCount before) (e .reports)) (λ e before. known-below (orderCount before) (e .reports)) h (c .known),
                     (
@@ -265,5 +270,5 @@ module _ (file : List ℕ) (h : History) (b : Book) where
       )
 
   -- a clause fails: the claim is false
-  pub claim-fails : allPass (clauses file h b) ≡ false → Claim file h b → ⊥
+  pub claim-fails : allPass (clauses h b) ≡ false → Claim h b → ⊥
   claim-fails e c = let t = clauses-pass c in let z : _≡_ {A = ℕ} 0 1 = cc in omega arith

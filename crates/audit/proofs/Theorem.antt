@@ -1,11 +1,13 @@
--- Demand 3, proved: history and book agree after every list of inputs, each event tells whom it must, and the claim follows.
--- Assumes nothing.
-use Rattle.audit.specs.Run.{eventsOf, run}
-use Rattle.audit.specs.Demand3.{Demand3}
-use Rattle.audit.proofs.Agreeing.{claim-follows}
-use Rattle.audit.proofs.Running.{run-agrees}
-use Rattle.audit.proofs.Parties.{run-parties}
+-- Demand 3, proved: from every sound book, and so from that of every day file. Assumes nothing.
+use Rattle.rules.specs.Book.{bookOf}
+use Rattle.rules.specs.Sound.{Sound}
+use Rattle.rules.specs.declared.Book.{Book}
+use Rattle.rules.proofs.Stepping.{file-sound}
+use Rattle.audit.specs.Demand3.{Holds, Demand3}
+use Rattle.audit.proofs.Carrying.{carried-start, carried-claim, carried-inputs}
+
+pub holds : (b : Book) → Sound b → Holds b
+holds b s inputs = carried-claim (carried-inputs (carried-start b s) inputs)
 
 pub demand3 : Demand3
-demand3 file inputs =
-    claim-follows file (eventsOf (run file inputs .seen)) (run file inputs .book) (run-agrees file inputs) (run-parties file inputs)
+demand3 file = holds (bookOf file) (file-sound file)

@@ -2,15 +2,14 @@
 --     Line          a ticket that moved a participant's cover: its number, what went out and what came in
 --     statementOf   the participant's lines, oldest first
 --     statement-adds    they are all that went out and all that came in
---     position-explained    so what is there now is what the lines leave
+--     position-explained    so what is there now is what was there at the start and what the lines leave
 use mathlib.Core.Path.{_≡_, refl, ap}
 use mathlib.Core.Bool.{Bool, true, false, _&&_, cond}
 use mathlib.Core.List.{List, [], _∷_, _++_}
-use Prim.Native.Nat.{ℕ, _+_, _<_}
+use Prim.Native.Nat.{ℕ, suc, _+_, _<_}
 use native.Mathlib.Omega.{arith}
 use borrow.Author.Tests.{eqb-true}
 use lib.Dec.{eqb, lit<}
-use lib.ListN.{length}
 use Rattle.fields.proofs.Tests.{and-left, and-right}
 use Rattle.codes.specs.Bic.{isBic}
 use Rattle.codes.specs.Iban.{isIban}
@@ -18,17 +17,22 @@ use Rattle.codes.specs.Txid.{isTxid}
 use Rattle.ticket.specs.Reading.{reading}
 use Rattle.dayfile.specs.DayFile.{dayFile}
 use Rattle.dayfile.specs.Route.{followed}
+use Rattle.dayfile.specs.declared.roster.Roster.{Roster}
 use Rattle.rules.specs.Book.{coverOf}
 use Rattle.rules.specs.Cover.{whole, total}
 use Rattle.rules.specs.Tick.{tick}
 use Rattle.rules.specs.Find.{senderIn, orderIn, routeIn, wayIn, anyOpen}
 use Rattle.rules.specs.Step.{stepOf, handed}
-use Rattle.audit.specs.History.{History, size}
+use Rattle.rules.specs.Inputs.{Input, seenFrom, bookFrom}
+use Rattle.rules.specs.Sound.{Sound}
+use Rattle.rules.specs.declared.Book.{Book}
+use Rattle.rules.proofs.Stepping.{file-sound}
+use Rattle.audit.specs.History.{History, from, _▹_}
 use Rattle.audit.specs.Sums.{goesOut, comesIn, outgoing, incoming}
-use Rattle.audit.specs.Run.{Input, eventsOf, run}
-use Rattle.audit.proofs.Rows.{inputs, eventsOn}
-use Rattle.audit.proofs.Days.{busyDay}
-use Rattle.audit.proofs.Theorem.{demand3}
+use Rattle.audit.specs.Run.{historyOf}
+use Rattle.audit.proofs.Rows.{inputs, seenOn, bookOn}
+use Rattle.audit.proofs.Days.{busyFile, busyDay}
+use Rattle.audit.proofs.Corollaries.{startCover, start-on, adds-up}
 
 pub record Line : Type 0 where
   pub ticket : ℕ
@@ -39,9 +43,14 @@ pub record Line : Type 0 where
 abbrev lineOf : ℕ → ℕ → ℕ → List Line
 lineOf k out in′ = cond (eqb out 0 && eqb in′ 0) [] (record { ticket = k; goes = out; comes = in′ } ∷ [])
 
-abbrev pub statementOf : List ℕ → ℕ → History → List Line
-statementOf file p [] = []
-statementOf file p (e ∷ before) = statementOf file p before ++ lineOf (length before) (goesOut file p e before) (comesIn file p e before)
+-- how many tickets there were
+abbrev ticketCount : History → ℕ
+ticketCount (from b) = 0
+ticketCount (e ▹ before) = suc (ticketCount before)
+
+abbrev pub statementOf : Roster → ℕ → History → List Line
+statementOf ps p (from b) = []
+statementOf ps p (e ▹ before) = statementOf ps p before ++ lineOf (ticketCount before) (goesOut ps p e before) (comesIn ps p e before)
 
 abbrev pub allGoes : List Line → ℕ
 allGoes [] = 0
@@ -73,26 +82,33 @@ line-comes k out in′ = go (eqb out 0 && eqb in′ 0) refl
     go true e = let z = eqb-true in′ 0 (and-right (eqb out 0) (eqb in′ 0) e) in omega arith
     go false e = omega arith
 
-pub statement-adds : (file : List ℕ) (p : ℕ) (h : History) → (allGoes (statementOf file p h) ≡ outgoing file p h) × (allComes (statementOf file p h) ≡ incoming file p h)
-statement-adds file p [] = (refl, refl)
-statement-adds file p (e ∷ h) =
-    let both = statement-adds file p h in
-    let line = lineOf (length h) (goesOut file p e h) (comesIn file p e h) in
+-- all that went out, and with what was there at the start all that came in
+pub statement-adds : (ps : Roster) (p : ℕ) (h : History)
+    → (allGoes (statementOf ps p h) ≡ outgoing ps p h) × (startCover p h + allComes (statementOf ps p h) ≡ incoming ps p h)
+statement-adds ps p (from b) = (refl, omega arith)
+statement-adds ps p (e ▹ h) =
+    let both = statement-adds ps p h in
+    let line = lineOf (ticketCount h) (goesOut ps p e h) (comesIn ps p e h) in
     let a = both .0 in
     let b = both .1 in
-    let out = line-goes (length h) (goesOut file p e h) (comesIn file p e h) in
-    let in′ = line-comes (length h) (goesOut file p e h) (comesIn file p e h) in
-    (let g = goes-append (statementOf file p h) line in omega arith, let c = comes-append (statementOf file p h) line in omega arith)
+    let out = line-goes (ticketCount h) (goesOut ps p e h) (comesIn ps p e h) in
+    let in′ = line-comes (ticketCount h) (goesOut ps p e h) (comesIn ps p e h) in
+    (let g = goes-append (statementOf ps p h) line in omega arith, let c = comes-append (statementOf ps p h) line in omega arith)
 
--- of every day file, list of inputs and participant
-pub position-explained : (file : List ℕ) (inputs : List Input) (p : ℕ) → p < size file
-    → let s = statementOf file p (eventsOf (run file inputs .seen)) in whole (coverOf (run file inputs .book .covers) p) + allGoes s ≡ allComes s
-position-explained file inputs p l =
-    let adds = statement-adds file p (eventsOf (run file inputs .seen)) in
-    let out = adds .0 in
-    let in′ = adds .1 in
-    let c = demand3 file inputs .cover p l in
-    omega arith
+-- of every sound book, list of inputs and participant
+module _ (b : Book) (s : Sound b) (inputs : List Input) (p : ℕ) (l : p < b .roster .size) where
+  abbrev h : History
+  h = historyOf b inputs
+
+  pub position-explained : let lines = statementOf (b .roster) p h in
+      whole (coverOf (bookFrom b inputs .covers) p) + allGoes lines ≡ whole (coverOf (b .covers) p) + allComes lines
+  position-explained =
+      let adds = statement-adds (b .roster) p h in
+      let out = adds .0 in
+      let in′ = adds .1 in
+      let first = start-on p (from b) (seenFrom b inputs) in
+      let c = adds-up b s inputs p l in
+      omega arith
 
 -- Bank A on the busy day, lines as tickets counted from 0: cover in, an order of 400 settled and returned, orders of 70 and 50 settled,
 -- an excess of 380 confirmed after the cut
@@ -106,23 +122,23 @@ bankA =
     ∷ record { ticket = 29; goes = 380; comes = 0 }
     ∷ []
 
-pub bankA-lines : statementOf (busyDay .file) 0 (eventsOn busyDay) ≡ bankA
+pub bankA-lines : statementOf (busyDay .start .roster) 0 (seenOn busyDay) ≡ bankA
 unfolding isBic isIban isTxid reading dayFile followed senderIn orderIn routeIn wayIn anyOpen total tick stepOf handed
 bankA-lines = refl
 
-four-participants : size (busyDay .file) ≡ 4
+four-participants : busyDay .start .roster .size ≡ 4
 unfolding isBic dayFile
 four-participants = refl
 
 -- what is left
-leaves : (there out in′ : ℕ) → there + out ≡ in′ → out ≡ 900 → in′ ≡ 1400 → there ≡ 500
+leaves : (there out in′ : ℕ) → there + out ≡ 0 + in′ → out ≡ 900 → in′ ≡ 1400 → there ≡ 500
 leaves there out in′ adds a b = omega arith
 
--- 900 went out and 1400 came in: by demand 3, 500 are there
-pub bankA-position : whole (coverOf (run (busyDay .file) (inputs (busyDay .tickets) []) .book .covers) 0) ≡ 500
+-- 900 went out and 1400 came in, from nothing at the start: by demand 3, 500 are there
+pub bankA-position : whole (coverOf (bookOn busyDay .covers) 0) ≡ 500
 bankA-position =
-    leaves (whole (coverOf (run (busyDay .file) (inputs (busyDay .tickets) []) .book .covers) 0))
-    (allGoes (statementOf (busyDay .file) 0 (eventsOn busyDay))) (allComes (statementOf (busyDay .file) 0 (eventsOn busyDay)))
-    (position-explained (busyDay .file) (inputs (busyDay .tickets) []) 0 (rw four-participants (lit< tt)))
+    let lines = statementOf (busyDay .start .roster) 0 (seenOn busyDay) in
+    leaves (whole (coverOf (bookOn busyDay .covers) 0)) (allGoes lines) (allComes lines)
+    (position-explained (busyDay .start) (file-sound busyFile) (inputs (busyDay .tickets)) 0 (rw four-participants (lit< tt)))
     (ap allGoes bankA-lines)
     (ap allComes bankA-lines)

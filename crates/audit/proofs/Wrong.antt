@@ -1,4 +1,8 @@
--- More wrong histories, written down by hand: the claim is false of each. They go by the clause that they break. Assumes nothing.
+-- More wrong histories, written down by hand: the claim is false of each. They go by the clause that they break. Where a row names one
+-- clause, a claim that asks for less there would hold of it: that the book holds any number of orders, or one more; that endings carry
+-- any amount, or any code; that an order ends in any number of tickets, or by a repeat alone; that it ends before it is accepted, or in
+-- its own ticket.
+-- Assumes nothing.
 use mathlib.Core.Path.{refl}
 use mathlib.Core.List.{List, [], _∷_}
 use Rattle.codes.specs.Bic.{isBic}

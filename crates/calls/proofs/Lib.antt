@@ -3,3 +3,4 @@ pub mod Reading
 pub mod Reaching
 pub mod Keeping
 pub mod Printing
+pub mod Stepping

@@ -11,7 +11,7 @@ use Rattle.rules.specs.Tick.{Step}
 use Rattle.rules.specs.Book.{bookOf}
 use Rattle.rules.specs.Step.{stepsOf, bookAfter}
 use Rattle.rules.specs.Program.{ticketsFrom, dayLines, output}
-use Rattle.audit.specs.History.{Event, History}
+use Rattle.audit.specs.History.{Event, History, from, _▹_}
 use Rattle.audit.specs.Claim.{Claim}
 
 abbrev pub stepEvent : List ℕ → Step → Event
@@ -20,7 +20,7 @@ stepEvent t s = record { ticket = t; refusal = s .refusal; reports = s .reports 
 abbrev pub stepEvents : List (List ℕ) → List Step → History → History
 stepEvents [] ss h = h
 stepEvents (t ∷ ts) [] h = h
-stepEvents (t ∷ ts) (s ∷ ss) h = stepEvents ts ss (stepEvent t s ∷ h)
+stepEvents (t ∷ ts) (s ∷ ss) h = stepEvents ts ss (stepEvent t s ▹ h)
 
 abbrev pub dayTickets : List ℕ → List (List ℕ)
 dayTickets file = ticketsFrom file 0 (dayFile file .tickets)
@@ -31,4 +31,4 @@ daySteps file = stepsOf (bookOf file) (dayTickets file)
 -- "T number refusal reports rows" has a step's refusal and report count, and its "R" lines are its reports; "C" has the cover
 pub record Prints (file : List ℕ) : Type 0 where
   pub lines : output file ≡ dayLines (bookOf file) (daySteps file)
-  pub claim : Claim file (stepEvents (dayTickets file) (daySteps file) []) (bookAfter (bookOf file) (daySteps file))
+  pub claim : Claim (stepEvents (dayTickets file) (daySteps file) (from (bookOf file))) (bookAfter (bookOf file) (daySteps file))

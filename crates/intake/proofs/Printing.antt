@@ -20,27 +20,20 @@ use Rattle.rules.specs.Taken.{answerOf, answersOf, reportsIn}
 use Rattle.rules.specs.Program.{ticketLines, linesFrom, ticketsFrom}
 use Rattle.rules.specs.Sound.{Sound}
 use Rattle.rules.specs.declared.Book.{Book}
-use Rattle.rules.proofs.Courses.{step-goes}
+use Rattle.rules.proofs.Courses.{step-refusal-small}
 use Rattle.rules.proofs.Reporting.{fitting-append, step-few}
 use Rattle.rules.proofs.Stepping.{step-sound}
 use Rattle.intake.specs.Running.{roomLeft, ranTo, ran}
 use Rattle.intake.proofs.Running.{room-left}
 use Rattle.intake.proofs.Turning.{applicable, step-is}
 
--- a step's answer fits its bytes
-refusal-small : (b : Book) (t : List ℕ) → stepOf b t .refusal < 256
-refusal-small b t =
-    step-goes b t (λ (w : Step). w .refusal < 256)
-    (λ n low high. omega arith)
-    (λ f tells l n low high. omega arith)
-    (λ f tells l none. omega arith)
-
 rows-small : (b : Book) → Sound b → (t : List ℕ) → stepOf b t .rows < 256
 rows-small b s t = subst (λ (w : Step). w .rows < 256) (sym (step-is b s t)) (applicable b s t .rows)
 
+-- a step's answer fits its bytes
 answer-fits : (b : Book) → Sound b → (t : List ℕ) → FittingAnswer (answerOf (stepOf b t))
 answer-fits b s t =
-    record { refusal = refusal-small b t; reports = let few = step-few b s t .few in omega arith; rows = rows-small b s t }
+    record { refusal = step-refusal-small b t; reports = let few = step-few b s t .few in omega arith; rows = rows-small b s t }
 
 -- the answers and reports of steps fit theirs, and both their buffers
 pub record Printable (ss : List Step) (answers reports : ℕ) : Type 0 where

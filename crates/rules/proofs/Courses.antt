@@ -1,10 +1,10 @@
--- The three courses that a step can take: turned back by 6 to 11, refused by 12 to 22, or accepted. What holds of each holds of every
--- step. Assumes nothing.
+-- The three courses that a step can take: turned back by 6 to 11, refused by 12 or more, or accepted. What holds of each holds of every
+-- step; and a step's refusal fits its byte in an answer. Assumes nothing.
 use mathlib.Core.Path.{_≡_, refl, _∙_}
 use mathlib.Core.Bool.{Bool, true, false, cond}
 use mathlib.Core.List.{List}
 use mathlib.Core.Logic.{_⊎_, ⊎-elim}
-use Prim.Native.Nat.{ℕ, _≤_}
+use Prim.Native.Nat.{ℕ, _≤_, _<_}
 use native.Mathlib.Omega.{arith}
 use borrow.Author.Tests.{ltb-false, eqb-true, eqb-false}
 use lib.Dec.{ltb, eqb}
@@ -21,13 +21,14 @@ use Rattle.rules.specs.Decision.{decisionOf}
 use Rattle.rules.specs.Step.{untouched, ticked, accepted, refusedOr, stepTimed, stepRead, stepOf, stepLent, handed}
 use Rattle.rules.specs.declared.refusal.Buffer.{Buffer}
 use Rattle.rules.specs.declared.refusal.Buffer.the-variants.{Enough, Short}
+use Rattle.rules.specs.declared.finding.Finding.{Finding}
 use Rattle.rules.specs.declared.refusal.Timing.the-variants.{InTime, Early}
 use Rattle.rules.specs.declared.Book.{Book}
-use Rattle.rules.proofs.Refusing.{NoRefusal, none-applies, Late, refusal-late}
+use Rattle.rules.proofs.Refusing.{NoRefusal, none-applies, Late, refusal-late, refusal-small}
 
 module _ (b : Book) (t : List ℕ) (P : Step → Type 0)
     (turned : (n : ℕ) → 6 ≤ n → n ≤ 11 → P (untouched b n))
-    (refused : (f : Fields) → Tells t f → b .clock ≤ f .time → (n : ℕ) → 12 ≤ n → n ≤ 22 → P (ticked (tick b (f .time)) n))
+    (refused : (f : Fields) → Tells t f → b .clock ≤ f .time → (n : ℕ) → 12 ≤ n → P (ticked (tick b (f .time)) n))
     (taken : (f : Fields) → Tells t f → b .clock ≤ f .time → NoRefusal (finding (tick b (f .time) .book) f t)
     → P (accepted (tick b (f .time)) (decisionOf (finding (tick b (f .time) .book) f t)))) where
   -- after the expiries
@@ -41,7 +42,7 @@ module _ (b : Book) (t : List ℕ) (P : Step → Type 0)
       go false q =
           ⊎-elim
           (λ (none : n ≡ 0). absurd (eqb-false n 0 q none))
-          (λ (within : (12 ≤ n) × (n ≤ 22)). refused f tells l n (within .0) (within .1))
+          (λ (low : 12 ≤ n). refused f tells l n low)
           late
 
   timed-goes : (f : Fields) → Tells t f → P (stepTimed b t f (timingOf (b .clock) (f .time)))
@@ -68,3 +69,23 @@ module _ (b : Book) (t : List ℕ) (P : Step → Type 0)
   pub handed-goes : (buffer : List ℕ) → P (handed b t buffer)
   unfolding handed
   handed-goes buffer = lent-goes (bufferOf buffer)
+
+module _ (b : Book) (t : List ℕ) where
+  decided-small : (w : Step) (x : Finding) → refusedOr (firstRefusal x) w x .refusal < 256
+  decided-small w x = go (eqb (firstRefusal x) 0)
+    where
+      go : (z : Bool) → cond z (accepted w (decisionOf x)) (ticked w (firstRefusal x)) .refusal < 256
+      go true = omega arith
+      go false = refusal-small x
+
+  read-small : (r : Reading) → reading t ≡ r → stepRead b t r .refusal < 256
+  read-small (Refused n) e = let l = refused-number t n e .1 in omega arith
+  read-small (Read f) e = go (ltb (f .time) (b .clock))
+    where
+      go : (x : Bool) → stepTimed b t f (cond x Early InTime) .refusal < 256
+      go true = omega arith
+      go false = let w = tick b (f .time) in decided-small w (finding (w .book) f t)
+
+  pub step-refusal-small : stepOf b t .refusal < 256
+  unfolding stepOf
+  step-refusal-small = read-small (reading t) refl

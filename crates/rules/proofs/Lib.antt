@@ -14,6 +14,7 @@ pub mod Expiring
 pub mod Courses
 pub mod Cutting
 pub mod Stepping
+pub mod Inputs
 pub mod Limits
 pub mod Reporting
 pub mod Biting

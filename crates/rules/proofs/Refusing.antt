@@ -1,8 +1,8 @@
--- Where no refusal from 12 to 22 applies, each of their conditions fails; and which numbers there are. Assumes nothing.
+-- Where no refusal from 12 on applies, each of their conditions fails; and which numbers there are. Assumes nothing.
 use mathlib.Core.Path.{_≡_, refl}
 use mathlib.Core.Bool.{Bool, true, false, cond}
 use mathlib.Core.Logic.{_⊎_, inl, inr}
-use Prim.Native.Nat.{ℕ, _≤_}
+use Prim.Native.Nat.{ℕ, _≤_, _<_}
 use native.Mathlib.Omega.{arith}
 use borrow.Author.Tests.{eqb-true}
 use lib.Dec.{eqb}
@@ -70,29 +70,29 @@ none-applies x e =
       r22 = s22 .0;
     }
 
--- no refusal, or one from 12 to 22
+-- no refusal, or one from 12 on
 abbrev pub Late : ℕ → Type 0
-Late n = (n ≡ 0) ⊎ ((12 ≤ n) × (n ≤ 22))
+Late n = (n ≡ 0) ⊎ (12 ≤ n)
 
 late-naming : (a : Naming) → Late (namingRefusal a)
 late-naming Known = inl refl
-late-naming NoParticipant = inr (omega arith, omega arith)
-late-naming TxidHeld = inr (omega arith, omega arith)
-late-naming NoRoute = inr (omega arith, omega arith)
-late-naming Full = inr (omega arith, omega arith)
-late-naming TxidNotHeld = inr (omega arith, omega arith)
+late-naming NoParticipant = inr (omega arith)
+late-naming TxidHeld = inr (omega arith)
+late-naming NoRoute = inr (omega arith)
+late-naming Full = inr (omega arith)
+late-naming TxidNotHeld = inr (omega arith)
 
 late-permission : (a : Permission) → Late (permissionRefusal a)
 late-permission Granted = inl refl
-late-permission WrongParty = inr (omega arith, omega arith)
-late-permission WrongStatus = inr (omega arith, omega arith)
-late-permission WrongAmount = inr (omega arith, omega arith)
+late-permission WrongParty = inr (omega arith)
+late-permission WrongStatus = inr (omega arith)
+late-permission WrongAmount = inr (omega arith)
 
 late-backing : (a : Backing) → Late (backingRefusal a)
 late-backing Backed = inl refl
-late-backing TooLittle = inr (omega arith, omega arith)
-late-backing NotAsCut = inr (omega arith, omega arith)
-late-backing AboveLimit = inr (omega arith, omega arith)
+late-backing TooLittle = inr (omega arith)
+late-backing NotAsCut = inr (omega arith)
+late-backing AboveLimit = inr (omega arith)
 
 late-first : (m n : ℕ) → Late m → Late n → Late (firstOf m n)
 late-first m n a b = go (eqb m 0)
@@ -105,3 +105,36 @@ pub refusal-late : (x : Finding) → Late (firstRefusal x)
 refusal-late x =
     late-first (namingRefusal (namingOf x)) (firstOf (permissionRefusal (permissionOf x)) (backingRefusal (backingOf x))) (late-naming (namingOf x))
     (late-first (permissionRefusal (permissionOf x)) (backingRefusal (backingOf x)) (late-permission (permissionOf x)) (late-backing (backingOf x)))
+
+-- each fits its byte in an answer
+small-naming : (a : Naming) → namingRefusal a < 256
+small-naming Known = omega arith
+small-naming NoParticipant = omega arith
+small-naming TxidHeld = omega arith
+small-naming NoRoute = omega arith
+small-naming Full = omega arith
+small-naming TxidNotHeld = omega arith
+
+small-permission : (a : Permission) → permissionRefusal a < 256
+small-permission Granted = omega arith
+small-permission WrongParty = omega arith
+small-permission WrongStatus = omega arith
+small-permission WrongAmount = omega arith
+
+small-backing : (a : Backing) → backingRefusal a < 256
+small-backing Backed = omega arith
+small-backing TooLittle = omega arith
+small-backing NotAsCut = omega arith
+small-backing AboveLimit = omega arith
+
+small-first : (m n : ℕ) → m < 256 → n < 256 → firstOf m n < 256
+small-first m n a b = go (eqb m 0)
+  where
+    go : (z : Bool) → cond z n m < 256
+    go true = b
+    go false = a
+
+pub refusal-small : (x : Finding) → firstRefusal x < 256
+refusal-small x =
+    small-first (namingRefusal (namingOf x)) (firstOf (permissionRefusal (permissionOf x)) (backingRefusal (backingOf x))) (small-naming (namingOf x))
+    (small-first (permissionRefusal (permissionOf x)) (backingRefusal (backingOf x)) (small-permission (permissionOf x)) (small-backing (backingOf x)))

@@ -192,8 +192,8 @@ module _ (b : Book) (s : Sound b) where
 
 -- a step's reports fit, and are at most as many as the buffer of refusal 6 holds
 module _ (b : Book) (s : Sound b) (t : List ℕ) where
-  refused-few : (f : Fields) → Tells t f → b .clock ≤ f .time → (n : ℕ) → 12 ≤ n → n ≤ 22 → Few 544 (tick b (f .time) .reports)
-  refused-few f tells l n low high = few-more 512 544 _ (omega arith) (ticked-few b s (f .time) l)
+  refused-few : (f : Fields) → Tells t f → b .clock ≤ f .time → (n : ℕ) → 12 ≤ n → Few 544 (tick b (f .time) .reports)
+  refused-few f tells l n low = few-more 512 544 _ (omega arith) (ticked-few b s (f .time) l)
 
   taken-few : (f : Fields) → Tells t f → b .clock ≤ f .time → NoRefusal (finding (tick b (f .time) .book) f t)
       → Few 544 (tick b (f .time) .reports ++ toldBy (tick b (f .time) .book) (decisionOf (finding (tick b (f .time) .book) f t)))

@@ -160,8 +160,8 @@ module _ (b : Book) (s : Sound b) (t : List ℕ) where
   turned-sound : (n : ℕ) → 6 ≤ n → n ≤ 11 → Sound b
   turned-sound n low high = s
 
-  refused-sound : (f : Fields) → Tells t f → b .clock ≤ f .time → (n : ℕ) → 12 ≤ n → n ≤ 22 → Sound (tick b (f .time) .book)
-  refused-sound f tells l n low high = ticked b s (f .time) l .sound
+  refused-sound : (f : Fields) → Tells t f → b .clock ≤ f .time → (n : ℕ) → 12 ≤ n → Sound (tick b (f .time) .book)
+  refused-sound f tells l n low = ticked b s (f .time) l .sound
 
   taken-sound : (f : Fields) → Tells t f → b .clock ≤ f .time → NoRefusal (finding (tick b (f .time) .book) f t)
       → Sound (applied (tick b (f .time) .book) (decisionOf (finding (tick b (f .time) .book) f t)))

@@ -9,6 +9,7 @@ pub mod Refusal
 pub mod Cut
 pub mod Decision
 pub mod Step
+pub mod Inputs
 pub mod Taken
 pub mod Program
 pub mod Sound
