@@ -36,7 +36,10 @@ fn kept_to(buffer: &[u8], from: usize, fill: u8) -> usize
 }
 
 fn print_report(r: Report) {
-    print::print_line(b"R", &[r.to as u64, r.code as u64, r.order as u64, r.amount]);
+    print::print_line(
+        b"R",
+        &[r.to as u64, r.code as u64, r.order as u64, r.amount],
+    );
 }
 
 fn print_reports(buffer: &[u8], n: usize)
@@ -53,7 +56,10 @@ fn print_reports(buffer: &[u8], n: usize)
 fn print_handed(number: u64, h: Handed, buffer: &[u8], fill: u8)
     requires { ⌜ 12 * h .reports ≤ length (now buffer) ⌝ }
 {
-    print::print_line(b"T", &[number, h.refusal as u64, h.reports as u64, h.rows as u64]);
+    print::print_line(
+        b"T",
+        &[number, h.refusal as u64, h.reports as u64, h.rows as u64],
+    );
     let n = h.reports as usize;
     print_reports(buffer, n);
     let kept = kept_to(buffer, 12 * n, fill);

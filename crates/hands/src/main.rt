@@ -17,7 +17,7 @@
 //     C number available reserved held debit      of each participant
 //     O number payer payee amount time status TxId    of each order; a settled one with its recall mark behind a hyphen
 //
-// `stdin` is made from the text `cases.txt` beside it: tools/hands crates/hands/cases.txt -o crates/hands/stdin
+// `stdin` is made from the text beside it: tools/day pack --inputs crates/hands/inputs.txt -o crates/hands/stdin
 mod input;
 mod print;
 mod state;

@@ -49,7 +49,16 @@ fn print_status(status: Status) {
 }
 
 fn print_order(n: usize, o: Order) {
-    print::print_numbers(b"O", &[n as u64, o.payer as u64, o.payee as u64, o.amount, o.time as u64]);
+    print::print_numbers(
+        b"O",
+        &[
+            n as u64,
+            o.payer as u64,
+            o.payee as u64,
+            o.amount,
+            o.time as u64,
+        ],
+    );
     let status = o.status;
     print_status(status);
     let txid = o.txid;
