@@ -1,8 +1,9 @@
-//! The instant cover book of a clearing house: codes, tickets, day files, the book itself and the program's text.
+//! The instant cover book of a clearing house: codes, tickets, day files, the book itself and the programs' text.
 
 pub mod book;
 pub mod codes;
 pub mod dayfile;
+pub mod handing;
 mod index;
 pub mod printing;
 pub mod refusal;

@@ -21,7 +21,7 @@ pub fn print_day(file: &[u8], text: &mut Vec<u8>) {
 }
 
 /// A line for the answer and one for each of its reports.
-fn print_answer(text: &mut Vec<u8>, number: usize, answer: &Answer, buffer: &[u8]) {
+pub(crate) fn print_answer(text: &mut Vec<u8>, number: usize, answer: &Answer, buffer: &[u8]) {
     print_line(text, b'T', &[number as u64, answer.refusal_number().into(), answer.reports as u64, answer.rows.into()]);
     for Report { to, code, order, amount } in reports(buffer, answer.reports) {
         print_line(text, b'R', &[to.into(), code.into(), order.into(), amount]);
@@ -35,13 +35,18 @@ fn print_covers(text: &mut Vec<u8>, book: &Book) {
     }
 }
 
-fn print_line(text: &mut Vec<u8>, letter: u8, numbers: &[u64]) {
+pub(crate) fn print_line(text: &mut Vec<u8>, letter: u8, numbers: &[u64]) {
+    print_numbers(text, letter, numbers);
+    text.push(b'\n');
+}
+
+/// A letter, and each number behind a space.
+pub(crate) fn print_numbers(text: &mut Vec<u8>, letter: u8, numbers: &[u64]) {
     text.push(letter);
     for &number in numbers {
         text.push(b' ');
         print_number(text, number);
     }
-    text.push(b'\n');
 }
 
 fn print_number(text: &mut Vec<u8>, mut number: u64) {

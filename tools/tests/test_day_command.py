@@ -56,6 +56,11 @@ class Command(unittest.TestCase):
         said = "day: cut: cut off: the name of day 1 at byte 543 has 0 bytes of 1"
         self.fails(self.run_day("unpack", "--many", "cut"), 1, said)
 
+    def test_inputs(self):
+        ran = self.run_day("pack", "--inputs", "-", input=b"day a\nbytes\nbuffer 2 3\nlength 0\n1 tick\n")
+        self.assertEqual(ran.stdout, bytes.fromhex("00000001 00000000 00000001 61 00000000 00000002 03"))
+        self.assertEqual(self.run_day("unpack", "--inputs", "-", input=b"").returncode, 2)
+
     def test_mistakes_leave_what_was_there(self):
         self.put("bad.day", b"1 tick\n1 tick tock\n\n5 cut now\n")
         self.put("out", b"before")

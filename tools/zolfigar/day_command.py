@@ -3,7 +3,7 @@
 import argparse
 import sys
 
-from . import files, many, packing, unpacking
+from . import files, inputs, many, packing, unpacking
 
 WHAT = "A day file from text, and text from a day file. docs/DAYS.md has the text form."
 USES = """example:
@@ -22,17 +22,21 @@ def arguments(words):
         added = commands.add_parser(command, help=what, description=what, epilog=USES, formatter_class=form)
         added.add_argument("file", metavar="FILE", help="what is read; - is standard input")
         added.add_argument("-o", dest="out", metavar="OUT", default="-", help="where it is written; else to standard output")
-        added.add_argument("--many", action="store_true", help="many named days, as the program days reads them")
+        forms = added.add_mutually_exclusive_group()
+        forms.add_argument("--many", action="store_true", help="many named days, as the program days reads them")
+        if command == "pack":
+            forms.add_argument("--inputs", action="store_true", help="tickets with buffers, as the program hands reads them")
     return parser.parse_args(words)
 
 
-def packed(name, data, is_many):
-    return (many if is_many else packing).pack(name, packing.decoded(name, data))
+def packed(name, data, words):
+    form = inputs if words.inputs else many if words.many else packing
+    return form.pack(name, packing.decoded(name, data))
 
 
-def unpacked(name, data, is_many):
+def unpacked(name, data, words):
     try:
-        return (many if is_many else unpacking).unpack(data).encode()
+        return (many if words.many else unpacking).unpack(data).encode()
     except many.NotMany as error:
         raise files.Failed(f"{name}: {error}") from None
 
@@ -51,7 +55,7 @@ def carry_out(words):
     look_at_streams(words)
     name = "standard input" if words.file == "-" else words.file
     work = packed if words.command == "pack" else unpacked
-    files.write(words.out, work(name, files.read(words.file), words.many))
+    files.write(words.out, work(name, files.read(words.file), words))
     return 0
 
 

@@ -1,8 +1,12 @@
-//! The check: random days through this book and through the proved program, which must print the same lines.
+//! The check: random days, and random tickets handed in one by one, through this book and through the proved programs, which must
+//! print the same lines.
 
 mod codes;
 mod damage;
 mod days;
+mod hands;
+mod inputs;
+mod inputs_tally;
 mod program;
 mod random;
 mod reduce;
@@ -20,15 +24,19 @@ use std::process::ExitCode;
 use std::time::{Duration, Instant};
 use tally::Tally;
 
-const USAGE: &str = "usage: check PROGRAM [--days N] [--seed S] [--first N] [--seconds T] [--out DIR]
+const USAGE: &str =
+    "usage: check [PROGRAM] [--hands PROGRAM] [--days N] [--inputs N] [--seed S] [--first N] [--seconds T] [--out DIR]
        check --write DIR [--days N] [--seed S]
-Runs random days through PROGRAM and through this book, compares all lines and prints what was met.
-  --days N     as many days (default 20000, or without end if there are seconds)
-  --seed S     the seed of all days (default 1)
-  --first N    the number of the first day (default 0)
-  --seconds T  no new days after so many seconds
-  --out DIR    where a day that differs is written (default: the system's temporary folder)
-  --write DIR  writes full working days there and compares nothing";
+Runs random days through PROGRAM and through this book, compares all lines and prints what was met; then the same of random
+tickets that are handed in one by one, each with a buffer of its own, if there is a program for these.
+  --hands PROGRAM  the program that hands tickets in one by one
+  --days N         as many days (default 20000, or without end if there are seconds)
+  --inputs N       at least so many tickets one by one, in whole cases (default 20000); with 0 none
+  --seed S         the seed of all days and cases (default 1)
+  --first N        the number of the first day and of the first case (default 0)
+  --seconds T      no new days after so many seconds
+  --out DIR        where a day or case that differs is written (default: the system's temporary folder)
+  --write DIR      writes full working days there and compares nothing";
 
 const DEFAULT_DAYS: u64 = 20_000;
 /// Days that go through the program at once.
@@ -38,8 +46,10 @@ const FAULTY_ONE_IN: u64 = 4;
 
 struct Options {
     program: Option<PathBuf>,
+    hands: Option<PathBuf>,
     write: Option<PathBuf>,
     days: Option<u64>,
+    inputs: Option<u64>,
     seconds: Option<u64>,
     seed: u64,
     first: u64,
@@ -51,13 +61,13 @@ fn main() -> ExitCode {
         eprintln!("{USAGE}");
         return ExitCode::from(2);
     };
-    let result = match (&options.program, &options.write) {
-        (Some(path), None) => check(&options, &Program { path: path.clone() }),
-        (None, Some(folder)) => write_days(&options, folder).map(|()| true),
-        _ => {
+    let result = match (&options.program, &options.hands, &options.write) {
+        (None, None, Some(folder)) => write_days(&options, folder).map(|()| true),
+        (None, None, None) | (_, _, Some(_)) => {
             eprintln!("{USAGE}");
             return ExitCode::from(2);
         }
+        (days, hands, None) => check_both(&options, days.as_deref(), hands.as_deref()),
     };
     match result {
         Ok(true) => ExitCode::SUCCESS,
@@ -71,11 +81,22 @@ fn main() -> ExitCode {
 
 /// None if an argument is wrong.
 fn options(mut arguments: impl Iterator<Item = String>) -> Option<Options> {
-    let mut options =
-        Options { program: None, write: None, days: None, seconds: None, seed: 1, first: 0, out: std::env::temp_dir() };
+    let mut options = Options {
+        program: None,
+        hands: None,
+        write: None,
+        days: None,
+        inputs: None,
+        seconds: None,
+        seed: 1,
+        first: 0,
+        out: std::env::temp_dir(),
+    };
     while let Some(argument) = arguments.next() {
         match argument.as_str() {
+            "--hands" => options.hands = Some(arguments.next()?.into()),
             "--days" => options.days = Some(arguments.next()?.parse().ok()?),
+            "--inputs" => options.inputs = Some(arguments.next()?.parse().ok()?),
             "--seconds" => options.seconds = Some(arguments.next()?.parse().ok()?),
             "--seed" => options.seed = arguments.next()?.parse().ok()?,
             "--first" => options.first = arguments.next()?.parse().ok()?,
@@ -86,6 +107,15 @@ fn options(mut arguments: impl Iterator<Item = String>) -> Option<Options> {
         }
     }
     Some(options)
+}
+
+/// True if all was the same and everything was met, by the programs that there are.
+fn check_both(options: &Options, days: Option<&Path>, hands: Option<&Path>) -> io::Result<bool> {
+    let program = |path: &Path| Program { path: path.into() };
+    let days_are_fine = days.map_or(Ok(true), |path| check(options, &program(path)))?;
+    let hands = hands.filter(|_| days_are_fine && options.inputs != Some(0));
+    let hands_are_fine = hands.map_or(Ok(true), |path| hands::check(options, &program(path)))?;
+    Ok(days_are_fine && hands_are_fine)
 }
 
 /// The file of a day, and the number of its fault if it has one.

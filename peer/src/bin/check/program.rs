@@ -1,4 +1,4 @@
-//! Runs the proved program over many days at once and takes its text apart again.
+//! Runs a proved program over many days or cases at once and takes its text apart again.
 
 use std::io::{self, Read, Write};
 use std::path::PathBuf;
@@ -11,13 +11,18 @@ pub struct Program {
 impl Program {
     /// The program's text for each day, named by its place in the list. A day without text is missing in the program's.
     pub fn texts(&self, files: &[Vec<u8>]) -> io::Result<Vec<Option<Vec<u8>>>> {
-        let text = self.run(&input(files))?;
+        self.texts_of(&input(files), files.len())
+    }
+
+    /// The same for an input that is made already.
+    pub fn texts_of(&self, input: &[u8], count: usize) -> io::Result<Vec<Option<Vec<u8>>>> {
+        let text = self.run(input)?;
         let mut parts = parts(&text).into_iter().peekable();
         let text_of = |number: usize| {
             let name = format!("# {number}");
             parts.next_if(|(line, _)| *line == name.as_bytes()).map(|(_, lines)| lines.to_vec())
         };
-        Ok((0..files.len()).map(text_of).collect())
+        Ok((0..count).map(text_of).collect())
     }
 
     fn run(&self, input: &[u8]) -> io::Result<Vec<u8>> {

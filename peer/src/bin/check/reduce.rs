@@ -39,7 +39,7 @@ fn smaller_if_it_differs(smaller: Day, day: Day, differs: &impl Fn(&[u8]) -> boo
 }
 
 /// Drops ever shorter runs of a list.
-fn reduce_list<T: Clone>(mut list: Vec<T>, differs: impl Fn(&[T]) -> bool) -> Vec<T> {
+pub fn reduce_list<T: Clone>(mut list: Vec<T>, differs: impl Fn(&[T]) -> bool) -> Vec<T> {
     let mut run = list.len().div_ceil(2);
     while run > 0 {
         let mut at = 0;

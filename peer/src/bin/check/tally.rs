@@ -340,7 +340,7 @@ impl Tally {
     }
 }
 
-fn print_row(name: &str, count: u64, missing: &mut Vec<String>) {
+pub fn print_row(name: &str, count: u64, missing: &mut Vec<String>) {
     println!("  {name:<62}{count:>10}");
     if count == 0 {
         missing.push(name.to_string());

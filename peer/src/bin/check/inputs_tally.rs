@@ -1,0 +1,172 @@
+//! Counts what the cases met: refusals, accepted kinds, lengths of tickets and buffers, what was kept, and books at the end.
+
+use crate::inputs::Case;
+use crate::tally::print_row;
+use peer::book::{Answer, Book};
+use peer::handing::{open, status_word, Input};
+use peer::report::{BUFFER_LEN, REPORT_LEN};
+use peer::ticket::TICKET_LEN;
+use std::collections::BTreeMap;
+
+/// Everything that is counted by name.
+const NAMES: &[&str] = &[
+    "file read",
+    "file refused, so the book is empty",
+    "ticket of 108 bytes",
+    "ticket of no byte, refusal 7",
+    "ticket of 1 to 106 bytes, refusal 7",
+    "ticket of 107 bytes, refusal 7",
+    "ticket of 109 bytes, refusal 7",
+    "ticket of 110 bytes or more, refusal 7",
+    "buffer of no byte, refusal 6",
+    "buffer of 1 to 6,526 bytes, refusal 6",
+    "buffer of 6,527 bytes, refusal 6",
+    "buffer of 6,528 bytes",
+    "buffer of 6,529 bytes",
+    "buffer of 6,530 bytes or more",
+    "refusal 6 of a ticket that is accepted with a longer buffer",
+    "refusal 6 of a ticket that isn't 108 bytes",
+    "accepted: bytes behind the reports kept",
+    "accepted without reports: all bytes kept",
+    "refusals 6 to 11: all bytes kept",
+    "refusals 12 to 22: bytes behind the expiries' reports kept",
+    "refusals 12 to 22 without reports: all bytes kept",
+    "reports up to the last byte of a buffer",
+    "clock at the end",
+    "available at the end",
+    "reserved at the end",
+    "held at the end",
+    "open debit at the end",
+    "order at the end: Waiting",
+    "order at the end: Refused",
+    "order at the end: Expired",
+    "order at the end: Returned",
+    "order at the end: Settled-none",
+    "order at the end: Settled-asked",
+    "order at the end: Settled-declined",
+];
+
+pub struct InputsTally {
+    pub cases: u64,
+    pub inputs: u64,
+    /// By refusal, 0 for accepted tickets.
+    answers: [u64; 23],
+    /// Accepted tickets by kind.
+    kinds: [u64; 12],
+    names: BTreeMap<&'static str, u64>,
+}
+
+impl InputsTally {
+    pub fn new() -> Self {
+        let names = NAMES.iter().map(|name| (*name, 0)).collect();
+        InputsTally { cases: 0, inputs: 0, answers: [0; 23], kinds: [0; 12], names }
+    }
+
+    pub fn case(&mut self, case: &Case) {
+        let (refusal, mut book) = open(&case.file);
+        self.cases += 1;
+        self.count(if refusal == 0 { "file read" } else { "file refused, so the book is empty" });
+        let mut short: Option<&Input> = None;
+        for input in &case.inputs {
+            let answer = book.hand_in(&input.ticket, &mut vec![input.fill; input.buffer]);
+            self.answer(input, answer);
+            let is_again = short.is_some_and(|before| before.ticket == input.ticket);
+            self.count_if(is_again && answer.refusal.is_none(), "refusal 6 of a ticket that is accepted with a longer buffer");
+            short = (input.buffer < BUFFER_LEN).then_some(input);
+        }
+        self.book(&book);
+    }
+
+    fn answer(&mut self, input: &Input, answer: Answer) {
+        let refusal = answer.refusal_number();
+        self.inputs += 1;
+        self.answers[usize::from(refusal)] += 1;
+        if refusal == 0 {
+            self.kinds[usize::from(input.ticket[0])] += 1;
+        }
+        self.ticket_length(input.ticket.len(), refusal);
+        self.buffer_length(input.buffer);
+        self.kept(input, answer);
+    }
+
+    fn ticket_length(&mut self, length: usize, refusal: u8) {
+        self.count_if(length != TICKET_LEN && refusal == 6, "refusal 6 of a ticket that isn't 108 bytes");
+        if length == TICKET_LEN {
+            self.count("ticket of 108 bytes");
+        } else if refusal == 7 {
+            self.count(match length {
+                0 => "ticket of no byte, refusal 7",
+                1..=106 => "ticket of 1 to 106 bytes, refusal 7",
+                107 => "ticket of 107 bytes, refusal 7",
+                109 => "ticket of 109 bytes, refusal 7",
+                _ => "ticket of 110 bytes or more, refusal 7",
+            });
+        }
+    }
+
+    fn buffer_length(&mut self, length: usize) {
+        self.count(match length {
+            0 => "buffer of no byte, refusal 6",
+            1..=6_526 => "buffer of 1 to 6,526 bytes, refusal 6",
+            6_527 => "buffer of 6,527 bytes, refusal 6",
+            6_528 => "buffer of 6,528 bytes",
+            6_529 => "buffer of 6,529 bytes",
+            _ => "buffer of 6,530 bytes or more",
+        });
+    }
+
+    fn kept(&mut self, input: &Input, answer: Answer) {
+        let is_full = answer.reports != 0 && answer.reports * REPORT_LEN == input.buffer;
+        self.count(match (answer.refusal_number(), answer.reports) {
+            _ if is_full => "reports up to the last byte of a buffer",
+            (0, 0) => "accepted without reports: all bytes kept",
+            (0, _) => "accepted: bytes behind the reports kept",
+            (6..=11, _) => "refusals 6 to 11: all bytes kept",
+            (_, 0) => "refusals 12 to 22 without reports: all bytes kept",
+            _ => "refusals 12 to 22: bytes behind the expiries' reports kept",
+        });
+    }
+
+    /// The book at the end, all of which the program prints.
+    fn book(&mut self, book: &Book) {
+        self.count_if(book.clock() != 0, "clock at the end");
+        for cover in book.covers() {
+            self.count_if(cover.available != 0, "available at the end");
+            self.count_if(cover.reserved != 0, "reserved at the end");
+            self.count_if(cover.held != 0, "held at the end");
+            self.count_if(cover.open_debit != 0, "open debit at the end");
+        }
+        for order in book.orders() {
+            let word = status_word(order.status);
+            let name = NAMES.iter().find(|name| name.strip_prefix("order at the end: ") == Some(word));
+            self.count(name.expect("every status has a name"));
+        }
+    }
+
+    fn count(&mut self, name: &'static str) {
+        *self.names.get_mut(name).expect("the list has every name") += 1;
+    }
+
+    fn count_if(&mut self, is_met: bool, name: &'static str) {
+        if is_met {
+            self.count(name);
+        }
+    }
+
+    /// Prints the table and gives the names of what was never met.
+    pub fn print(&self) -> Vec<String> {
+        let mut missing = Vec::new();
+        println!("\ncases {}, tickets handed in one by one {}", self.cases, self.inputs);
+        for refusal in (0..23).filter(|refusal| *refusal == 0 || *refusal > 5) {
+            let name = if refusal == 0 { "accepted".to_string() } else { format!("refusal {refusal}") };
+            print_row(&name, self.answers[refusal], &mut missing);
+        }
+        for kind in 1..12 {
+            print_row(&format!("accepted of kind {kind}"), self.kinds[kind], &mut missing);
+        }
+        for name in NAMES {
+            print_row(name, self.names[name], &mut missing);
+        }
+        missing
+    }
+}
