@@ -6,7 +6,7 @@
 --     ended-as-told         an order that waits no longer has the status that all were told
 --     goes-on               from the book that any inputs left the claim holds again
 --     beginnings            what is seen of a list is what is seen of its beginning, and then of the rest from the book that this left
-use mathlib.Core.Path.{_≡_, refl, sym, subst, ap, _∙_}
+use mathlib.Core.Path.{_≡_, refl, subst, ap, _∙_}
 use mathlib.Core.Bool.{Bool, true, false, cond}
 use mathlib.Core.List.{List, [], _∷_, _++_}
 use Prim.Native.Nat.{ℕ, _+_, _≤_, _<_}
