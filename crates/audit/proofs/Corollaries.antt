@@ -4,8 +4,9 @@
 --                           cover-outs and confirmed credits
 --     ended-once            no more than one ticket ends an order's wait
 --     ended-as-told         an order that waits no longer has the status that all were told
+--     goes-on               from the book that any inputs left the claim holds again
 --     beginnings            what is seen of a list is what is seen of its beginning, and then of the rest from the book that this left
-use mathlib.Core.Path.{_≡_, refl, sym, subst, ap, _∙_}
+use mathlib.Core.Path.{_≡_, refl, subst, ap, _∙_}
 use mathlib.Core.Bool.{Bool, true, false, cond}
 use mathlib.Core.List.{List, [], _∷_, _++_}
 use Prim.Native.Nat.{ℕ, _+_, _≤_, _<_}
@@ -20,12 +21,13 @@ use Rattle.rules.specs.Cover.{whole}
 use Rattle.rules.specs.Inputs.{Input, Seen, seenFrom, bookFrom}
 use Rattle.rules.specs.Sound.{Sound}
 use Rattle.rules.specs.declared.Book.{Book}
-use Rattle.rules.proofs.Inputs.{seen-append}
+use Rattle.rules.proofs.Inputs.{seen-append, inputs-sound}
 use Rattle.audit.specs.History.{History, from, _▹_, participants, Each, sumOver}
 use Rattle.audit.specs.Sums.{coverIn, coverOut, debit, credit, settledTo, settledFrom, returnBy, returnTo, outgoing, incoming}
 use Rattle.audit.specs.Orders.{orderCount, isNone, waits, endingTickets, allEndings, endCode}
 use Rattle.audit.specs.Claim.{AllCarry, codeOf}
 use Rattle.audit.specs.Run.{eventOf, eventsOn, historyOf}
+use Rattle.audit.specs.Demand3.{Holds}
 use Rattle.audit.proofs.Balance.{Balanced}
 use Rattle.audit.proofs.Carrying.{Carried, carried-start, carried-inputs}
 use Rattle.audit.proofs.Theorem.{holds}
@@ -133,6 +135,9 @@ module _ (b : Book) (s : Sound b) (inputs : List Input) where
       first : (code amount : ℕ) (rs : List Report) → isNone rs ≡ false → AllCarry code amount rs → codeOf rs ≡ code
       first code amount [] e c = let z : _≡_ {A = ℕ} 0 1 = cc in absurd (omega arith)
       first code amount (r ∷ rs) e c = c .0
+
+pub goes-on : (b : Book) → Sound b → (inputs : List Input) → Holds (bookFrom b inputs)
+goes-on b s inputs = holds (bookFrom b inputs) (inputs-sound b s inputs)
 
 on-append : (h : History) (ss ts : List Seen) → eventsOn h (ss ++ ts) ≡ eventsOn (eventsOn h ss) ts
 on-append h [] ts = refl

@@ -7,7 +7,7 @@
 use mathlib.Core.Path.{_≡_, refl, sym, subst, _∙_, ap, ap₂}
 use mathlib.Core.Bool.{Bool, true, _&&_, cond}
 use mathlib.Core.List.{List, [], _∷_, _++_}
-use Prim.Native.Nat.{ℕ, zero, _+_, _-_, _≤_, _<_}
+use Prim.Native.Nat.{ℕ, _+_, _-_, _≤_, _<_}
 use native.Mathlib.Omega.{arith}
 use borrow.Author.Tests.{le-ltb}
 use lib.Dec.{leb, ltb, eqb}
@@ -20,19 +20,17 @@ use Rattle.report.specs.Ending.{endingsIn}
 use Rattle.report.specs.declared.Report.{Report}
 use Rattle.dayfile.specs.Limits.{mostParticipants}
 use Rattle.dayfile.specs.declared.roster.Roster.{Roster}
-use Rattle.rules.specs.Book.{noCover, orderOf, coverOf, bookOf}
-use Rattle.rules.specs.Status.{isWaiting}
+use Rattle.rules.specs.Book.{noCover, coverOf, bookOf}
 use Rattle.rules.specs.Cover.{whole}
 use Rattle.rules.specs.Inputs.{Input, Seen, seenFrom, bookFrom}
-use Rattle.rules.specs.declared.Cover.{Cover}
 use Rattle.rules.specs.declared.Order.{Order}
 use Rattle.rules.specs.declared.Book.{Book}
 use Rattle.rules.proofs.Stepping.{file-sound}
 use Rattle.audit.specs.History.{Event, History, from, _▹_, participants, Each, sumOver, isKind, isSentBy}
 use Rattle.audit.specs.Sums.{amountIf, coverIn, coverOut, cutBefore, lastCutIn, lastCut, settledTo, settledFrom, returnBy, returnTo, goesOut, comesIn, outgoing, incoming}
-use Rattle.audit.specs.Orders.{isOrder, orderCount, ofOrder, orderAmount, orderTime, orderTxid, isPaidBy, isForBank, startEndings, allEndings, isNone, waits, waitingPart, waitingTotal, isFirst4, letsExpire, setsClock, mustExpire, asksAbout, ownEndings, endingTickets, tellsParties}
+use Rattle.audit.specs.Orders.{isOrder, orderCount, ofOrder, orderAmount, orderTime, isForBank, startEndings, allEndings, isNone, waits, waitingPart, waitingTotal, isFirst4, letsExpire, setsClock, mustExpire, asksAbout, ownEndings, endingTickets, tellsParties}
 use Rattle.audit.specs.Claim.{AllCarry, codeOf, ClaimOf, Claim}
-use Rattle.audit.specs.Run.{eventOf, eventsOn, historyOf}
+use Rattle.audit.specs.Run.{eventOf, eventsOn}
 use Rattle.audit.proofs.Nothing as alone
 use Rattle.audit.proofs.Nothing.{rosterOf, ClaimOfEvents}
 use Rattle.audit.proofs.Theorem.{demand3}

@@ -1,7 +1,7 @@
 -- One step: where history and book agreed before, they agree after. Assumes nothing.
 use mathlib.Core.Path.{_≡_, refl, sym, subst, _∙_, ap}
 use mathlib.Core.Bool.{Bool, true, false, and-false}
-use mathlib.Core.List.{List, [], _∷_, _++_, append-nil}
+use mathlib.Core.List.{List, [], _++_, append-nil}
 use Prim.Native.Nat.{ℕ, _≤_, _<_}
 use native.Mathlib.Omega.{arith}
 use borrow.Author.Tests.{le-leb, lt-leb, ne-eqb}
@@ -26,7 +26,7 @@ use Rattle.rules.proofs.Expiring.{dueIn, expiredIf, Expires, tick-expires, noth
 use Rattle.rules.proofs.Courses.{handed-goes}
 use Rattle.rules.proofs.Stepping.{own-sound}
 use Rattle.rules.proofs.Accepting.{fieldsOf}
-use Rattle.audit.specs.History.{Event, History, _▹_, Each}
+use Rattle.audit.specs.History.{Event, History, _▹_}
 use Rattle.audit.specs.Orders.{setsClock, isForBank, mustExpire}
 use Rattle.audit.proofs.Agreeing.{Agrees, waits-in-book}
 use Rattle.audit.proofs.Events.{agrees-after}

@@ -1,14 +1,14 @@
 -- A sound book and the history that starts from it agree. Assumes nothing.
 use mathlib.Core.Path.{_≡_, refl, ap, _∙_}
-use mathlib.Core.Bool.{Bool, true, false, _&&_, cond}
-use mathlib.Core.List.{List, [], _∷_}
+use mathlib.Core.Bool.{Bool, true, false, cond}
+use mathlib.Core.List.{[], _∷_}
 use mathlib.Core.Logic.{_⊎_, inl, inr}
 use Prim.Native.Nat.{ℕ, _<_}
 use native.Mathlib.Omega.{arith}
 use borrow.Author.Tests.{eqb-true, eq-eqb, lt-ltb, le-ltb}
 use lib.Dec.{eqb}
 use Rattle.report.specs.declared.Report.{Report}
-use Rattle.rules.specs.Book.{orderOf, coverOf, isBank}
+use Rattle.rules.specs.Book.{orderOf, coverOf}
 use Rattle.rules.specs.Status.{isWaiting}
 use Rattle.rules.specs.Sound.{Sound}
 use Rattle.rules.specs.declared.Order.{Order}

@@ -3,6 +3,8 @@
 --     orderCount       how many orders were accepted
 --     opens            this event is order i
 --     ofOrder          something read off the event of order i, or off its row in the start
+--     endCode          how the wait of an order in the start ended, as the code of an ending
+--     startEndings     that ending, if it waits no longer
 --     allEndings       the endings of order i: reports 2, 3 or 4 with that number
 --     waits            order i waits after the history
 --     waitingTotal     the amounts of the waiting orders that participant p pays
