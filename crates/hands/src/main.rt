@@ -3,7 +3,8 @@
 // Standard input has cases. A case has the lengths of its name, at most 256, and of its day file, at most 57,101, and how many
 // inputs it has, each in 4 bytes, the highest first; then the name, the day file and the inputs. An input has the lengths of its
 // ticket and of its buffer, each in 4 bytes and at most 8,192, the byte that the buffer is filled with, and the ticket. The tickets
-// that the day file itself has are not handed in. It ends where the input does, at a greater length and at a case that is cut off.
+// that the day file itself has are not handed in. It ends where the input does and at a greater length; of a case that is cut off it
+// prints what is there.
 //
 // On standard output stand for each case, with numbers in decimal:
 //
