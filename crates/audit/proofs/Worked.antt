@@ -13,7 +13,7 @@ use lib.Dec.{eqb, lit<}
 use lib.ListN.{length}
 use Rattle.fields.proofs.Tests.{and-left, and-right}
 use Rattle.codes.specs.Bic.{isBic}
-use Rattle.codes.specs.Iban.{isIban}
+use Rattle.iban.specs.Iban.{isIban}
 use Rattle.codes.specs.Txid.{isTxid}
 use Rattle.ticket.specs.Reading.{reading}
 use Rattle.dayfile.specs.DayFile.{dayFile}
