@@ -12,7 +12,7 @@ use mathlib.Core.Bool.{Bool, true, _&&_, not, cond}
 use mathlib.Core.List.{List, [], _∷_, _++_, map}
 use borrow.Author.Tests.{not-true}
 use lib.ListN.{length, replicate}
-use Rattle.codes.specs.Answer.{answer}
+use Rattle.classes.specs.Answer.{answer}
 use Rattle.fields.specs.Text.{text, same, padded}
 use Rattle.fields.proofs.Tests.{and-left, and-right}
 use Rattle.fields.proofs.Same.{same-true}

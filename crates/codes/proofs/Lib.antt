@@ -1,7 +1,4 @@
-pub mod Answer
-pub mod Bytes
-pub mod All
-pub mod Number
-pub mod Carry
 pub mod Whole
+pub mod Padded
+pub mod Filled
 pub mod Cases

@@ -4,8 +4,8 @@ use mathlib.Core.Bool.{Bool, _&&_}
 use mathlib.Core.List.{List}
 use lib.Dec.{eqb}
 use lib.ListN.{length, getD, take, drop}
-use Rattle.codes.specs.Class.{isIn, allIn}
-use Rattle.codes.specs.declared.classes.Class.the-variants.{Capital, CapitalOr2To9, CapitalButOOrDigit, CapitalOrDigit}
+use Rattle.classes.specs.Class.{isIn, allIn}
+use Rattle.classes.specs.declared.Class.the-variants.{Capital, CapitalOr2To9, CapitalButOOrDigit, CapitalOrDigit}
 
 -- 01: 11 bytes: six A-Z; one of A-Z or 2-9; one of A-Z but O, or 0-9; three of A-Z or 0-9
 unfoldable pub isBic : List ℕ → Bool

@@ -1,6 +1,2 @@
-pub mod Answer
-pub mod Class
 pub mod Bic
-pub mod Iban
 pub mod Txid
-pub mod Carry

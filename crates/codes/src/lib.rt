@@ -1,13 +1,13 @@
 // The checks of BIC, IBAN and TxId. Each takes unpadded bytes of any length and content and answers 1 for yes and 0 for no;
-// nothing is asked of a caller. They are the same functions for other crates and for C (gateway/zolfigar.h).
-pub mod classes;
-mod remainder;
-
+// nothing is asked of a caller. They are the same functions for other crates and for C (gateway/zolfigar.h). Beside them the
+// check of a TxId as it stands in a ticket, padded with zero bytes; that of an IBAN is in `iban`.
 use classes::Class;
 ghost use mathlib.Core.Path.{_≡_};
-ghost use Rattle.codes.specs.Answer.{answer};
+ghost use lib.ListN.{length};
+ghost use Rattle.fields.specs.Text.{unpadded};
+ghost use Rattle.classes.specs.Answer.{answer};
+ghost use Rattle.iban.specs.Iban.{isIban};
 ghost use Rattle.codes.specs.Bic.{isBic};
-ghost use Rattle.codes.specs.Iban.{isIban};
 ghost use Rattle.codes.specs.Txid.{isTxid};
 
 #[no_mangle]
@@ -24,23 +24,25 @@ pub extern "C" fn zolfigar_bic_ok(s: &[u8]) -> u8
     (letters & area & place & branch) as u8
 }
 
+// Padded and then checked as in a ticket. Bytes that end in a zero are turned away before: their padded field would have another
+// value.
 #[no_mangle]
 pub extern "C" fn zolfigar_iban_ok(s: &[u8]) -> u8
     ensures { λ r. ⌜ r ≡ answer (isIban (now (s .entry))) ⌝ }
 {
-    if s.len() < 5 {
+    let n = s.len();
+    if n < 1 {
         return 0;
     }
-    if 34 < s.len() {
+    if 34 < n {
         return 0;
     }
-    let country = classes::all_in(Class::Capital, &s[0..2]);
-    let check = classes::all_in(Class::Digit, &s[2..4]);
-    let rest = classes::all_in(Class::LetterOrDigit, &s[4..]);
-    if !(country & check & rest) {
+    if s[n - 1] == 0 {
         return 0;
     }
-    (remainder::of_moved(s) == 1) as u8
+    let mut field = [0u8; 34];
+    fields::copy(s, &mut field[0..n]);
+    iban::iban_ok(&field) as u8
 }
 
 #[no_mangle]
@@ -54,4 +56,12 @@ pub extern "C" fn zolfigar_txid_ok(s: &[u8]) -> u8
         return 0;
     }
     classes::all_in(Class::Txid, s) as u8
+}
+
+// A TxId in its padded field: where the padding begins is never asked.
+pub fn txid_ok(s: &[u8]) -> bool
+    requires { ⌜ length (now s) ≡ 35 ⌝ }
+    ensures { λ r. ⌜ r ≡ isTxid (unpadded (now (s .entry))) ⌝ }
+{
+    (s[0] != 0) & classes::all_padded(Class::Txid, s)
 }

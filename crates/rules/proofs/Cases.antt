@@ -4,8 +4,9 @@ use mathlib.Core.List.{List, [], _∷_, _++_}
 use Rattle.fields.specs.Text.{text}
 use Rattle.fields.proofs.Rows.{Row, AllMet, all-met}
 use Rattle.codes.specs.Bic.{isBic}
-use Rattle.codes.specs.Iban.{isIban}
+use Rattle.iban.specs.Iban.{isIban}
 use Rattle.codes.specs.Txid.{isTxid}
+use Rattle.iban.proofs.Cases
 use Rattle.codes.proofs.Cases
 use Rattle.ticket.specs.Reading.{reading}
 use Rattle.ticket.specs.Writing.{coverInTicket, orderTicket, yesTicket, inquiryTicket, cutTicket, confirmTicket}
@@ -68,9 +69,9 @@ marked =
     ∷ day "a refused file prints its refusal alone" (text "short") "F 1\n"
     ∷ []
 
--- the rows of `codes` and these, under one statement
+-- the rows of `iban`, those of `codes` and these, under one statement
 abbrev pub cases : List Row
-cases = Rattle.codes.proofs.Cases.cases ++ marked ++ edges ++ limits
+cases = Rattle.iban.proofs.Cases.cases ++ Rattle.codes.proofs.Cases.cases ++ marked ++ edges ++ limits
 
 pub cases-met : AllMet cases
 unfolding isBic isIban isTxid reading dayFile followed senderIn orderIn routeIn wayIn anyOpen total tick stepOf handed output

@@ -8,12 +8,13 @@ use borrow.Author.Tests.{eqb-true, eq-eqb, le-ltb}
 use lib.Dec.{eqb}
 use lib.ListN.{length}
 use Rattle.codes.specs.Bic.{isBic}
-use Rattle.codes.specs.Iban.{isIban}
+use Rattle.iban.specs.Iban.{isIban}
 use Rattle.codes.specs.Txid.{isTxid}
 use Rattle.fields.specs.Number.{bytesOf}
 use Rattle.fields.specs.Text.{blank, unpadded, padded}
 use Rattle.fields.proofs.Padding.{padded-full, unpadded-padded}
-use Rattle.codes.proofs.Whole.{bic-length, txid-length, txid-whole, iban-length, iban-whole}
+use Rattle.codes.proofs.Whole.{bic-length, txid-length, txid-whole}
+use Rattle.iban.proofs.Whole.{iban-length, iban-whole}
 use Rattle.ticket.specs.Layout as layout
 use Rattle.ticket.specs.Form.{mostCover, formOf}
 use Rattle.ticket.specs.Shape.{bicIfListed, txidIfListed, blankUnlessListed, wellFormed, shapeOf, accountOf}

@@ -6,12 +6,13 @@ use Prim.Native.Nat.{ℕ, _^_, _≤_, _<_}
 use native.Mathlib.Omega.{arith}
 use lib.ListN.{length, take, drop, length-append, length-replicate}
 use lib.Seq.{take-at, drop-at, drop-drop}
-use Rattle.codes.specs.Iban.{isIban}
+use Rattle.iban.specs.Iban.{isIban}
 use Rattle.codes.specs.Txid.{isTxid}
 use Rattle.fields.specs.Text.{unpadded, padded}
 use Rattle.fields.proofs.BigEndian.{reads-back}
 use Rattle.fields.proofs.Padding.{length-padded, padded-full, unpadded-padded}
-use Rattle.codes.proofs.Whole.{txid-whole, iban-whole, txid-length, iban-length}
+use Rattle.codes.proofs.Whole.{txid-whole, txid-length}
+use Rattle.iban.proofs.Whole.{iban-whole, iban-length}
 use Rattle.ticket.specs.Layout.{ticketLength, kindByte, flagByte, timeOf, amountOf, senderOf, payeeOf, txidField, txidOf, ibanField, ibanOf, lastField}
 use Rattle.ticket.specs.Writing.{Written, ticketBytes}
 

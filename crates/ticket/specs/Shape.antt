@@ -12,7 +12,7 @@ use mathlib.Core.List.{List}
 use lib.Dec.{eqb}
 use lib.ListN.{length}
 use Rattle.codes.specs.Bic.{isBic}
-use Rattle.codes.specs.Iban.{isIban}
+use Rattle.iban.specs.Iban.{isIban}
 use Rattle.codes.specs.Txid.{isTxid}
 use Rattle.fields.specs.Text.{blank, unpadded}
 use Rattle.ticket.specs.Layout as layout

@@ -10,7 +10,7 @@ use mathlib.Core.Path.{_≡_}
 use mathlib.Core.Bool.{Bool, true, false}
 use mathlib.Core.List.{List, [], _∷_, _++_}
 use Rattle.codes.specs.Bic.{isBic}
-use Rattle.codes.specs.Iban.{isIban}
+use Rattle.iban.specs.Iban.{isIban}
 use Rattle.codes.specs.Txid.{isTxid}
 use Rattle.fields.specs.Number.{bytesOf}
 use Rattle.fields.specs.Text.{padded}

@@ -71,7 +71,7 @@ fn txid_if_listed(listed: bool, s: &[u8]) -> bool
     ensures { λ r. ⌜ r ≡ txidIfListed listed (now (s .entry)) ⌝ }
 {
     if listed {
-        padded::txid_ok(s)
+        codes::txid_ok(s)
     } else {
         no_txid(s)
     }
@@ -113,7 +113,7 @@ pub fn read_account(form: Form, t: &[u8]) -> Account
 {
     let listed = form.iban;
     if listed {
-        if padded::iban_ok(&t[73..107]) {
+        if iban::iban_ok(&t[73..107]) {
             Account::Named
         } else {
             Account::Wrong

@@ -1,60 +1,57 @@
 -- `codes::zolfigar_iban_ok` meets its contract. Assumes nothing.
-use mathlib.Core.Path.{_≡_, sym, _∙_}
-use mathlib.Core.Bool.{_&&_, and-false}
-use mathlib.Core.List.{List}
-use Prim.Native.Nat.{ℕ}
+use mathlib.Core.Path.{_≡_, sym, _∙_, ap}
+use mathlib.Core.List.{List, _++_}
+use Prim.Native.Nat.{ℕ, _-_}
+use native.Mathlib.Omega.{arith}
 use denote.Ref.{now}
 use borrow.Author.Needs.{needs}
-use borrow.Author.Tests.{le-leb, lt-leb, not-true, not-false}
-use Rattle.codes.specs.Iban.{isIban}
-use Rattle.fields.proofs.Reading.{to-end}
-use Rattle.codes.proofs.All.{ibanClasses, all-spelt}
+use borrow.Author.Tests.{ne-eqb}
+use lib.ListN.{length, drop, replicate}
+use Rattle.fields.specs.Text.{unpadded, padded}
+use Rattle.fields.proofs.Padding.{length-padded}
+use Rattle.classes.specs.Answer.{answer}
+use Rattle.iban.specs.Iban.{isIban}
+use Rattle.iban.proofs.Whole.{too-few, too-many, zero-end}
+use Rattle.codes.proofs.Filled.{filled, filled-value}
 use Rattle.codes.proofs.zolfigar_iban_ok.Statement.{statement}
 use Rattle.codes.proofs.zolfigar_iban_ok.Tie as tie
 
--- behind the three tests of the classes
-module _ (c : tie.After-all-in3) where
-  abbrev l : tie.Else2
-  l = c .before .before .before .before .before .before
+-- the field that the bytes were copied into
+module _ (c : tie.After-field3) where
+  abbrev l : tie.Else3
+  l = c .before .before .before .before
 
   abbrev s : List ℕ
-  s = now (l .before .before .before .args .s)
+  s = now (l .before .before .before .before .before .args .s)
 
-  tests : (c .before .before .before .before .all-in .result && c .before .before .all-in2 .result && c .all-in3 .result) ≡ ibanClasses s
-  tests = simp (c .before .before .before .before .all-in .ensures, c .before .before .all-in2 .ensures, c .all-in3 .ensures, to-end s 4)
+  abbrev field : List ℕ
+  field = c .before .before .copy .last .1 .0 ++ drop (length s - 0) (replicate 34 0)
+
+  padded-is : field ≡ padded 34 s
+  padded-is = filled 34 s (c .before .before .copy .ensures)
+
+  long : length field ≡ 34
+  long = ap length padded-is ∙ length-padded 34 s (search needs)
+
+  value-is : unpadded field ≡ s
+  value-is = ap unpadded padded-is ∙ filled-value 34 s (length s - 1) (omega arith) (ne-eqb _ _ (l .if3 .left))
 
 pub zolfigar-iban-ok-spec : {M : Type 1} → statement M
-unfolding isIban
 zolfigar-iban-ok-spec =
     tie.close
     (tie.spec
-    -- too short
-    (λ c. simp (lt-leb _ _ (c .if1 .taken)))
-    -- too long
-    (λ c. simp (lt-leb _ _ (c .if2 .taken), and-false))
+    -- no byte
+    (λ c. rw (too-few (now (c .before .before .args .s)) (omega arith)))
+    -- too many
+    (λ c. rw (too-many (now (c .before .before .before .args .s)) (c .if2 .taken)))
+    (λ c. search needs)
+    -- a zero at the end
+    (λ c. let s = now (c .before .before .before .before .before .args .s) in rw (zero-end s (length s - 1) (omega arith) (c .if3 .taken)))
     (λ c. search needs)
     (λ c. search needs)
     (λ c. search needs)
     (λ c κs. search needs)
+    (λ c. sym (long c))
+    (λ c κs. long c)
     (λ c. search needs)
-    (λ c. search needs)
-    (λ c. search needs)
-    (λ c κs. search needs)
-    (λ c. search needs)
-    (λ c. search needs)
-    (λ c. search needs)
-    (λ c κs. search needs)
-    -- a byte of another class
-    (λ c.
-    let p = c .before in
-    simp (le-leb _ _ (l p .before .if1 .left), le-leb _ _ (l p .if2 .left), sym (tests p) ∙ not-true _ (c .if3 .taken)))
-    (λ c κs. (search needs, all-spelt (s (c .before)) (sym (tests (c .before)) ∙ not-false _ (c .if3 .left))))
-    (λ c. search needs)
-    (λ c.
-    let p = c .before .before in
-    simp (
-      c .of-moved .ensures,
-      le-leb _ _ (l p .before .if1 .left),
-      le-leb _ _ (l p .if2 .left),
-      sym (tests p) ∙ not-false _ (c .before .if3 .left),
-    )))
+    (λ c. ap answer (c .iban-ok .ensures ∙ ap isIban (value-is (c .before)))))

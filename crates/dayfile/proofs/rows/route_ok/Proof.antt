@@ -1,7 +1,7 @@
 -- `dayfile::rows::route_ok` meets its contract. Assumes nothing.
 use native.Mathlib.Nat.{add-sub-cancel-left}
 use Rattle.fields.proofs.Reading.{span}
-use Rattle.codes.proofs.Answer.{answer-is-1}
+use Rattle.classes.proofs.Answer.{answer-is-1}
 use borrow.Author.Needs.{needs}
 use Rattle.dayfile.proofs.rows.route_ok.Statement.{statement}
 use Rattle.dayfile.proofs.rows.route_ok.Tie as tie

@@ -1,5 +1,5 @@
 -- `ticket::shapes::bic_if_listed` meets its contract. Assumes nothing.
-use Rattle.codes.proofs.Answer.{answer-is-1}
+use Rattle.classes.proofs.Answer.{answer-is-1}
 use borrow.Author.Needs.{needs}
 use Rattle.ticket.proofs.shapes.bic_if_listed.Statement.{statement}
 use Rattle.ticket.proofs.shapes.bic_if_listed.Tie as tie

@@ -1,0 +1,5 @@
+pub mod Answer
+pub mod Bytes
+pub mod All
+pub mod Unpadding
+pub mod Checked

@@ -1,0 +1,3 @@
+pub mod Iban
+pub mod Spelling
+pub mod Carried

@@ -1,0 +1,42 @@
+-- The number that the bytes of a padded IBAN spell, by sums and products alone: no byte is asked what it is.
+--     letter       1 for a byte above the digits, else 0
+--     used         0 for a zero byte, else 1
+--     worth        what a byte counts for: of a letter or a digit its value, of a zero byte 0
+--     scale        what a byte scales the number before it with: a letter 100, a digit 10, a zero byte 1
+--     pairWorth    the same for two bytes
+--     pairScale
+--     spelt        the number n with the bytes of s behind it
+--     speltMoved   what the number leaves by 97, the first four bytes moved to the end
+-- Assumes nothing.
+use Prim.Native.Nat.{ℕ, _+_, _*_, _/_, _%_}
+use Prim.Native.Char.{code}
+use mathlib.Core.Bool.{not}
+use mathlib.Core.List.{List, [], _∷_}
+use lib.Dec.{ltb, eqb}
+use lib.ListN.{take, drop}
+use Rattle.classes.specs.Answer.{answer}
+
+abbrev pub letter : ℕ → ℕ
+letter c = answer (ltb (code "9") c)
+
+abbrev pub used : ℕ → ℕ
+used c = answer (not (eqb c 0))
+
+abbrev pub worth : ℕ → ℕ
+worth c = c % 16 + letter c * (c % 32 / 16 * 16 + 9)
+
+abbrev pub scale : ℕ → ℕ
+scale c = 1 + 9 * used c + 90 * letter c
+
+abbrev pub pairWorth : ℕ → ℕ → ℕ
+pairWorth a b = worth a * scale b + worth b
+
+abbrev pub pairScale : ℕ → ℕ → ℕ
+pairScale a b = scale a * scale b
+
+abbrev pub spelt : ℕ → List ℕ → ℕ
+spelt n [] = n
+spelt n (c ∷ s) = spelt (n * scale c + worth c) s
+
+abbrev pub speltMoved : List ℕ → ℕ
+speltMoved s = spelt (spelt 0 (drop 4 s)) (take 4 s) % 97
