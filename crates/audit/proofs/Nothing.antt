@@ -98,7 +98,7 @@ letsExpire i e before = isNone (allEndings i before) && isFirst4 (endingsIn i (e
 
 abbrev pub mustExpire : Roster → ℕ → Event → List Event → Bool
 mustExpire ps i e before =
-    setsClock e && (waits i before && isForBank ps i before && leb 20 (timeOf (e .ticket) - orderTime i before))
+    setsClock e && (waits i before && isForBank ps i before && leb timeLimit (timeOf (e .ticket) - orderTime i before))
 
 abbrev pub asksAbout : ℕ → Event → List Event → Bool
 asksAbout i e before = isKind 8 e && ltb i (orderCount before) && same (orderTxid i before) (txidOf (e .ticket))

@@ -26,6 +26,7 @@ use Rattle.report.specs.declared.Report.{Report}
 use Rattle.dayfile.specs.declared.roster.Roster.{Roster}
 use Rattle.rules.specs.Book.{orderOf}
 use Rattle.rules.specs.Status.{isWaiting}
+use Rattle.rules.specs.Tick.{timeLimit}
 use Rattle.rules.specs.declared.Status.{Status}
 use Rattle.rules.specs.declared.Status.the-variants.{Waiting, Refused, Expired, Returned, Settled}
 use Rattle.rules.specs.declared.Order.{Order}
@@ -123,7 +124,7 @@ setsClock e = not (leb 6 (e .refusal) && leb (e .refusal) 11)
 -- the order still waits (it waits after the ticket before), it is for a bank, and the ticket's time is 20 seconds or more after its
 abbrev pub mustExpire : Roster → ℕ → Event → History → Bool
 mustExpire ps i e before =
-    setsClock e && (waits i before && isForBank ps i before && leb 20 (timeOf (e .ticket) - orderTime i before))
+    setsClock e && (waits i before && isForBank ps i before && leb timeLimit (timeOf (e .ticket) - orderTime i before))
 
 -- an accepted inquiry asks about the order with its TxId
 abbrev pub asksAbout : ℕ → Event → History → Bool

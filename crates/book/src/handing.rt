@@ -3,6 +3,7 @@ use judging::refusal;
 use report::answer;
 use rules::Book;
 use rules::refusal::Buffer;
+use ticket::layout;
 ghost use mathlib.Core.Path.{_≡_};
 ghost use Rattle.rules.specs.Sound.{Sound};
 ghost use Rattle.book.specs.Handing.{untouchedBy, Hands};
@@ -34,7 +35,7 @@ pub fn hand_in(b: Book, ticket: &[u8], buffer: &mut [u8]) -> Handed
     let Buffer::Enough = refusal::buffer_of(buffer.len()) else {
         return turned_back(b, 6);
     };
-    if ticket.len() != 108 {
+    if ticket.len() != layout::LENGTH {
         return turned_back(b, 7);
     }
     let mut answers = [0u8; 4];

@@ -12,6 +12,7 @@ use Rattle.dayfile.specs.Header.{headerOf, headed}
 use Rattle.dayfile.specs.Check.{ranged, placed}
 use Rattle.dayfile.specs.DayFile.{dayFile, filePlaced, refusedFile}
 use Rattle.dayfile.specs.declared.DayFile.{DayFile}
+use Rattle.dayfile.specs.Limits.{mostRead}
 use Rattle.dayfile.specs.declared.header.Sections.{Sections}
 use Rattle.dayfile.specs.declared.header.Header.{Header}
 use Rattle.dayfile.specs.declared.header.Headed.the-variants.{As}
@@ -22,16 +23,12 @@ use Rattle.dayfile.specs.declared.check.Placed.the-variants as placed-is
 use Rattle.dayfile.proofs.Passing.{in-range, in-place, file-headed, file-ranged}
 use Rattle.rules.specs.Program.{outputOf, output}
 
--- one byte more than the longest day has
-abbrev pub enough : ℕ
-enough = 57_101
-
 -- refused by 2 or by 3
 abbrev tooLong : Ranged → DayFile
 tooLong Outside = refusedFile 2
 tooLong Within = refusedFile 3
 
-module _ (g : List ℕ) (h : Header) (head : headed g ≡ As h) (long : enough ≤ length g) where
+module _ (g : List ℕ) (h : Header) (head : headed g ≡ As h) (long : mostRead ≤ length g) where
   misplaced : ranged h ≡ Within → (z : Placed) → placed h (length g) ≡ z → filePlaced h g z ≡ refusedFile 3
   misplaced e placed-is.Wrong q = refl
   misplaced e placed-is.Right q =
@@ -54,28 +51,28 @@ module _ (g : List ℕ) (h : Header) (head : headed g ≡ As h) (long : enough �
       go Outside = refl
       go Within = refl
 
-headed-long : (g : List ℕ) → enough ≤ length g → headed g ≡ As (headerOf g)
+headed-long : (g : List ℕ) → mostRead ≤ length g → headed g ≡ As (headerOf g)
 headed-long g long = rw (le-ltb (length g) 12 (omega arith))
 
-module _ (f : List ℕ) (long : enough ≤ length f) where
+module _ (f : List ℕ) (long : mostRead ≤ length f) where
   abbrev start : List ℕ
-  start = take enough f
+  start = take mostRead f
 
   -- the header lies within them
   same-counts : headerOf start .counts ≡ headerOf f .counts
   same-counts =
       λ i. record {
-        participants = ap number (part-part 2 0 enough 0 57_099 f refl) i;
-        routes = ap number (part-part 2 2 enough 0 57_097 f refl) i;
-        tickets = ap number (part-part 2 4 enough 0 57_095 f refl) i;
+        participants = ap number (part-part 2 0 mostRead 0 57_099 f refl) i;
+        routes = ap number (part-part 2 2 mostRead 0 57_097 f refl) i;
+        tickets = ap number (part-part 2 4 mostRead 0 57_095 f refl) i;
       }
 
   same-offsets : headerOf start .offsets ≡ headerOf f .offsets
   same-offsets =
       λ i. record {
-        participants = ap number (part-part 2 6 enough 0 57_093 f refl) i;
-        routes = ap number (part-part 2 8 enough 0 57_091 f refl) i;
-        tickets = ap number (part-part 2 10 enough 0 57_089 f refl) i;
+        participants = ap number (part-part 2 6 mostRead 0 57_093 f refl) i;
+        routes = ap number (part-part 2 8 mostRead 0 57_091 f refl) i;
+        tickets = ap number (part-part 2 10 mostRead 0 57_089 f refl) i;
       }
 
   same-header : headerOf start ≡ headerOf f
@@ -83,7 +80,7 @@ module _ (f : List ℕ) (long : enough ≤ length f) where
 
   pub longer-prints : output start ≡ output f
   longer-prints =
-      let l : enough ≤ length start = let e = length-take-le enough f long in omega arith in
+      let l : mostRead ≤ length start = let e = length-take-le mostRead f long in omega arith in
       long-output start (headerOf start) (headed-long start l) l
       ∙ ap (λ (h : Header). outputOf [] (tooLong (ranged h))) same-header
       ∙ sym (long-output f (headerOf f) (headed-long f long) long)

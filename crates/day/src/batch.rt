@@ -5,6 +5,9 @@ ghost use lib.ListN.{length};
 ghost use Rattle.rules.specs.Sound.{Sound};
 ghost use Rattle.day.specs.Batch.{mostText, Batched};
 
+// 37 bytes for each of 1,536 lines
+pub const MOST_TEXT: usize = 56832;
+
 // The book afterwards, how many tickets were taken, and where their text ends.
 pub struct Printed {
     pub book: Book,

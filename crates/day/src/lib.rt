@@ -1,6 +1,6 @@
 // A day from its file to its text, in pieces that fit a buffer: the tickets' lines batch by batch, then the participants', or the one
 // line of a refused day file.
-mod batch;
+pub mod batch;
 mod piece;
 
 pub use batch::Printed;

@@ -1,8 +1,8 @@
 // A day as far as it is printed, and its next piece of text.
 use super::batch;
 use book::opening;
-use dayfile::limits;
 use rules::Book;
+use ticket::layout;
 ghost use mathlib.Core.Path.{_≡_};
 ghost use mathlib.Core.Bool.{false};
 ghost use Prim.Native.Nat.{_≤_, _<_};
@@ -46,7 +46,7 @@ fn tickets_piece(d: Day, file: &[u8], text: &mut [u8]) -> Piece
     requires { ⌜ Under (now file) d × (d .ended ≡ false) × (d .refusal ≡ 0) × (d .taken < d .tickets) × (mostText ≤ length (now text)) ⌝ }
     ensures { λ r. ⌜ PieceOf (now (file .entry)) d (now (text .entry)) r (now (text .exit)) ⌝ }
 {
-    let at = d.first + limits::TICKET_LENGTH * d.taken;
+    let at = d.first + layout::LENGTH * d.taken;
     let book = d.book;
     let p = batch::take_batch(book, &file[at..], d.taken, text);
     let after = p.book;

@@ -14,6 +14,10 @@ mostTickets = 512
 abbrev pub mostOpening : ℕ
 mostOpening = 1_000_000_000_000_000
 
+-- one byte more than the longest day has: 12, 32 rows of 24, 64 of 16 and 512 tickets of 108
+abbrev pub mostRead : ℕ
+mostRead = 57_101
+
 abbrev pub headerLength : ℕ
 headerLength = 12
 

@@ -2,6 +2,7 @@
 use super::header::Header;
 use super::limits;
 use super::rows;
+use ticket::layout;
 ghost use mathlib.Core.Path.{_≡_};
 ghost use Prim.Native.Nat.{_+_, _*_, _≤_};
 ghost use lib.ListN.{length};
@@ -55,7 +56,7 @@ pub fn check_places(h: Header, length: usize) -> Placed
     let at = h.offsets;
     let routes = limits::HEADER_LENGTH + limits::PARTICIPANT_LENGTH * n.participants;
     let tickets = routes + limits::ROUTE_LENGTH * n.routes;
-    let end = tickets + limits::TICKET_LENGTH * n.tickets;
+    let end = tickets + layout::LENGTH * n.tickets;
     if (at.participants == limits::HEADER_LENGTH)
         & (at.routes == routes)
         & (at.tickets == tickets)

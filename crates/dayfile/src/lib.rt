@@ -14,6 +14,7 @@ use check::Ranged;
 use check::Routed;
 use header::Headed;
 use roster::Roster;
+use ticket::layout;
 ghost use mathlib.Core.Path.{_≡_};
 ghost use Prim.Native.Nat.{_<_};
 ghost use Rattle.dayfile.specs.DayFile.{dayFile, refusedFile, ticketAt};
@@ -70,6 +71,6 @@ pub fn ticket(f: &[u8], first: usize, k: usize) -> &[u8]
     requires { ⌜ (first ≡ dayFile (now f) .first) × (k < dayFile (now f) .tickets) ⌝ }
     ensures { λ r. ⌜ now r ≡ ticketAt (now (f .entry)) k ⌝ }
 {
-    let at = first + limits::TICKET_LENGTH * k;
-    &f[at..at + limits::TICKET_LENGTH]
+    let at = first + layout::LENGTH * k;
+    &f[at..at + layout::LENGTH]
 }

@@ -13,4 +13,5 @@ pub const PARTICIPANT_LENGTH: usize = 24;
 
 pub const ROUTE_LENGTH: usize = 16;
 
-pub const TICKET_LENGTH: usize = 108;
+// One byte more than the longest day has: a program that reads as much can tell a longer input.
+pub const MOST_READ: usize = 57101;

@@ -1,6 +1,7 @@
 // The clearing program over many days. Standard input has for each day the lengths of its name and of its bytes, each in 4 bytes, the
 // highest first, at most 256 and 57,101, then the name and the bytes; on standard output stand a line with the name and the day's lines.
 // It ends where the input does, at a greater length, at a day that is cut off, and where nothing can be written.
+use dayfile::limits;
 use libc::STDIN_FILENO;
 use libc::STDOUT_FILENO;
 ghost use Prim.Native.Nat.{_≤_};
@@ -30,14 +31,14 @@ fn print_next() -> bool {
     if named > 256 {
         return false;
     }
-    if n > 57101 {
+    if n > limits::MOST_READ {
         return false;
     }
     let mut name = [0u8; 256];
     if !fill(&mut name, named) {
         return false;
     }
-    let mut buffer = [0u8; 57101];
+    let mut buffer = [0u8; limits::MOST_READ];
     if !fill(&mut buffer, n) {
         return false;
     }

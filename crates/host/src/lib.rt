@@ -1,4 +1,5 @@
 // A whole day for a host program in another language: the day file in, the program's text out, both lent by the host.
+use day::batch;
 ghost use mathlib.Core.Path.{_≡_};
 ghost use mathlib.Core.List.{_++_};
 ghost use lib.ListN.{length, take, drop};
@@ -33,7 +34,7 @@ fn put_piece(piece: &[u8], text: &mut [u8], at: usize)
 pub extern "C" fn zolfigar_day(file: &[u8], text: &mut [u8]) -> usize
     ensures { λ r. ⌜ (r ≡ length (output (now (file .entry)))) × (now (text .exit) ≡ lent (output (now (file .entry))) (now (text .entry))) ⌝ }
 {
-    let mut piece = [0u8; 56832];
+    let mut piece = [0u8; batch::MOST_TEXT];
     let mut d = day::begin(file);
     let mut at = 0;
     while !d.ended {

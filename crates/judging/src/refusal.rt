@@ -2,6 +2,7 @@
 use super::terms;
 use rules::Cover;
 use rules::finding::Finding;
+use rules::limits;
 use rules::refusal::Backing;
 use rules::refusal::Buffer;
 use rules::refusal::Naming;
@@ -21,14 +22,11 @@ const MOST_ORDERS: usize = 256;
 // 01, refusal 22: 10^18
 const MOST_TOTAL: u64 = 1000000000000000000;
 
-// 01, refusal 6: 544 reports
-const LEAST_BUFFER: usize = 6528;
-
 // Of a report buffer's length.
 pub fn buffer_of(length: usize) -> Buffer
     ensures { λ r. ⌜ r ≡ cond (ltb length leastBuffer) Buffer.Short Buffer.Enough ⌝ }
 {
-    if length < LEAST_BUFFER {
+    if length < limits::LEAST_BUFFER {
         Buffer::Short
     } else {
         Buffer::Enough

@@ -1,5 +1,7 @@
 // How far the core goes: over tickets, and over orders.
-use dayfile::limits;
+use report::answer;
+use rules::limits;
+use ticket::layout;
 ghost use mathlib.Core.Path.{_≡_};
 ghost use mathlib.Core.Bool.{cond};
 ghost use lib.Dec.{eqb};
@@ -9,7 +11,7 @@ ghost use Rattle.intake.specs.Running.{roomLeft};
 pub fn room_left(tickets: usize, answers: usize, reports: usize) -> bool
     ensures { λ r. ⌜ r ≡ roomLeft tickets answers reports ⌝ }
 {
-    (limits::TICKET_LENGTH <= tickets) & (4 <= answers) & (6528 <= reports)
+    (layout::LENGTH <= tickets) & (answer::LENGTH <= answers) & (limits::LEAST_BUFFER <= reports)
 }
 
 // Up to which order expiries are looked for: at a ticket that was refused, none.

@@ -6,6 +6,7 @@ use intake::Expiry;
 use rules::Order;
 use rules::Status;
 use rules::decision::Told;
+use rules::limits;
 ghost use mathlib.Core.Path.{_≡_};
 ghost use Prim.Native.Nat.{_≤_, _<_};
 ghost use Rattle.rules.specs.Tick.{due};
@@ -17,7 +18,7 @@ pub fn due(clock: u32, o: Order, bank: bool) -> bool
     ensures { λ r. ⌜ r ≡ due clock o bank ⌝ }
 {
     let s = o.status;
-    status::is_waiting(s) & bank & (20 <= clock - o.time)
+    status::is_waiting(s) & bank & (limits::TIME_LIMIT <= clock - o.time)
 }
 
 pub fn expire(clock: u32, i: usize, o: Order, bank: bool) -> Expiry

@@ -1,9 +1,10 @@
 // A day's text on standard output, for the programs.
+use day::batch;
 use libc::STDOUT_FILENO;
 
 // Whether all of it was written: it stops where a piece can't be. No rule says what can be written, so nothing is promised of it.
 pub fn print_day(file: &[u8]) -> bool {
-    let mut text = [0u8; 56832];
+    let mut text = [0u8; batch::MOST_TEXT];
     let mut d = day::begin(file);
     let mut written = true;
     while written & !d.ended {

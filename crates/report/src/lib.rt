@@ -7,6 +7,8 @@ ghost use lib.ListN.{length};
 ghost use lib.Seq.{sets};
 ghost use Rattle.report.specs.Layout.{reportLength, reportBytes, reportAt};
 
+pub const LENGTH: usize = 12;
+
 pub struct Report {
     pub to: u8,
     pub code: u8,
@@ -18,7 +20,7 @@ pub fn put_report(buffer: &mut [u8], n: usize, r: Report)
     requires { ⌜ reportLength * n + reportLength ≤ length (now buffer) ⌝ }
     ensures { λ _. ⌜ now (buffer .exit) ≡ sets (now (buffer .entry)) (reportLength * n) (reportBytes r) ⌝ }
 {
-    let at = 12 * n;
+    let at = LENGTH * n;
     buffer[at] = r.to;
     buffer[at + 1] = r.code;
     let order = r.order;
@@ -31,7 +33,7 @@ pub fn report_at(buffer: &[u8], n: usize) -> Report
     requires { ⌜ reportLength * n + reportLength ≤ length (now buffer) ⌝ }
     ensures { λ r. ⌜ r ≡ reportAt (now (buffer .entry)) n ⌝ }
 {
-    let at = 12 * n;
+    let at = LENGTH * n;
     Report {
         to: buffer[at],
         code: buffer[at + 1],

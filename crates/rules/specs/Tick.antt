@@ -1,6 +1,7 @@
 -- The clock and the expiries, which come first: 01 'Once past refusals 6 to 11'.
 --     Step       what a ticket does: refusal, reports, rows followed, book afterwards
---     due        an order expires: Waiting, its payee a bank, clock minus time at least 20
+--     timeLimit  how long an order waits for a bank
+--     due        an order expires: Waiting, its payee a bank, clock minus time at least that
 --     expired    the book when order i has expired
 --     sweepTo    the first n orders looked at, in arrival order
 --     tick       the step of a tick
@@ -27,8 +28,12 @@ pub record Step : Type 0 where
   pub rows : ℕ
   pub book : Book
 
+-- 01: clock minus time at least 20
+abbrev pub timeLimit : ℕ
+timeLimit = 20
+
 abbrev pub due : ℕ → Order → Bool → Bool
-due clock o bank = isWaiting (o .status) && bank && leb 20 (clock - o .time)
+due clock o bank = isWaiting (o .status) && bank && leb timeLimit (clock - o .time)
 
 -- the order's amount goes from its payer's reserved to available
 abbrev pub freed : Order → Transfer

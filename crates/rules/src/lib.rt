@@ -2,6 +2,7 @@
 // every ticket does to a book.
 pub mod decision;
 pub mod finding;
+pub mod limits;
 pub mod refusal;
 pub mod terms;
 

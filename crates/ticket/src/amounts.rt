@@ -1,5 +1,6 @@
 // Refusals 9 and 10: whether a ticket's amount is one that its kind takes.
 use super::forms::Form;
+use super::layout;
 ghost use mathlib.Core.Path.{_≡_};
 ghost use lib.ListN.{length};
 ghost use Rattle.ticket.specs.Layout.{ticketLength};
@@ -19,7 +20,7 @@ pub fn read_stated(form: Form, t: &[u8]) -> Stated
     requires { ⌜ length (now t) ≡ ticketLength ⌝ }
     ensures { λ r. ⌜ r ≡ statedIn form (now (t .entry)) ⌝ }
 {
-    let n = fields::u64_at(t, 8);
+    let n = fields::u64_at(t, layout::AMOUNT);
     if n < form.least {
         Stated::Zero
     } else {

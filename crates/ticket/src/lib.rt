@@ -2,6 +2,7 @@
 mod amounts;
 mod forms;
 pub mod kinds;
+pub mod layout;
 mod shapes;
 
 use amounts::Limit;
@@ -40,7 +41,7 @@ pub fn read_ticket(t: &[u8]) -> Reading
     let Limit::Within = amounts::read_limit(form, amount) else {
         return Reading::Refused(10);
     };
-    let time = fields::u32_at(t, 4);
+    let time = fields::u32_at(t, layout::TIME);
     Reading::Read(Fields { kind, time, amount })
 }
 
@@ -48,10 +49,10 @@ pub fn read_ticket(t: &[u8]) -> Reading
 pub fn txid(t: &[u8]) -> &[u8]
     ensures { λ r. ⌜ now r ≡ txidPart (now (t .entry)) ⌝ }
 {
-    if t.len() != 108 {
+    if t.len() != layout::LENGTH {
         return &t[0..0];
     }
-    let value = fields::unpadded(&t[38..73]);
+    let value = fields::unpadded(&t[layout::TXID..layout::IBAN]);
     if codes::zolfigar_txid_ok(value) == 1 {
         value
     } else {

@@ -4,6 +4,7 @@ use super::forms::Form;
 use super::kinds;
 use super::kinds::Kind;
 use super::kinds::Kinded;
+use super::layout;
 ghost use mathlib.Core.Path.{_≡_};
 ghost use Prim.Native.Nat.{_≤_};
 ghost use lib.ListN.{length};
@@ -81,23 +82,23 @@ fn well_formed(form: Form, t: &[u8]) -> bool
     requires { ⌜ length (now t) ≡ ticketLength ⌝ }
     ensures { λ r. ⌜ r ≡ wellFormed form (now (t .entry)) ⌝ }
 {
-    let spare = fields::zero_u16_at(t, 2);
-    let amount = (form.most != 0) | fields::zero_u64_at(t, 8);
-    let sender = bic_if_listed(form.sender, &t[16..27]);
-    let payee = bic_if_listed(form.payee, &t[27..38]);
-    let txid = txid_if_listed(form.txid, &t[38..73]);
-    let iban = form.iban | no_iban(&t[73..107]);
-    let last = t[107] == 0;
+    let spare = fields::zero_u16_at(t, layout::SPARE);
+    let amount = (form.most != 0) | fields::zero_u64_at(t, layout::AMOUNT);
+    let sender = bic_if_listed(form.sender, &t[layout::SENDER..layout::PAYEE]);
+    let payee = bic_if_listed(form.payee, &t[layout::PAYEE..layout::TXID]);
+    let txid = txid_if_listed(form.txid, &t[layout::TXID..layout::IBAN]);
+    let iban = form.iban | no_iban(&t[layout::IBAN..layout::LAST]);
+    let last = t[layout::LAST] == 0;
     spare & amount & sender & payee & txid & iban & last
 }
 
 pub fn read_shape(t: &[u8]) -> Shape
     ensures { λ r. ⌜ r ≡ shapeOf (now (t .entry)) ⌝ }
 {
-    if t.len() != 108 {
+    if t.len() != layout::LENGTH {
         return Shape::Malformed;
     }
-    let Kinded::As(kind) = kinds::kind_of(t[0], t[1]) else {
+    let Kinded::As(kind) = kinds::kind_of(t[layout::KIND], t[layout::FLAG]) else {
         return Shape::Malformed;
     };
     if well_formed(forms::form_of(kind), t) {
@@ -113,7 +114,7 @@ pub fn read_account(form: Form, t: &[u8]) -> Account
 {
     let listed = form.iban;
     if listed {
-        if iban::iban_ok(&t[73..107]) {
+        if iban::iban_ok(&t[layout::IBAN..layout::LAST]) {
             Account::Named
         } else {
             Account::Wrong
