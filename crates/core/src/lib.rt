@@ -48,8 +48,9 @@ pub fn run(mut b: Book, tickets: &[u8], answers: &mut [u8], reports: &mut [u8]) 
     let route_chains = chains::bic_chains(&route_bics, rows);
     let route_heads = route_chains.heads;
     let route_links = route_chains.links;
-    let payees = ways::payees_of(routes, rows);
-    let counts = ways::counts_of(routes, rows);
+    let targets = ways::targets_of(routes);
+    let kinds = targets.kinds;
+    let numbers = targets.numbers;
     let orders = b.orders;
     let mut txids = index::txids_of(orders, b.count);
     let txid_chains = chains::txid_chains(&txids, b.count);
@@ -118,7 +119,7 @@ pub fn run(mut b: Book, tickets: &[u8], answers: &mut [u8], reports: &mut [u8]) 
             rows,
             &t[27..38],
         );
-        let end = ways::end_of(&payees, &counts, route);
+        let end = ways::end_of(&kinds, &numbers, route);
         let flow = terms.flow;
         let mut unconfirmed = false;
         if sums::seeks_open(flow) {

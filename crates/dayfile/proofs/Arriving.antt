@@ -11,7 +11,7 @@ use Rattle.fields.specs.declared.search.Found.{Found}
 use Rattle.fields.specs.declared.search.Found.the-variants as found
 use Rattle.fields.proofs.Finding.{found-at}
 use Rattle.dayfile.specs.Roster.{routeOf}
-use Rattle.dayfile.specs.Route.{oneMore, followed, hasBic, rowsIn, rowWith, followedFrom, followedBic}
+use Rattle.dayfile.specs.Route.{oneMore, targetIn, followed, hasBic, rowsIn, rowWith, followedFrom, followedBic}
 use Rattle.dayfile.specs.Guarantee.{LeadsWithin, Guaranteed}
 use Rattle.dayfile.specs.declared.roster.Target.{Target}
 use Rattle.dayfile.specs.declared.roster.Target.the-variants.{To, Row}
@@ -29,7 +29,7 @@ pub record Arrives (r : Roster) (way : Followed) : Type 0 where
   pub is : way ≡ At participant rows
 
 module _ (r : Roster) (g : Guaranteed r) where
-  to : (n row : ℕ) → row < n → row < r .rows → Arrives r (followed (r .routes) row)
+  to : (n row : ℕ) → row < n → row < r .rows → Arrives r (followed (targetIn (r .routes)) row)
   to zero row h l = absurd (not-suc-le-zero h)
   to (suc n) row h l = go (routeOf r row .target) refl (g .leads row l) (λ k below. to n k (omega arith) (omega arith))
     where
@@ -37,8 +37,8 @@ module _ (r : Roster) (g : Guaranteed r) where
       few = let s = g .rows in omega arith
 
       go : (t : Target) → routeOf r row .target ≡ t → LeadsWithin (r .size) row (routeOf r row .target)
-          → ((k : ℕ) → k < row → Arrives r (followed (r .routes) k)) → Arrives r (followed (r .routes) row)
-      go (To p) e within on = record { participant = p; rows = 1; known = rw e at within; one = omega arith; is = follows-to (r .routes) row few p e }
+          → ((k : ℕ) → k < row → Arrives r (followed (targetIn (r .routes)) k)) → Arrives r (followed (targetIn (r .routes)) row)
+      go (To p) e within on = record { participant = p; rows = 1; known = rw e at within; one = omega arith; is = follows-to (targetIn (r .routes)) row few p e }
       go (Row k) e within on =
           let below : k < row = rw e at within in
           let a = on k below in
@@ -47,10 +47,10 @@ module _ (r : Roster) (g : Guaranteed r) where
             rows = a .rows + 1;
             known = a .known;
             one = omega arith;
-            is = follows-row (r .routes) row few k e below ∙ ap oneMore (a .is);
+            is = follows-row (targetIn (r .routes)) row few k e below ∙ ap oneMore (a .is);
           }
 
-  pub arrives : (row : ℕ) → row < r .rows → Arrives r (followed (r .routes) row)
+  pub arrives : (row : ℕ) → row < r .rows → Arrives r (followed (targetIn (r .routes)) row)
   arrives row l = to (suc row) row (omega arith) l
 
   pub from-found : (f : Found) → isFound f ≡ true → numberOf f < r .rows → Arrives r (followedFrom r f)

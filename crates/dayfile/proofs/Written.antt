@@ -34,7 +34,7 @@ opening-back : (o : Opening) → openingOf (wishNumber o) (openingNumber o) ≡ 
 opening-back None = refl
 opening-back (Cover n) = refl
 
-target-back : (t : Target) → targetOf (targetKind t) (targetNumber t) ≡ t
+pub target-back : (t : Target) → targetOf (targetKind t) (targetNumber t) ≡ t
 target-back (To p) = refl
 target-back (Row k) = refl
 

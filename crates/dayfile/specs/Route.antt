@@ -1,5 +1,6 @@
 -- Following a payee BIC: 01 'Participants, routes, codes'.
---     followed      from a row on: the participant reached and the number of rows followed, or Nowhere
+--     targetIn      where a row leads
+--     followed      from a row on, by where each leads: the participant reached and the number of rows followed, or Nowhere
 --     followTo      the same in at most n rows
 --     reached       the participant reached, 0 where there is none
 --     rowsFollowed  the number of rows followed, 0 where no participant is reached
@@ -41,13 +42,16 @@ abbrev pub leads : (ℕ → Followed) → ℕ → Target → Followed
 leads on row (To p) = At p 1
 leads on row (Row k) = cond (ltb k row) (oneMore (on k)) Nowhere
 
-abbrev pub followTo : ℕ → List Route → ℕ → Followed
-followTo zero routes row = Nowhere
-followTo (suc n) routes row = leads (λ k. followTo n routes k) row (rowOf routes row .target)
+abbrev pub followTo : ℕ → (ℕ → Target) → ℕ → Followed
+followTo zero target row = Nowhere
+followTo (suc n) target row = leads (λ k. followTo n target k) row (target row)
 
 -- a row is followed in no more rows than its number and itself; a roster has room for 64 rows
-unfoldable pub followed : List Route → ℕ → Followed
-followed routes row = cond (ltb row mostRoutes) (followTo (suc row) routes row) Nowhere
+unfoldable pub followed : (ℕ → Target) → ℕ → Followed
+followed target row = cond (ltb row mostRoutes) (followTo (suc row) target row) Nowhere
+
+abbrev pub targetIn : List Route → ℕ → Target
+targetIn routes row = rowOf routes row .target
 
 abbrev pub hasBic : List Route → List ℕ → ℕ → Bool
 hasBic routes bic row = same (rowOf routes row .bic) bic
@@ -61,7 +65,7 @@ abbrev pub rowWith : Roster → List ℕ → Found
 rowWith r bic = firstTo (hasBic (r .routes) bic) (rowsIn r)
 
 abbrev pub followedFrom : Roster → Found → Followed
-followedFrom r (found.At row) = followed (r .routes) row
+followedFrom r (found.At row) = followed (targetIn (r .routes)) row
 followedFrom r found.Nothing = Nowhere
 
 -- 01: following a payee BIC starts at the row with that BIC

@@ -1,39 +1,16 @@
-// Following a payee BIC: from the row with that BIC on, until a participant is reached. The row number falls at each call.
+// Following a payee BIC: the row where it starts, and what it leads to.
 use super::limits;
 use super::roster::Roster;
 use super::roster::Route;
-use super::roster::Target;
 use fields::Found;
 ghost use mathlib.Core.Path.{_≡_};
 ghost use Rattle.fields.specs.Text.{same};
-ghost use Rattle.dayfile.specs.Route.{followed, rowsIn, rowWith, followedBic};
+ghost use Rattle.dayfile.specs.Route.{rowsIn, rowWith};
 
 // The participant reached and the number of rows followed.
 pub enum Followed {
     At(usize, usize),
     Nowhere,
-}
-
-pub fn follow(routes: [Route; limits::MOST_ROUTES], row: usize) -> Followed
-    ensures { λ r. ⌜ r ≡ followed routes row ⌝ }
-{
-    if limits::MOST_ROUTES <= row {
-        return Followed::Nowhere;
-    }
-    let route = routes[row];
-    let target = route.target;
-    match target {
-        Target::To(p) => Followed::At(p, 1),
-        Target::Row(k) => {
-            if row <= k {
-                return Followed::Nowhere;
-            }
-            match follow(routes, k) {
-                Followed::At(p, n) => Followed::At(p, n + 1),
-                Followed::Nowhere => Followed::Nowhere,
-            }
-        }
-    }
 }
 
 fn has_bic(route: Route, bic: &[u8]) -> bool
@@ -68,14 +45,4 @@ pub fn row_with(r: Roster, bic: &[u8]) -> Found
         i += 1;
     }
     found
-}
-
-pub fn follow_bic(r: Roster, bic: &[u8]) -> Followed
-    ensures { λ q. ⌜ q ≡ followedBic r (now (bic .entry)) ⌝ }
-{
-    let Found::At(row) = row_with(r, bic) else {
-        return Followed::Nowhere;
-    };
-    let routes = r.routes;
-    follow(routes, row)
 }

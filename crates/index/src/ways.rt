@@ -1,5 +1,5 @@
-// The route rows: their BICs, and where each row leads, worked out row by row. What stands behind the rows in use is
-// left open: nothing looks at it.
+// The route rows: their BICs, where each row leads, and following from a row on. Which BICs stand behind the rows in use is
+// left open: nothing looks at them.
 use super::row;
 use dayfile::roster::Route;
 use dayfile::roster::Target;
@@ -8,11 +8,11 @@ use fields::Found;
 ghost use mathlib.Core.Path.{_≡_};
 ghost use Prim.Native.Nat.{ℕ, _≤_, _<_};
 ghost use lib.ListN.{length};
-ghost use Rattle.fields.specs.Search.{numberOf};
 ghost use Rattle.fields.specs.Rows.{Indexed};
 ghost use Rattle.dayfile.specs.Roster.{rowOf};
-ghost use Rattle.dayfile.specs.Route.{reached, rowsFollowed, followed};
-ghost use Rattle.index.specs.Ways.{Backward, FewBehind, Forth, rowBehind, ledTo, rowsTo, endAt};
+ghost use Rattle.dayfile.specs.Route.{followed};
+ghost use Rattle.dayfile.specs.Writing.{targetKind, targetNumber};
+ghost use Rattle.index.specs.Ways.{kindsOf, numbersOf, targetBy, endAt};
 
 pub fn route_bics_of(routes: [Route; 64], rows: usize) -> [u8; 704]
     requires { ⌜ (rows ≤ 64) × ((i : ℕ) → i < rows → length (rowOf routes i .bic) ≡ 11) ⌝ }
@@ -29,79 +29,72 @@ pub fn route_bics_of(routes: [Route; 64], rows: usize) -> [u8; 704]
     bics
 }
 
-// The row that a row goes on from, 0 where it leads to a participant.
-fn row_behind(target: Target) -> usize
-    ensures { λ r. ⌜ r ≡ rowBehind target ⌝ }
+// Where each row leads, as numbers: its kind, 0 participant or 1 row, and its k.
+pub struct Targets {
+    pub kinds: [u8; 64],
+    pub numbers: [usize; 64],
+}
+
+fn target_kind(target: Target) -> u8
+    ensures { λ r. ⌜ r ≡ targetKind target ⌝ }
 {
     match target {
         Target::To(p) => 0,
+        Target::Row(k) => 1,
+    }
+}
+
+fn target_number(target: Target) -> usize
+    ensures { λ r. ⌜ r ≡ targetNumber target ⌝ }
+{
+    match target {
+        Target::To(p) => p,
         Target::Row(k) => k,
     }
 }
 
-// The participant that a row leads to, by that of the row behind it.
-fn led_to(target: Target, behind: usize) -> usize
-    ensures { λ r. ⌜ r ≡ ledTo target behind ⌝ }
+pub fn targets_of(routes: [Route; 64]) -> Targets
+    ensures { λ r. ⌜ (r .kinds ≡ kindsOf routes) × (r .numbers ≡ numbersOf routes) ⌝ }
 {
-    match target {
-        Target::To(p) => p,
-        Target::Row(k) => behind,
-    }
-}
-
-// How many rows are followed from a row on, by that of the row behind it.
-fn rows_to(target: Target, behind: usize) -> usize
-    requires { ⌜ FewBehind target behind ⌝ }
-    ensures { λ r. ⌜ r ≡ rowsTo target behind ⌝ }
-{
-    match target {
-        Target::To(p) => 1,
-        Target::Row(k) => behind + 1,
-    }
-}
-
-pub fn payees_of(routes: [Route; 64], rows: usize) -> [usize; 64]
-    requires { ⌜ (rows ≤ 64) × ((i : ℕ) → i < rows → Backward i (rowOf routes i .target)) ⌝ }
-    ensures { λ r. ⌜ (length r ≡ 64) × Forth reached routes rows r ⌝ }
-{
-    let mut payees = [0usize; 64];
+    let mut kinds = [0u8; 64];
+    let mut numbers = [0usize; 64];
     let mut i = 0;
-    while i < rows {
+    while i < 64 {
         let route = routes[i];
         let target = route.target;
-        let k = row_behind(target);
-        payees[i] = led_to(target, payees[k]);
+        kinds[i] = target_kind(target);
+        numbers[i] = target_number(target);
         i += 1;
     }
-    payees
+    Targets { kinds, numbers }
 }
 
-pub fn counts_of(routes: [Route; 64], rows: usize) -> [usize; 64]
-    requires { ⌜ (rows ≤ 64) × ((i : ℕ) → i < rows → Backward i (rowOf routes i .target)) ⌝ }
-    ensures { λ r. ⌜ (length r ≡ 64) × Forth rowsFollowed routes rows r ⌝ }
+// From a row on, until a participant is reached. The row number falls at each call.
+pub fn follow(kinds: &[u8; 64], numbers: &[usize; 64], row: usize) -> Followed
+    ensures { λ r. ⌜ r ≡ followed (targetBy (now (kinds .entry)) (now (numbers .entry))) row ⌝ }
 {
-    let mut counts = [0usize; 64];
-    let mut i = 0;
-    while i < rows {
-        let route = routes[i];
-        let target = route.target;
-        let k = row_behind(target);
-        counts[i] = rows_to(target, counts[k]);
-        i += 1;
+    if 64 <= row {
+        return Followed::Nowhere;
     }
-    counts
+    let k = numbers[row];
+    if kinds[row] != 1 {
+        return Followed::At(k, 1);
+    }
+    if row <= k {
+        return Followed::Nowhere;
+    }
+    match follow(kinds, numbers, k) {
+        Followed::At(p, n) => Followed::At(p, n + 1),
+        Followed::Nowhere => Followed::Nowhere,
+    }
 }
 
-// Where a row that was found leads.
-pub fn end_of(payees: &[usize], counts: &[usize], found: Found) -> Followed
-    requires { ⌜ (numberOf found < length (now payees)) × (numberOf found < length (now counts)) ⌝ }
-    ensures { λ r. ⌜ r ≡ endAt (now (payees .entry)) (now (counts .entry)) found ⌝ }
+// The same from a row that was found on.
+pub fn end_of(kinds: &[u8; 64], numbers: &[usize; 64], found: Found) -> Followed
+    ensures { λ r. ⌜ r ≡ endAt (now (kinds .entry)) (now (numbers .entry)) found ⌝ }
 {
-    let i = fields::number_of(found);
-    let payee = payees[i];
-    let rows = counts[i];
     match found {
-        Found::At(row) => Followed::At(payee, rows),
+        Found::At(row) => follow(kinds, numbers, row),
         Found::Nothing => Followed::Nowhere,
     }
 }

@@ -24,7 +24,7 @@ use Rattle.ticket.specs.declared.kinds.Kind.the-variants as kind
 use Rattle.ticket.proofs.Telling.{Tells, read-tells}
 use Rattle.ticket.proofs.Refusals.{refused-number}
 use Rattle.dayfile.specs.Limits.{mostParticipants}
-use Rattle.dayfile.specs.Route.{reached, rowsFollowed, rowWith, followedFrom, followedBic}
+use Rattle.dayfile.specs.Route.{reached, rowsFollowed, targetIn, rowWith, followedFrom, followedBic}
 use Rattle.dayfile.specs.declared.roster.Roster.{Roster}
 use Rattle.dayfile.specs.declared.route.Followed.the-variants.{At, Nowhere}
 use Rattle.dayfile.proofs.Arriving.{bic-arrives}
@@ -93,7 +93,7 @@ if-below true f m pos l = l
 if-below false f m pos l = pos
 
 way-rows : (r : Roster) (f : Found) → rowsFollowed (followedFrom r f) ≤ 64
-way-rows r (found.At row) = rows-few (r .routes) row
+way-rows r (found.At row) = rows-few (targetIn (r .routes)) row
 way-rows r found.Nothing = omega arith
 
 module _ (b : Book) (s : Sound b) where

@@ -7,16 +7,15 @@ use Prim.Native.Nat.{ℕ, zero, suc, _≤_, _<_}
 use native.Mathlib.Omega.{arith}
 use lib.ListN.{length}
 use lib.Seq.{getD-set-same, getD-set-other}
-use Rattle.fields.specs.Search.{isFound, numberOf, firstTo}
+use Rattle.fields.specs.Search.{numberOf, firstTo}
 use Rattle.fields.specs.UpTo.{anyTo}
 use Rattle.fields.specs.Rows.{firstRow, Indexed}
 use Rattle.fields.specs.declared.search.Found.{Found}
 use Rattle.fields.specs.declared.search.Found.the-variants as found
-use Rattle.fields.proofs.Finding.{found-at}
 use Rattle.fields.proofs.Indexing.{found-indexed}
 use Rattle.ticket.specs.Layout.{senderOf, payeeOf, txidField}
 use Rattle.dayfile.specs.Roster.{participantIn, rowOf}
-use Rattle.dayfile.specs.Route.{hasBic, rowsIn, followedFrom}
+use Rattle.dayfile.specs.Route.{hasBic, followedFrom}
 use Rattle.dayfile.specs.declared.roster.Roster.{Roster}
 use Rattle.dayfile.specs.declared.route.Followed.{Followed}
 use Rattle.dayfile.specs.declared.route.Followed.the-variants as followed
@@ -51,13 +50,6 @@ pub route-row : {bics : List ℕ} (r : Roster) → r .rows ≤ 64 → Indexed 11
     → firstRow 11 (r .rows) (payeeOf t) bics ≡ routeIn r t
 unfolding routeIn
 route-row r few h t = found-indexed h (payeeOf t) ∙ ap (firstTo (hasBic (r .routes) (payeeOf t))) (sym (rows-in r few))
-
--- a row that is found is one of those in use
-pub route-below : (r : Roster) (z : Bool) (t : List ℕ) → r .rows ≤ 64 → isFound (cond z (routeIn r t) found.Nothing) ≡ true
-    → numberOf (cond z (routeIn r t) found.Nothing) < r .rows
-unfolding routeIn
-route-below r true t few e = let h = found-at (hasBic (r .routes) (payeeOf t)) (rowsIn r) e .below in let n = rows-in r few in omega arith
-route-below r false t few e = let z : _≡_ {A = ℕ} 0 1 = cc in absurd (omega arith)
 
 -- where the row leads, if it is sought
 pub way-if : (r : Roster) (z : Bool) (t : List ℕ) → followedFrom r (cond z (routeIn r t) found.Nothing) ≡ cond z (wayIn r t) followed.Nowhere

@@ -10,14 +10,15 @@ use denote.Ref.{now}
 use lib.Dec.{eqb}
 use lib.ListN.{length, set, take, drop, length-append, length-set}
 use lib.Seq.{sets, length-sets}
-use Rattle.fields.specs.Search.{isFound, numberOf}
+use Rattle.fields.specs.Search.{numberOf}
 use Rattle.fields.specs.UpTo.{anyTo}
 use Rattle.fields.specs.declared.search.Found.{Found}
 use Rattle.fields.specs.declared.search.Found.the-variants as found
 use Rattle.fields.proofs.Stores.{length-part}
 use Rattle.index.specs.Chains.{txidBucket}
+use Rattle.index.specs.Ways.{endAt}
 use Rattle.index.proofs.Chaining.{same-chained, distinct-rows}
-use Rattle.index.proofs.Leading.{backward, number-few, led-end}
+use Rattle.index.proofs.Leading.{led-end}
 use Rattle.codes.proofs.Whole.{bic-length}
 use Rattle.ticket.specs.Layout.{txidField}
 use Rattle.report.specs.Layout.{reportsBytes}
@@ -26,9 +27,7 @@ use Rattle.report.specs.declared.Report.{Report}
 use Rattle.report.specs.declared.answer.Answer.{Answer}
 use Rattle.report.proofs.Laws.{put-further}
 use Rattle.dayfile.specs.Limits.{mostParticipants}
-use Rattle.dayfile.specs.Roster.{routeOf}
 use Rattle.dayfile.specs.Route.{followedFrom}
-use Rattle.dayfile.specs.Guarantee.{Guaranteed}
 use Rattle.dayfile.specs.declared.roster.Roster.{Roster}
 use Rattle.dayfile.specs.declared.route.Followed.the-variants as followed
 use Rattle.rules.specs.Book.{orderOf, coverOf, isBank}
@@ -62,7 +61,7 @@ use Rattle.intake.specs.declared.Expiry.{Expiry}
 use Rattle.intake.specs.declared.Judged.{Judged}
 use Rattle.intake.proofs.Running.{RoomFor, room-left, started, answers-long, reports-long, ended, taken-on}
 use Rattle.intake.proofs.Looping.{Sweeping, begun, at-sound, at-count, at-roster, at-few, one-more, all-swept}
-use Rattle.intake.proofs.Seeking.{swept-txid, sender-row, order-row, route-row, route-below, way-if, open-sum, total-sum, made}
+use Rattle.intake.proofs.Seeking.{swept-txid, sender-row, order-row, route-row, way-if, open-sum, total-sum, made}
 use Rattle.intake.proofs.Fitting.{Freeable, expiry-fits, sender-below, order-below, any-payee, sought-judgeable}
 use Rattle.intake.proofs.Applying.{listed-few, covers, covers-kept, covers-uncut, covers-cut, told-uncut, told-cut, silent-cut, count-grows, passed-applied}
 use Rattle.intake.proofs.Summing.{allOf, all-total, all-changed, change-fits, change-few, whole-grows, after-all, applied-all}
@@ -74,18 +73,18 @@ use Rattle.core.proofs.run.Statement.{statement}
 use Rattle.core.proofs.run.Tie as tie
 
 abbrev Inv-loop2 : tie.InvT-loop2
-Inv-loop2 tickets answers reports₀ b₀ roster size bics bic-heads bic-links rows route-bics route-heads route-links payees counts txids heads links total mark₀ taken n₀ at t e before end reports b mark n =
+Inv-loop2 tickets answers reports₀ b₀ roster size bics bic-heads bic-links rows route-bics route-heads route-links kinds numbers txids heads links total mark₀ taken n₀ at t e before end reports b mark n =
     Sweeping b₀ n₀ reports₀ b mark n reports × (mark₀ ≤ mark) × (mark ≤ end)
 
 abbrev μ-loop2 : tie.MeasureT-loop2
-μ-loop2 tickets answers reports₀ b₀ roster size bics bic-heads bic-links rows route-bics route-heads route-links payees counts txids heads links total mark₀ taken n₀ at t e before end reports b mark n = end - mark
+μ-loop2 tickets answers reports₀ b₀ roster size bics bic-heads bic-links rows route-bics route-heads route-links kinds numbers txids heads links total mark₀ taken n₀ at t e before end reports b mark n = end - mark
 
 abbrev Inv-loop : tie.InvT-loop
-Inv-loop tickets answers₀ reports₀ b₀ roster size bics bic-heads bic-links rows route-bics route-heads route-links payees counts txids₀ heads₀ links₀ total₀ mark₀ taken₀ n₀ answers reports b txids heads links total mark taken n =
+Inv-loop tickets answers₀ reports₀ b₀ roster size bics bic-heads bic-links rows route-bics route-heads route-links kinds numbers txids₀ heads₀ links₀ total₀ mark₀ taken₀ n₀ answers reports b txids heads links total mark taken n =
     Kept b₀ roster tickets answers₀ reports₀ b txids heads links total mark taken n answers reports
 
 abbrev μ-loop : tie.MeasureT-loop
-μ-loop tickets answers₀ reports₀ b₀ roster size bics bic-heads bic-links rows route-bics route-heads route-links payees counts txids₀ heads₀ links₀ total₀ mark₀ taken₀ n₀ answers reports b txids heads links total mark taken n = length tickets - 108 * taken
+μ-loop tickets answers₀ reports₀ b₀ roster size bics bic-heads bic-links rows route-bics route-heads route-links kinds numbers txids₀ heads₀ links₀ total₀ mark₀ taken₀ n₀ answers reports b txids heads links total mark taken n = length tickets - 108 * taken
 
 -- the loop over tickets
 module _ (l : tie.At-loop Inv-loop2 μ-loop2 Inv-loop μ-loop) where
@@ -93,16 +92,16 @@ module _ (l : tie.At-loop Inv-loop2 μ-loop2 Inv-loop μ-loop) where
   b = l .loop .b
 
   abbrev tickets : List ℕ
-  tickets = now (l .before .before .before .before .before .before .before .before .before .before .before .before .before .before .before .before .before .before .before .before .before .before .before .before .before .before .before .args .tickets)
+  tickets = now (l .before .before .before .before .before .before .before .before .before .before .before .before .before .before .before .before .before .before .before .before .before .before .before .before .before .before .before .before .args .tickets)
 
   abbrev answers₀ : List ℕ
-  answers₀ = now (l .before .before .before .before .before .before .before .before .before .before .before .before .before .before .before .before .before .before .before .before .before .before .before .before .before .before .before .args .answers)
+  answers₀ = now (l .before .before .before .before .before .before .before .before .before .before .before .before .before .before .before .before .before .before .before .before .before .before .before .before .before .before .before .before .args .answers)
 
   abbrev reports₀ : List ℕ
-  reports₀ = now (l .before .before .before .before .before .before .before .before .before .before .before .before .before .before .before .before .before .before .before .before .before .before .before .before .before .before .before .args .reports)
+  reports₀ = now (l .before .before .before .before .before .before .before .before .before .before .before .before .before .before .before .before .before .before .before .before .before .before .before .before .before .before .before .before .args .reports)
 
   abbrev roster : Roster
-  roster = l .before .before .before .before .before .before .before .before .before .before .before .before .before .before .before .before .before .before .before .before .before .before .before .before .before .before .before .args .t1 .roster
+  roster = l .before .before .before .before .before .before .before .before .before .before .before .before .before .before .before .before .before .before .before .before .before .before .before .before .before .before .before .before .args .t1 .roster
 
   sound : Sound b
   sound = l .loop .inv .going .sound
@@ -137,7 +136,7 @@ module _ (c : tie.Then1 Inv-loop2 μ-loop2 Inv-loop μ-loop) where
   room = room-left _ _ _ more
 
   next-fits : head .loop .taken + 1 < 18_446_744_073_709_551_616
-  next-fits = let h = room .ticket in let g = head .before .before .before .before .before .before .before .before .before .before .before .before .before .before .before .before .before .before .before .before .before .before .before .before .before .before .before .good in omega arith
+  next-fits = let h = room .ticket in let g = head .before .before .before .before .before .before .before .before .before .before .before .before .before .before .before .before .before .before .before .before .before .before .before .before .before .before .before .before .good in omega arith
 
 -- there is none
 module _ (c : tie.Else1 Inv-loop2 μ-loop2 Inv-loop μ-loop) where
@@ -343,7 +342,7 @@ module _ (c : tie.After-find-bic Inv-loop2 μ-loop2 Inv-loop μ-loop) where
       c .find-bic .ensures
       ∙ ap₂ (λ (z : Bool) (f : Found). cond z f found.Nothing)
       (c .before .before .before .before .before .names-sender .ensures ∙ ap (λ (x : Terms). namesSender (x .subject)) (c .before .before .before .before .before .before .before .terms-of .ensures))
-      (sender-row (roster (top left-s)) (top left-s .before .before .before .before .before .before .before .before .before .before .before .before .before .before .before .before .before .before .before .before .before .bics-of .ensures .1) (ticket (top left-s))
+      (sender-row (roster (top left-s)) (top left-s .before .before .before .before .before .before .before .before .before .before .before .before .before .before .before .before .before .before .before .before .before .before .bics-of .ensures .1) (ticket (top left-s))
       ∙ ap (λ (r : Roster). senderIn r (ticket (top left-s))) (sym (swept-roster left-s)))
 
 -- the order
@@ -382,17 +381,8 @@ module _ (c : tie.After-find-bic2 Inv-loop2 μ-loop2 Inv-loop μ-loop) where
   route-is =
       c .find-bic2 .ensures
       ∙ ap₂ (λ (z : Bool) (f : Found). cond z f found.Nothing) (opens-is sought-at)
-      (route-row (roster (top left-w)) few-rows (top left-w .before .before .before .before .before .before .before .before .before .before .before .before .before .before .before .route-bics-of .ensures .1) (ticket (top left-w))
+      (route-row (roster (top left-w)) few-rows (top left-w .before .before .before .before .before .before .before .before .before .before .before .before .before .before .before .before .route-bics-of .ensures .1) (ticket (top left-w))
       ∙ ap (λ (r : Roster). routeIn r (ticket (top left-w))) (sym (swept-roster left-w)))
-
-  row-below : isFound (c .find-bic2 .result) ≡ true → numberOf (c .find-bic2 .result) < roster (top left-w) .rows
-  row-below =
-      subst (λ (f : Found). isFound f ≡ true → numberOf f < roster (top left-w) .rows) (sym route-is)
-      (subst (λ (r : Roster). isFound (cond opens (routeIn r (ticket (top left-w))) found.Nothing) ≡ true → numberOf (cond opens (routeIn r (ticket (top left-w))) found.Nothing) < roster (top left-w) .rows)
-      (sym (swept-roster left-w)) (route-below (roster (top left-w)) opens (ticket (top left-w)) few-rows))
-
-  row-few : numberOf (c .find-bic2 .result) < 64
-  row-few = number-few (c .find-bic2 .result) 64 (omega arith) (λ e. let h = row-below e in let few = few-rows in omega arith)
 
 -- and where it leads
 module _ (c : tie.After-end-of Inv-loop2 μ-loop2 Inv-loop μ-loop) where
@@ -402,13 +392,11 @@ module _ (c : tie.After-end-of Inv-loop2 μ-loop2 Inv-loop μ-loop) where
   abbrev left-e : tie.Left-loop2 Inv-loop2 μ-loop2 Inv-loop μ-loop
   left-e = left-w found-at
 
-  guaranteed : Guaranteed (roster (top left-e))
-  guaranteed = subst Guaranteed (swept-roster left-e) (swept-sound left-e .roster)
-
   way-is : c .end-of .result ≡ cond (opens found-at) (wayIn (swept-book left-e .roster) (ticket (top left-e))) followed.Nowhere
   way-is =
       c .end-of .ensures
-      ∙ led-end (roster (top left-e)) guaranteed _ _ (top left-e .before .before .before .before .before .before .before .before .before .before .payees-of .ensures .1) (top left-e .before .before .before .before .before .before .before .before .before .counts-of .ensures .1) (found-at .find-bic2 .result) (row-below found-at)
+      ∙ ap₂ (λ (x y : List ℕ). endAt x y (found-at .find-bic2 .result)) (top left-e .before .before .before .before .before .before .before .before .before .before .before .targets-of .ensures .0) (top left-e .before .before .before .before .before .before .before .before .before .before .before .targets-of .ensures .1)
+      ∙ led-end (roster (top left-e)) (found-at .find-bic2 .result)
       ∙ ap₂ followedFrom (sym (swept-roster left-e)) (route-is found-at)
       ∙ way-if (swept-book left-e .roster) (opens found-at) (ticket (top left-e))
 
@@ -761,7 +749,7 @@ module _ (c : tie.Joined4 Inv-loop2 μ-loop2 Inv-loop μ-loop) where
 
 loop-holds : tie.Need-loop-holds Inv-loop2 μ-loop2 Inv-loop μ-loop
 loop-holds c =
-    let a = c .before .before .before .before .before .before .before .before .before .before .before .before .before .before .before .before .before .before .before .before .before .before .before .before .before .before in
+    let a = c .before .before .before .before .before .before .before .before .before .before .before .before .before .before .before .before .before .before .before .before .before .before .before .before .before .before .before in
     let rows = c .before .before .before .before .before .before .txids-of .ensures in
     let chains = c .before .before .before .before .txid-chains .ensures in
     record {
@@ -825,8 +813,8 @@ find-bic-requires c κs =
     let l = c .before .before .before .before .before .before .before in
     let few = swept-sound l .roster .size in
     let e = ap (λ (r : Roster). r .size) (swept-roster l) in
-    let k = top l .before .before .before .before .before .before .before .before .before .before .before .before .before .before .before .before .before .before .before .bic-chains .ensures in
-    let r = top l .before .before .before .before .before .before .before .before .before .before .before .before .before .before .before .before .before .before .before .before .before .bics-of .ensures in
+    let k = top l .before .before .before .before .before .before .before .before .before .before .before .before .before .before .before .before .before .before .before .before .bic-chains .ensures in
+    let r = top l .before .before .before .before .before .before .before .before .before .before .before .before .before .before .before .before .before .before .before .before .before .before .bics-of .ensures in
     let linked = k .1 in
     let wide = r .0 in (
       k .0,
@@ -834,7 +822,7 @@ find-bic-requires c κs =
       omega arith,
       length-part 11 16 (ticket (top l)) (rw (whole-ticket l) (omega arith)),
       k .2,
-      distinct-rows (r .1) (top l .before .before .before .before .before .before .before .before .before .before .before .before .before .before .before .before .before .before .before .before .before .before .before .before .before .before .before .pre .roster .distinct),
+      distinct-rows (r .1) (top l .before .before .before .before .before .before .before .before .before .before .before .before .before .before .before .before .before .before .before .before .before .before .before .before .before .before .before .before .pre .roster .distinct),
     )
 
 find-txid-requires : tie.Need-find-txid-requires Inv-loop2 μ-loop2 Inv-loop μ-loop
@@ -859,8 +847,8 @@ find-bic-requires-2 c κs =
     let l = c .before .before .before .before .before .before .before .before .before .before .before .before .before .before .before .before .before .before .before .before in
     let few = swept-sound l .roster .rows in
     let e = ap (λ (r : Roster). r .rows) (swept-roster l) in
-    let k = top l .before .before .before .before .before .before .before .before .before .before .before .before .before .bic-chains2 .ensures in
-    let r = top l .before .before .before .before .before .before .before .before .before .before .before .before .before .before .before .route-bics-of .ensures in
+    let k = top l .before .before .before .before .before .before .before .before .before .before .before .before .before .before .bic-chains2 .ensures in
+    let r = top l .before .before .before .before .before .before .before .before .before .before .before .before .before .before .before .before .route-bics-of .ensures in
     let linked = k .1 in
     let wide = r .0 in (
       k .0,
@@ -868,16 +856,8 @@ find-bic-requires-2 c κs =
       omega arith,
       length-part 11 27 (ticket (top l)) (rw (whole-ticket l) (omega arith)),
       k .2,
-      distinct-rows (r .1) (top l .before .before .before .before .before .before .before .before .before .before .before .before .before .before .before .before .before .before .before .before .before .before .before .before .before .before .before .pre .roster .routeDistinct),
+      distinct-rows (r .1) (top l .before .before .before .before .before .before .before .before .before .before .before .before .before .before .before .before .before .before .before .before .before .before .before .before .before .before .before .before .pre .roster .routeDistinct),
     )
-
-end-of-requires : tie.Need-end-of-requires Inv-loop2 μ-loop2 Inv-loop μ-loop
-end-of-requires c κs =
-    let l = c .before .before .before .before .before .before .before .before .before .before .before .before .before .before .before .before .before .before .before .before .before .before .before in
-    let p = top l .before .before .before .before .before .before .before .before .before .before .payees-of .ensures .0 in
-    let k = top l .before .before .before .before .before .before .before .before .before .counts-of .ensures .0 in
-    let f = row-few (c .before .before) in
-    (omega arith, omega arith)
 
 judge-requires : tie.Need-judge-requires Inv-loop2 μ-loop2 Inv-loop μ-loop
 judge-requires c κs =
@@ -960,25 +940,24 @@ run-spec =
     (λ c κs. let a = c .before .before .before .before .before .before .before .before .before .before .before in (a .pre .roster .rows, λ i h. bic-length _ (a .pre .roster .routeBic i h)))
     (λ c. let h = c .before .route-bics-of .ensures .0 in search needs)
     (λ c κs. let few = c .before .before .before .before .before .before .before .before .before .before .before .before .before .pre .roster .rows in let h = c .before .route-bics-of .ensures .0 in (omega arith, omega arith))
-    (λ c κs. let a = c .before .before .before .before .before .before .before .before .before .before .before .before .before .before .before .before in (a .pre .roster .rows, λ i h. backward (a .args .t1 .roster .size) i (routeOf (a .args .t1 .roster) i .target) (a .pre .roster .leads i h)))
-    (λ c κs. let a = c .before .before .before .before .before .before .before .before .before .before .before .before .before .before .before .before .before in (a .pre .roster .rows, λ i h. backward (a .args .t1 .roster .size) i (routeOf (a .args .t1 .roster) i .target) (a .pre .roster .leads i h)))
-    (λ c κs. let s = c .before .before .before .before .before .before .before .before .before .before .before .before .before .before .before .before .before .before .before .pre .orders in (s .count, s .padded))
+    (λ c κs. search needs)
+    (λ c κs. let s = c .before .before .before .before .before .before .before .before .before .before .before .before .before .before .before .before .before .before .before .before .pre .orders in (s .count, s .padded))
     (λ c. let h = c .before .txids-of .ensures .0 in search needs)
-    (λ c κs. let few = c .before .before .before .before .before .before .before .before .before .before .before .before .before .before .before .before .before .before .before .before .before .pre .orders .count in let h = c .before .txids-of .ensures .0 in (omega arith, omega arith))
-    (λ c κs. let a = c .before .before .before .before .before .before .before .before .before .before .before .before .before .before .before .before .before .before .before .before .before .before .before .before .before in (a .pre .roster .size, rw (total-sum (a .args .t1)) (a .pre .limited)))
+    (λ c κs. let few = c .before .before .before .before .before .before .before .before .before .before .before .before .before .before .before .before .before .before .before .before .before .before .pre .orders .count in let h = c .before .txids-of .ensures .0 in (omega arith, omega arith))
+    (λ c κs. let a = c .before .before .before .before .before .before .before .before .before .before .before .before .before .before .before .before .before .before .before .before .before .before .before .before .before .before in (a .pre .roster .size, rw (total-sum (a .args .t1)) (a .pre .limited)))
     loop-holds
-    (λ c. let g = c .before .before .before .before .before .before .before .before .before .before .before .before .before .before .before .before .before .before .before .before .before .before .before .before .before .before .before .good in search needs)
-    (λ c. let g = c .before .before .before .before .before .before .before .before .before .before .before .before .before .before .before .before .before .before .before .before .before .before .before .before .before .before .before .good in search needs)
-    (λ c. let g = c .before .before .before .before .before .before .before .before .before .before .before .before .before .before .before .before .before .before .before .before .before .before .before .before .before .before .before .good in search needs)
+    (λ c. let g = c .before .before .before .before .before .before .before .before .before .before .before .before .before .before .before .before .before .before .before .before .before .before .before .before .before .before .before .before .good in search needs)
+    (λ c. let g = c .before .before .before .before .before .before .before .before .before .before .before .before .before .before .before .before .before .before .before .before .before .before .before .before .before .before .before .before .good in search needs)
+    (λ c. let g = c .before .before .before .before .before .before .before .before .before .before .before .before .before .before .before .before .before .before .before .before .before .before .before .before .before .before .before .before .good in search needs)
     (λ c. let g = c .loop .inv .going .answersLeft in let e = long-answers c in omega arith)
-    (λ c. let g = c .before .before .before .before .before .before .before .before .before .before .before .before .before .before .before .before .before .before .before .before .before .before .before .before .before .before .before .good in search needs)
+    (λ c. let g = c .before .before .before .before .before .before .before .before .before .before .before .before .before .before .before .before .before .before .before .before .before .before .before .before .before .before .before .before .good in search needs)
     (λ c. let g = c .loop .inv .going .reportsLeft in let e = long-reports c in omega arith)
     (λ c κs. search needs)
-    (λ c. let g = c .before .before .before .before .before .before .before .before .before .before .before .before .before .before .before .before .before .before .before .before .before .before .before .before .before .before .before .before .before .good in search needs)
-    (λ c. let g = c .before .before .before .before .before .before .before .before .before .before .before .before .before .before .before .before .before .before .before .before .before .before .before .before .before .before .before .before .before .good in search needs)
-    (λ c. let g = c .before .before .before .before .before .before .before .before .before .before .before .before .before .before .before .before .before .before .before .before .before .before .before .before .before .before .before .before .before .good in search needs)
-    (λ c. let g = c .before .before .before .before .before .before .before .before .before .before .before .before .before .before .before .before .before .before .before .before .before .before .before .before .before .before .before .before .before .good in search needs)
-    (λ c. let h = room c .ticket in let g = c .before .before .before .before .before .before .before .before .before .before .before .before .before .before .before .before .before .before .before .before .before .before .before .before .before .before .before .before .before .good in search needs)
+    (λ c. let g = c .before .before .before .before .before .before .before .before .before .before .before .before .before .before .before .before .before .before .before .before .before .before .before .before .before .before .before .before .before .before .good in search needs)
+    (λ c. let g = c .before .before .before .before .before .before .before .before .before .before .before .before .before .before .before .before .before .before .before .before .before .before .before .before .before .before .before .before .before .before .good in search needs)
+    (λ c. let g = c .before .before .before .before .before .before .before .before .before .before .before .before .before .before .before .before .before .before .before .before .before .before .before .before .before .before .before .before .before .before .good in search needs)
+    (λ c. let g = c .before .before .before .before .before .before .before .before .before .before .before .before .before .before .before .before .before .before .before .before .before .before .before .before .before .before .before .before .before .before .good in search needs)
+    (λ c. let h = room c .ticket in let g = c .before .before .before .before .before .before .before .before .before .before .before .before .before .before .before .before .before .before .before .before .before .before .before .before .before .before .before .before .before .before .good in search needs)
     (λ c κs. search needs)
     (λ c κs. search needs)
     loop2-holds
@@ -1003,9 +982,9 @@ run-spec =
     (λ c κs. search needs)
     (λ c κs. search needs)
     (λ c κs. search needs)
-    (λ c. let h = top (c .before .before .before .before) .before .before .before .before .before .before .before .before .before .before .before .before .before .before .before .before .before .before .before .bic-chains .ensures .0 in search needs)
-    (λ c. let h = top (c .before .before .before .before .before) .before .before .before .before .before .before .before .before .before .before .before .before .before .before .before .before .before .before .before .bic-chains .ensures .1 in search needs)
-    (λ c. let h = top (c .before .before .before .before .before .before) .before .before .before .before .before .before .before .before .before .before .before .before .before .before .before .before .before .before .before .before .before .bics-of .ensures .0 in search needs)
+    (λ c. let h = top (c .before .before .before .before) .before .before .before .before .before .before .before .before .before .before .before .before .before .before .before .before .before .before .before .before .bic-chains .ensures .0 in search needs)
+    (λ c. let h = top (c .before .before .before .before .before) .before .before .before .before .before .before .before .before .before .before .before .before .before .before .before .before .before .before .before .before .bic-chains .ensures .1 in search needs)
+    (λ c. let h = top (c .before .before .before .before .before .before) .before .before .before .before .before .before .before .before .before .before .before .before .before .before .before .before .before .before .before .before .before .before .bics-of .ensures .0 in search needs)
     (λ c. search needs)
     (λ c. search needs)
     (λ c. let h = whole-ticket (c .before .before .before .before .before .before) in search needs)
@@ -1022,16 +1001,14 @@ run-spec =
     (λ c. search needs)
     (λ c. let h = whole-ticket (c .before .before .before .before .before .before .before .before .before .before .before .before .before .before) in search needs)
     find-txid-requires
-    (λ c. let h = top (c .before .before .before .before .before .before .before .before .before .before .before .before .before .before .before .before .before) .before .before .before .before .before .before .before .before .before .before .before .before .before .bic-chains2 .ensures .0 in search needs)
-    (λ c. let h = top (c .before .before .before .before .before .before .before .before .before .before .before .before .before .before .before .before .before .before) .before .before .before .before .before .before .before .before .before .before .before .before .before .bic-chains2 .ensures .1 in search needs)
-    (λ c. let h = top (c .before .before .before .before .before .before .before .before .before .before .before .before .before .before .before .before .before .before .before) .before .before .before .before .before .before .before .before .before .before .before .before .before .before .before .route-bics-of .ensures .0 in search needs)
+    (λ c. let h = top (c .before .before .before .before .before .before .before .before .before .before .before .before .before .before .before .before .before) .before .before .before .before .before .before .before .before .before .before .before .before .before .before .bic-chains2 .ensures .0 in search needs)
+    (λ c. let h = top (c .before .before .before .before .before .before .before .before .before .before .before .before .before .before .before .before .before .before) .before .before .before .before .before .before .before .before .before .before .before .before .before .before .bic-chains2 .ensures .1 in search needs)
+    (λ c. let h = top (c .before .before .before .before .before .before .before .before .before .before .before .before .before .before .before .before .before .before .before) .before .before .before .before .before .before .before .before .before .before .before .before .before .before .before .before .route-bics-of .ensures .0 in search needs)
     (λ c. search needs)
     (λ c. search needs)
     (λ c. let h = whole-ticket (c .before .before .before .before .before .before .before .before .before .before .before .before .before .before .before .before .before .before .before) in search needs)
     find-bic-requires-2
-    (λ c. let h = top (c .before .before .before .before .before .before .before .before .before .before .before .before .before .before .before .before .before .before .before .before .before .before) .before .before .before .before .before .before .before .before .before .before .payees-of .ensures .0 in search needs)
-    (λ c. let h = top (c .before .before .before .before .before .before .before .before .before .before .before .before .before .before .before .before .before .before .before .before .before .before .before) .before .before .before .before .before .before .before .before .before .counts-of .ensures .0 in search needs)
-    end-of-requires
+    (λ c κs. search needs)
     (λ c κs. search needs)
     (λ c κs. let l = c .before .before .before .before .before .before .before .before .before .before .before .before .before .before .before .before .before .before .before .before .before .before .before .before .before .before .before in let few = swept-sound l .roster .size in let e = ap (λ (r : Roster). r .size) (swept-roster l) in omega arith)
     (λ c κs. search needs)

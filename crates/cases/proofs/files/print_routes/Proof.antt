@@ -5,10 +5,10 @@ use Rattle.cases.proofs.files.print_routes.Statement.{statement}
 use Rattle.cases.proofs.files.print_routes.Tie as tie
 
 abbrev Inv-loop : tie.InvT-loop
-Inv-loop r rows i₀ i = i ≤ rows
+Inv-loop rows kinds numbers i₀ i = i ≤ rows
 
 abbrev μ-loop : tie.MeasureT-loop
-μ-loop r rows i₀ i = rows - i
+μ-loop rows kinds numbers i₀ i = rows - i
 
 pub print-routes-spec : {M : Type 1} → statement M
 print-routes-spec =
@@ -16,6 +16,7 @@ print-routes-spec =
     (tie.spec
     Inv-loop
     μ-loop
+    (λ c κs. search needs)
     (λ c. search needs)
     (λ c κs. search needs)
     (λ c κs. search needs)
