@@ -118,6 +118,15 @@ fn next_head() -> Head
     }
 }
 
+// With a buffer of that length and that fill.
+fn hand_with(b: Book, number: u64, ticket: &[u8], room: usize, byte: u8) -> Book
+    requires { ⌜ Sound b × (room ≤ 8192) ⌝ }
+    ensures { λ r. ⌜ Sound r ⌝ }
+{
+    let mut buffer = [byte; 8192];
+    hand(b, number, ticket, &mut buffer[0..room], byte)
+}
+
 // The book after the next input, and whether there was one.
 pub struct Next {
     pub book: Book,
@@ -138,10 +147,7 @@ pub fn hand_next(b: Book, number: u64) -> Next
             whole: false,
         };
     }
-    let room = head.buffer;
-    let byte = head.fill;
-    let mut buffer = [byte; 8192];
-    let after = hand(b, number, &ticket[0..n], &mut buffer[0..room], byte);
+    let after = hand_with(b, number, &ticket[0..n], head.buffer, head.fill);
     Next {
         book: after,
         whole: true,

@@ -50,6 +50,18 @@ fn hand_all(fresh: Book, inputs: u64) -> Handed
     Handed { book: b, whole }
 }
 
+// The lines of a case, and whether all its inputs were there.
+fn print_case(name: &[u8], file: &[u8], inputs: u64) -> bool {
+    let opened = opening::open(file);
+    print::print_name(name);
+    print::print_line(b"F", &[opened.refusal as u64]);
+    let fresh = opened.book;
+    let handed = hand_all(fresh, inputs);
+    let b = handed.book;
+    state::print_book(b);
+    handed.whole
+}
+
 // One case, and whether there may be another.
 fn print_next() -> bool {
     let mut head = [0u8; 12];
@@ -73,14 +85,7 @@ fn print_next() -> bool {
     if !input::fill(&mut file, n) {
         return false;
     }
-    let opened = opening::open(&file[0..n]);
-    print::print_name(&name[0..named]);
-    print::print_line(b"F", &[opened.refusal as u64]);
-    let fresh = opened.book;
-    let handed = hand_all(fresh, inputs);
-    let b = handed.book;
-    state::print_book(b);
-    handed.whole
+    print_case(&name[0..named], &file[0..n], inputs)
 }
 
 // A proved loop has to end, and nothing says that the input does: so it counts its turns down, from a number that no run uses up.
