@@ -16,6 +16,7 @@ use report::answer;
 use report::answer::Answer;
 use rules::Book;
 use rules::finding::Finding;
+use ticket::layout;
 ghost use Rattle.rules.specs.Sound.{Sound};
 ghost use Rattle.intake.specs.Running.{Ran};
 
@@ -64,12 +65,12 @@ pub fn run(mut b: Book, tickets: &[u8], answers: &mut [u8], reports: &mut [u8]) 
     let mut taken = 0;
     let mut n = 0;
     while room::room_left(
-        tickets.len() - 108 * taken,
-        answers.len() - 4 * taken,
-        reports.len() - 12 * n,
+        tickets.len() - layout::LENGTH * taken,
+        answers.len() - answer::LENGTH * taken,
+        reports.len() - report::LENGTH * n,
     ) {
-        let at = 108 * taken;
-        let t = &tickets[at..at + 108];
+        let at = layout::LENGTH * taken;
+        let t = &tickets[at..at + layout::LENGTH];
         let e = entry::entry_of(b.clock, t);
         b.clock = e.time;
         let before = n;
@@ -106,18 +107,26 @@ pub fn run(mut b: Book, tickets: &[u8], answers: &mut [u8], reports: &mut [u8]) 
             &bic_links,
             &bics,
             size,
-            &t[16..27],
+            &t[layout::SENDER..layout::PAYEE],
         );
         let seeks = opens | terms::names_order(subject);
-        let bucket = chains::txid_bucket(&t[38..73]);
-        let order = index::find_txid(seeks, &heads, &links, &txids, b.count, bucket, &t[38..73]);
+        let bucket = chains::txid_bucket(&t[layout::TXID..layout::IBAN]);
+        let order = index::find_txid(
+            seeks,
+            &heads,
+            &links,
+            &txids,
+            b.count,
+            bucket,
+            &t[layout::TXID..layout::IBAN],
+        );
         let route = index::find_bic(
             opens,
             &route_heads,
             &route_links,
             &route_bics,
             rows,
-            &t[27..38],
+            &t[layout::PAYEE..layout::TXID],
         );
         let end = ways::end_of(&kinds, &numbers, route);
         let flow = terms.flow;
@@ -132,7 +141,7 @@ pub fn run(mut b: Book, tickets: &[u8], answers: &mut [u8], reports: &mut [u8]) 
         let about = b.orders[i];
         let payee = about.payee;
         let mut txid = [0u8; 35];
-        fields::copy(&t[38..73], &mut txid);
+        fields::copy(&t[layout::TXID..layout::IBAN], &mut txid);
 
         // the judgement
         let judged = judgement::judge(
@@ -167,7 +176,7 @@ pub fn run(mut b: Book, tickets: &[u8], answers: &mut [u8], reports: &mut [u8]) 
             &mut txids,
             number,
             bucket,
-            &t[38..73],
+            &t[layout::TXID..layout::IBAN],
         );
         b.count = d.count;
         let first = d.first;
