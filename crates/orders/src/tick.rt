@@ -8,9 +8,18 @@ use rules::Status;
 use rules::decision::Told;
 use rules::limits;
 ghost use mathlib.Core.Path.{_≡_};
-ghost use Prim.Native.Nat.{_≤_, _<_};
-ghost use Rattle.rules.specs.Tick.{due};
+ghost use Prim.Native.Nat.{_-_, _≤_, _<_};
+ghost use lib.Dec.{ltb};
+ghost use Rattle.rules.specs.Tick.{timeLimit, due};
 ghost use Rattle.intake.specs.Expiry.{expiryOf};
+
+// An order that is younger than 20 seconds is not due, and none that came after it is older.
+pub fn is_young(clock: u32, time: u32) -> bool
+    requires { ⌜ time ≤ clock ⌝ }
+    ensures { λ r. ⌜ r ≡ ltb (clock - time) timeLimit ⌝ }
+{
+    clock - time < limits::TIME_LIMIT
+}
 
 // Waiting, the payee a bank, clock minus time at least 20.
 pub fn due(clock: u32, o: Order, bank: bool) -> bool
