@@ -1,8 +1,9 @@
-// The remainder by 97 of the number that pairs of characters spell, each pair by its number and by what it scales the number
-// before it with. Divided so often that 64 bits suffice.
+// The remainder by 97 of the number that pairs of characters spell, each pair by its number and by what it scales the number before
+// it with. Parts of the number are worked out beside each other, so that none waits for the one before, and then put together;
+// divided so often that 64 bits suffice.
 ghost use mathlib.Core.Path.{_≡_};
 ghost use Prim.Native.Nat.{_+_, _*_, _%_, _^_, _≤_, _<_};
-ghost use Rattle.iban.specs.Carried.{Fitting, carried, carriedMoved};
+ghost use Rattle.iban.specs.Carried.{Scaling, Fitting, carried, scaled, carriedMoved};
 
 fn wide(n: u16) -> u64
     ensures { λ r. ⌜ r ≡ n ⌝ }
@@ -10,28 +11,71 @@ fn wide(n: u16) -> u64
     n as u64
 }
 
-// The number n with one pair behind it, with two, and with four. What comes out bounds what may be carried on.
-fn one(n: u64, numbers: &[u16; 17], scales: &[u16; 17], i: usize) -> u64
-    requires { ⌜ (n < 10 ^ 15) × (i + 1 ≤ 17) × Fitting (now numbers) (now scales) ⌝ }
-    ensures { λ r. ⌜ (r ≡ carried (now (numbers .entry)) (now (scales .entry)) n i 1) × (r < (n + 1) * 10 ^ 4) ⌝ }
+// What two pairs scale with, and three, and four.
+fn two_scale(scales: &[u16; 17], i: usize) -> u64
+    requires { ⌜ (i + 2 ≤ 17) × Scaling (now scales) ⌝ }
+    ensures { λ r. ⌜ (r ≡ scaled (now (scales .entry)) i 2) × (r ≤ 10 ^ 8) ⌝ }
 {
-    n * wide(scales[i]) + wide(numbers[i])
+    wide(scales[i]) * wide(scales[i + 1])
 }
 
-fn two(n: u64, numbers: &[u16; 17], scales: &[u16; 17], i: usize) -> u64
-    requires { ⌜ (n < 10 ^ 11) × (i + 2 ≤ 17) × Fitting (now numbers) (now scales) ⌝ }
-    ensures { λ r. ⌜ (r ≡ carried (now (numbers .entry)) (now (scales .entry)) n i 2) × (r < (n + 1) * 10 ^ 8) ⌝ }
+fn three_scale(scales: &[u16; 17], i: usize) -> u64
+    requires { ⌜ (i + 3 ≤ 17) × Scaling (now scales) ⌝ }
+    ensures { λ r. ⌜ (r ≡ scaled (now (scales .entry)) i 3) × (r ≤ 10 ^ 12) ⌝ }
 {
-    let first = one(n, numbers, scales, i);
-    one(first, numbers, scales, i + 1)
+    two_scale(scales, i) * wide(scales[i + 2])
 }
 
-fn four(n: u64, numbers: &[u16; 17], scales: &[u16; 17], i: usize) -> u64
-    requires { ⌜ (n < 97) × (i + 4 ≤ 17) × Fitting (now numbers) (now scales) ⌝ }
-    ensures { λ r. ⌜ r ≡ carried (now (numbers .entry)) (now (scales .entry)) n i 4 ⌝ }
+fn four_scale(scales: &[u16; 17], i: usize) -> u64
+    requires { ⌜ (i + 4 ≤ 17) × Scaling (now scales) ⌝ }
+    ensures { λ r. ⌜ (r ≡ scaled (now (scales .entry)) i 4) × (r ≤ 10 ^ 16) ⌝ }
 {
-    let first = two(n, numbers, scales, i);
-    two(first, numbers, scales, i + 2)
+    two_scale(scales, i) * two_scale(scales, i + 2)
+}
+
+// The number of two pairs, of three, and of four.
+fn two(numbers: &[u16; 17], scales: &[u16; 17], i: usize) -> u64
+    requires { ⌜ (i + 2 ≤ 17) × Fitting (now numbers) (now scales) ⌝ }
+    ensures { λ r. ⌜ (r ≡ carried (now (numbers .entry)) (now (scales .entry)) 0 i 2) × (r < 10 ^ 8) ⌝ }
+{
+    wide(numbers[i]) * wide(scales[i + 1]) + wide(numbers[i + 1])
+}
+
+fn three(numbers: &[u16; 17], scales: &[u16; 17], i: usize) -> u64
+    requires { ⌜ (i + 3 ≤ 17) × Fitting (now numbers) (now scales) ⌝ }
+    ensures { λ r. ⌜ (r ≡ carried (now (numbers .entry)) (now (scales .entry)) 0 i 3) × (r < 10 ^ 12) ⌝ }
+{
+    two(numbers, scales, i) * wide(scales[i + 2]) + wide(numbers[i + 2])
+}
+
+fn four(numbers: &[u16; 17], scales: &[u16; 17], i: usize) -> u64
+    requires { ⌜ (i + 4 ≤ 17) × Fitting (now numbers) (now scales) ⌝ }
+    ensures { λ r. ⌜ (r ≡ carried (now (numbers .entry)) (now (scales .entry)) 0 i 4) × (r < 10 ^ 16) ⌝ }
+{
+    two(numbers, scales, i) * two_scale(scales, i + 2) + two(numbers, scales, i + 2)
+}
+
+// A number behind what was carried so far.
+fn behind(n: u64, scale: u64, number: u64) -> u64
+    requires { ⌜ (n < 97) × (scale ≤ 10 ^ 16) × (number < 10 ^ 16) ⌝ }
+    ensures { λ r. ⌜ r ≡ n * scale + number ⌝ }
+{
+    n * scale + number
+}
+
+// The same where what was carried is not divided yet.
+fn last(n: u64, scale: u64, number: u64) -> u64
+    requires { ⌜ (n < 10 ^ 4) × (scale ≤ 10 ^ 8) × (number < 10 ^ 8) ⌝ }
+    ensures { λ r. ⌜ r ≡ n * scale + number ⌝ }
+{
+    n * scale + number
+}
+
+fn small(n: u64, scale: u64, number: u64) -> u64
+    requires { ⌜ (n < 97) × (scale < 97) × (number < 97) ⌝ }
+    ensures { λ r. ⌜ (r ≡ n * scale + number) × (r < 10 ^ 4) ⌝ }
+{
+    n * scale + number
 }
 
 // The pairs from the third on, and behind them the first two.
@@ -39,10 +83,16 @@ pub fn of_moved(numbers: &[u16; 17], scales: &[u16; 17]) -> u64
     requires { ⌜ Fitting (now numbers) (now scales) ⌝ }
     ensures { λ r. ⌜ r ≡ carriedMoved (now (numbers .entry)) (now (scales .entry)) % 97 ⌝ }
 {
-    let a = four(0, numbers, scales, 2);
-    let b = four(a % 97, numbers, scales, 6);
-    let c = four(b % 97, numbers, scales, 10);
-    let d = two(c % 97, numbers, scales, 14);
-    let others = one(d, numbers, scales, 16);
-    two(others % 97, numbers, scales, 0) % 97
+    let a = four(numbers, scales, 2) % 97;
+    let b = behind(a, four_scale(scales, 6), four(numbers, scales, 6)) % 97;
+    let c = four(numbers, scales, 10) % 97;
+    let scale = three_scale(scales, 14);
+    let d = behind(c, scale, three(numbers, scales, 14)) % 97;
+    let by = behind(four_scale(scales, 10) % 97, scale, 0) % 97;
+    last(
+        small(b, by, d),
+        two_scale(scales, 0),
+        two(numbers, scales, 0),
+    )
+        % 97
 }

@@ -6,8 +6,8 @@ use Rattle.fields.proofs.Rows.{Row, AllMet, all-met}
 use Rattle.codes.specs.Bic.{isBic}
 use Rattle.iban.specs.Iban.{isIban}
 use Rattle.codes.specs.Txid.{isTxid}
-use Rattle.iban.proofs.Cases
-use Rattle.codes.proofs.Cases
+use Rattle.iban.proofs.Cases as iban
+use Rattle.codes.proofs.Cases as codes
 use Rattle.ticket.specs.Reading.{reading}
 use Rattle.ticket.specs.Writing.{coverInTicket, orderTicket, yesTicket, inquiryTicket, cutTicket, confirmTicket}
 use Rattle.dayfile.specs.DayFile.{dayFile}
@@ -71,7 +71,7 @@ marked =
 
 -- the rows of `iban`, those of `codes` and these, under one statement
 abbrev pub cases : List Row
-cases = Rattle.iban.proofs.Cases.cases ++ Rattle.codes.proofs.Cases.cases ++ marked ++ edges ++ limits
+cases = iban.cases ++ codes.cases ++ marked ++ edges ++ limits
 
 pub cases-met : AllMet cases
 unfolding isBic isIban isTxid reading dayFile followed senderIn orderIn routeIn wayIn anyOpen total tick stepOf handed output

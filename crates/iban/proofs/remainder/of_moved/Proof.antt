@@ -15,17 +15,34 @@ of-moved-spec =
     (λ c κs. search needs)
     (λ c κs. search needs)
     (λ c κs. search needs)
+    (λ c κs. search needs)
+    (λ c κs. search needs)
+    (λ c κs. search needs)
+    (λ c κs. search needs)
+    (λ c κs. search needs)
+    (λ c κs. search needs)
+    (λ c κs. search needs)
+    (λ c κs. search needs)
     (λ c.
-    let o = c .before in
-    let d = o .before in
-    let third = d .before in
-    let second = third .before in
-    let first = second .before in
-    let a = first .before .args in
+    let scale = c .before .before in
+    let by = scale .before .before in
+    let d = by .before .before in
+    let e = d .before .before in
+    let x = e .before .before in
+    let f = x .before .before in
+    let a = f .before .before .args in
     moved-carried (now (a .numbers)) (now (a .scales))
-    (first .four .ensures)
-    (second .four2 .ensures)
-    (third .four3 .ensures)
-    (d .two .ensures .0)
-    (o .one .ensures .0)
-    (c .two2 .ensures .0)))
+    (f .before .four .ensures .0)
+    (f .four-scale .ensures .0)
+    (x .before .four2 .ensures .0)
+    (x .behind .ensures)
+    (e .before .four3 .ensures .0)
+    (e .three-scale .ensures .0)
+    (d .before .three .ensures .0)
+    (d .behind2 .ensures)
+    (by .before .four-scale2 .ensures .0)
+    (by .behind3 .ensures)
+    (scale .before .small .ensures .0)
+    (scale .two-scale .ensures .0)
+    (c .before .two .ensures .0)
+    (c .last .ensures)))
