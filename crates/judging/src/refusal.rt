@@ -1,8 +1,8 @@
 // Refusals 6 and 11 to 22, each by an enum, and the first of 12 to 22 that applies.
 use super::terms;
 use rules::Cover;
+use rules::constants;
 use rules::finding::Finding;
-use rules::limits;
 use rules::refusal::Backing;
 use rules::refusal::Buffer;
 use rules::refusal::Naming;
@@ -26,7 +26,7 @@ const MOST_TOTAL: u64 = 1000000000000000000;
 pub fn buffer_of(length: usize) -> Buffer
     ensures { λ r. ⌜ r ≡ cond (ltb length leastBuffer) Buffer.Short Buffer.Enough ⌝ }
 {
-    if length < limits::LEAST_BUFFER {
+    if length < constants::LEAST_BUFFER {
         Buffer::Short
     } else {
         Buffer::Enough

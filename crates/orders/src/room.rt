@@ -1,6 +1,6 @@
 // How far the core goes: over tickets, and over orders.
 use report::answer;
-use rules::limits;
+use rules::constants;
 use ticket::layout;
 ghost use mathlib.Core.Path.{_≡_};
 ghost use mathlib.Core.Bool.{cond};
@@ -11,7 +11,7 @@ ghost use Rattle.intake.specs.Running.{roomLeft};
 pub fn room_left(tickets: usize, answers: usize, reports: usize) -> bool
     ensures { λ r. ⌜ r ≡ roomLeft tickets answers reports ⌝ }
 {
-    (layout::LENGTH <= tickets) & (answer::LENGTH <= answers) & (limits::LEAST_BUFFER <= reports)
+    (layout::LENGTH <= tickets) & (answer::LENGTH <= answers) & (constants::LEAST_BUFFER <= reports)
 }
 
 // Up to which order expiries are looked for: at a ticket that was refused, none.

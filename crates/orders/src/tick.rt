@@ -5,8 +5,8 @@ use super::transfer;
 use intake::Expiry;
 use rules::Order;
 use rules::Status;
+use rules::constants;
 use rules::decision::Told;
-use rules::limits;
 ghost use mathlib.Core.Path.{_≡_};
 ghost use Prim.Native.Nat.{_-_, _≤_, _<_};
 ghost use lib.Dec.{ltb};
@@ -18,7 +18,7 @@ pub fn is_young(clock: u32, time: u32) -> bool
     requires { ⌜ time ≤ clock ⌝ }
     ensures { λ r. ⌜ r ≡ ltb (clock - time) timeLimit ⌝ }
 {
-    clock - time < limits::TIME_LIMIT
+    clock - time < constants::TIME_LIMIT
 }
 
 // Waiting, the payee a bank, clock minus time at least 20.
@@ -27,7 +27,7 @@ pub fn due(clock: u32, o: Order, bank: bool) -> bool
     ensures { λ r. ⌜ r ≡ due clock o bank ⌝ }
 {
     let s = o.status;
-    status::is_waiting(s) & bank & (limits::TIME_LIMIT <= clock - o.time)
+    status::is_waiting(s) & bank & (constants::TIME_LIMIT <= clock - o.time)
 }
 
 pub fn expire(clock: u32, i: usize, o: Order, bank: bool) -> Expiry
