@@ -1,19 +1,19 @@
 -- Where the value of a padded field has the shape of an IBAN, the field spells its number. Assumes nothing.
-use mathlib.Core.Path.{_≡_, sym, _∙_, ap}
-use mathlib.Core.Bool.{Bool, true, _&&_}
+use mathlib.Core.Path.{_≡_, refl, sym, _∙_, ap}
+use mathlib.Core.Bool.{Bool, true, false, _&&_, and-true, and-false}
 use mathlib.Core.List.{List, [], _∷_}
 use Prim.Native.Nat.{ℕ, _%_}
 use native.Mathlib.Omega.{arith}
-use lib.Dec.{leb}
+use lib.Dec.{leb, eqb}
 use lib.ListN.{length}
 use Rattle.fields.specs.Text.{unpadded}
 use Rattle.fields.proofs.Tests.{and-left, and-right}
 use Rattle.classes.specs.Class.{isIn, allIn}
 use Rattle.classes.specs.declared.Class.the-variants.{Capital, Digit, LetterOrDigit}
-use Rattle.iban.specs.Iban.{moved, remainder, ibanShape}
-use Rattle.iban.specs.Spelling.{spelt, speltMoved}
+use Rattle.iban.specs.Iban.{moved, remainder, ibanShape, isIban}
+use Rattle.iban.specs.Spelling.{spelt, speltMoved, ibanFront}
 use Rattle.iban.proofs.Number.{behind, four-behind}
-use Rattle.iban.proofs.Shape.{four-before, capital-spelt, digit-spelt, shape-not-blank}
+use Rattle.iban.proofs.Shape.{four-before, capital-spelt, digit-spelt, shape-not-blank, shape-padded}
 use Rattle.iban.proofs.Spelt.{spelt-behind, spelt-unpadded}
 
 four : {a b c d : Bool} → a ≡ true → b ≡ true → c ≡ true → d ≡ true → (a && (b && (c && (d && true)))) ≡ true
@@ -62,3 +62,26 @@ iban-number (a ∷ []) h e = absurd (omega arith)
 iban-number (a ∷ b ∷ []) h e = absurd (omega arith)
 iban-number (a ∷ b ∷ c ∷ []) h e = absurd (omega arith)
 iban-number (a ∷ b ∷ c ∷ d ∷ t) h e = number-of a b c d t (omega arith) e
+
+-- so front, number and letters or digits make an IBAN
+pub iban-tested : (s : List ℕ) → length s ≡ 34
+    → (ibanFront s && eqb (speltMoved s) 1 && allIn LetterOrDigit (unpadded s)) ≡ isIban (unpadded s)
+unfolding isIban
+iban-tested s h = go (ibanShape (unpadded s)) refl
+  where
+    both : (f a e : Bool) → (f && a) ≡ false → (f && e && a) ≡ false
+    both true a e z = rw z (and-false e)
+    both false a e z = refl
+
+    passed : (f a e : Bool) → (f && a) ≡ true → (f && e && a) ≡ e
+    passed f a e z = rw (and-left f a z, and-right f a z) (and-true e)
+
+    go : (b : Bool) → ibanShape (unpadded s) ≡ b
+        → (ibanFront s && eqb (speltMoved s) 1 && allIn LetterOrDigit (unpadded s)) ≡ (ibanShape (unpadded s) && eqb (remainder (moved (unpadded s))) 1)
+    go true e =
+        passed (ibanFront s) (allIn LetterOrDigit (unpadded s)) (eqb (speltMoved s) 1) (shape-padded s h ∙ e)
+        ∙ ap (λ (n : ℕ). eqb n 1) (iban-number s h e)
+        ∙ sym (ap (λ (b : Bool). b && eqb (remainder (moved (unpadded s))) 1) e)
+    go false e =
+        both (ibanFront s) (allIn LetterOrDigit (unpadded s)) (eqb (speltMoved s) 1) (shape-padded s h ∙ e)
+        ∙ sym (ap (λ (b : Bool). b && eqb (remainder (moved (unpadded s))) 1) e)

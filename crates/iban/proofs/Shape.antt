@@ -9,6 +9,7 @@ use lib.Dec.{leb, eqb}
 use lib.ListN.{length, getD}
 use Rattle.fields.specs.Text.{blank, unpadded}
 use Rattle.iban.specs.Iban.{ibanShape}
+use Rattle.iban.specs.Spelling.{ibanFront}
 use Rattle.classes.specs.Class.{isIn, allIn}
 use Rattle.classes.specs.declared.Class.the-variants.{Capital, Digit, LetterOrDigit}
 use Rattle.classes.proofs.Unpadding.{value-within, value-short, blank-first, zero-inside, used-first}
@@ -33,11 +34,7 @@ pub digit-spelt : (c : ℕ) → isIn Digit c ≡ true → isIn LetterOrDigit c �
 digit-spelt c h = simp (h, or-true)
 
 abbrev pub shapeTests : List ℕ → Bool
-shapeTests s =
-    isIn Capital (getD s 0 0) && isIn Capital (getD s 1 0)
-    && (isIn Digit (getD s 2 0) && isIn Digit (getD s 3 0))
-    && not (eqb (getD s 4 0) 0)
-    && allIn LetterOrDigit (unpadded s)
+shapeTests s = ibanFront s && allIn LetterOrDigit (unpadded s)
 
 module _ (a b c d : ℕ) (t : List ℕ) (h : length t ≡ 30) where
   shape-long : blank t ≡ true → ibanShape (unpadded (a ∷ b ∷ c ∷ d ∷ t)) ≡ false

@@ -7,13 +7,16 @@
 --     pairScale
 --     spelt        the number n with the bytes of s behind it
 --     speltMoved   what the number leaves by 97, the first four bytes moved to the end
+--     ibanFront    what the first bytes tell: two capitals, two digits, a byte more
 -- Assumes nothing.
 use Prim.Native.Nat.{ℕ, _+_, _*_, _/_, _%_}
 use Prim.Native.Char.{code}
-use mathlib.Core.Bool.{not}
+use mathlib.Core.Bool.{Bool, not, _&&_}
 use mathlib.Core.List.{List, [], _∷_}
 use lib.Dec.{ltb, eqb}
-use lib.ListN.{take, drop}
+use lib.ListN.{getD, take, drop}
+use Rattle.classes.specs.Class.{isIn}
+use Rattle.classes.specs.declared.Class.the-variants.{Capital, Digit}
 use Rattle.classes.specs.Answer.{answer}
 
 abbrev pub letter : ℕ → ℕ
@@ -40,3 +43,9 @@ spelt n (c ∷ s) = spelt (n * scale c + worth c) s
 
 abbrev pub speltMoved : List ℕ → ℕ
 speltMoved s = spelt (spelt 0 (drop 4 s)) (take 4 s) % 97
+
+abbrev pub ibanFront : List ℕ → Bool
+ibanFront s =
+    isIn Capital (getD s 0 0) && isIn Capital (getD s 1 0)
+    && (isIn Digit (getD s 2 0) && isIn Digit (getD s 3 0))
+    && not (eqb (getD s 4 0) 0)

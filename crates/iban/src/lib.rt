@@ -6,26 +6,32 @@ mod remainder;
 use classes::Class;
 ghost use mathlib.Core.Path.{_≡_};
 ghost use lib.ListN.{length};
-ghost use Rattle.iban.specs.Iban.{ibanShape, isIban};
+ghost use Rattle.iban.specs.Iban.{isIban};
+ghost use Rattle.iban.specs.Spelling.{ibanFront};
 ghost use Rattle.fields.specs.Text.{unpadded};
 
-// All that is asked of an IBAN but its number: two letters, two digits, and a character more.
-fn iban_shape(s: &[u8]) -> bool
+// Two letters, two digits, and a character more.
+fn iban_front(s: &[u8]) -> bool
     requires { ⌜ length (now s) ≡ 34 ⌝ }
-    ensures { λ r. ⌜ r ≡ ibanShape (unpadded (now (s .entry))) ⌝ }
+    ensures { λ r. ⌜ r ≡ ibanFront (now (s .entry)) ⌝ }
 {
     let country = classes::is_in(Class::Capital, s[0]) & classes::is_in(Class::Capital, s[1]);
     let check = classes::is_in(Class::Digit, s[2]) & classes::is_in(Class::Digit, s[3]);
     let more = s[4] != 0;
-    country & check & more & classes::all_padded(Class::LetterOrDigit, s)
+    country & check & more
 }
 
+// First what its first bytes tell, two letters, two digits and a character more; then its number; and at last, when the bytes of a
+// field that was just written can be read many at once, that all are letters and digits.
 pub fn iban_ok(s: &[u8]) -> bool
     requires { ⌜ length (now s) ≡ 34 ⌝ }
     ensures { λ r. ⌜ r ≡ isIban (unpadded (now (s .entry))) ⌝ }
 {
-    if !iban_shape(s) {
+    if !iban_front(s) {
         return false;
     }
-    pairs::of_moved(s) == 1
+    if pairs::of_moved(s) != 1 {
+        return false;
+    }
+    classes::all_padded(Class::LetterOrDigit, s)
 }

@@ -1,33 +1,50 @@
 -- `iban::iban_ok` meets its contract. Assumes nothing.
-use mathlib.Core.Path.{_≡_, sym, _∙_, ap}
-use mathlib.Core.Bool.{Bool, true, _&&_}
+use mathlib.Core.Path.{_≡_, sym, _∙_, ap, ap₂}
+use mathlib.Core.Bool.{Bool, true, false, _&&_}
+use mathlib.Core.List.{List}
 use Prim.Native.Nat.{ℕ}
 use denote.Ref.{now}
 use borrow.Author.Needs.{needs}
-use borrow.Author.Tests.{not-true, not-false}
+use borrow.Author.Tests.{not-true, not-false, eq-eqb, ne-eqb}
 use lib.Dec.{eqb}
 use Rattle.fields.specs.Text.{unpadded}
-use Rattle.iban.specs.Iban.{ibanShape, isIban, moved, remainder}
-use Rattle.iban.proofs.Moved.{iban-number}
+use Rattle.classes.specs.Class.{allIn}
+use Rattle.classes.specs.declared.Class.the-variants.{LetterOrDigit}
+use Rattle.iban.specs.Spelling.{speltMoved, ibanFront}
+use Rattle.iban.proofs.Moved.{iban-tested}
 use Rattle.iban.proofs.iban_ok.Statement.{statement}
 use Rattle.iban.proofs.iban_ok.Tie as tie
 
+-- the three tests
+abbrev tests : List ℕ → Bool → Bool → Bool
+tests s front number = front && number && allIn LetterOrDigit (unpadded s)
+
+fronted : (c : tie.Else1) → ibanFront (now (c .before .before .before .args .s)) ≡ true
+fronted c = sym (c .before .iban-front .ensures) ∙ not-false _ (c .if1 .left)
+
 pub iban-ok-spec : {M : Type 1} → statement M
-unfolding isIban
 iban-ok-spec =
     tie.close
     (tie.spec
     (λ c κs. search needs)
-    -- another shape
+    -- another front
     (λ c.
-    let shape = c .before in
-    let u = unpadded (now (shape .before .before .args .s)) in
-    sym (ap (λ (b : Bool). b && eqb (remainder (moved u)) 1) (sym (shape .iban-shape .ensures) ∙ not-true _ (c .if1 .taken))))
+    let start = c .before .before .before in
+    let s = now (start .args .s) in
+    let front : ibanFront s ≡ false = sym (c .before .iban-front .ensures) ∙ not-true _ (c .if1 .taken) in
+    sym (ap (λ (b : Bool). tests s b (eqb (speltMoved s) 1)) front) ∙ iban-tested s (start .pre))
+    (λ c κs. search needs)
+    -- another remainder
+    (λ c.
+    let p = c .before in
+    let start = p .before .before .before .before in
+    let s = now (start .args .s) in
+    let number : eqb (speltMoved s) 1 ≡ false = ap (λ (n : ℕ). eqb n 1) (sym (p .of-moved .ensures)) ∙ ne-eqb _ _ (c .if2 .taken) in
+    sym (ap₂ (tests s) (fronted (p .before)) number) ∙ iban-tested s (start .pre))
     (λ c κs. search needs)
     (λ c.
-    let shape = c .before .before in
-    let start = shape .before .before in
+    let p = c .before .before in
+    let start = p .before .before .before .before in
     let s = now (start .args .s) in
-    let shaped : ibanShape (unpadded s) ≡ true = sym (shape .iban-shape .ensures) ∙ not-false _ (c .before .if1 .left) in
-    ap (λ (n : ℕ). eqb n 1) (c .of-moved .ensures ∙ iban-number s (start .pre) shaped)
-    ∙ sym (ap (λ (b : Bool). b && eqb (remainder (moved (unpadded s))) 1) shaped)))
+    let number : eqb (speltMoved s) 1 ≡ true = ap (λ (n : ℕ). eqb n 1) (sym (p .of-moved .ensures)) ∙ eq-eqb _ _ (c .before .if2 .left) in
+    c .all-padded .ensures ∙ sym (ap₂ (tests s) (fronted (p .before)) number) ∙ iban-tested s (start .pre)))
