@@ -1,6 +1,6 @@
 -- An accepted file has what `GuaranteedFile` says; the roster of a refused one has what `Guaranteed` says too.
 -- Assumes nothing.
-use mathlib.Core.Path.{_≡_, ap}
+use mathlib.Core.Path.{_≡_, ap, subst}
 use mathlib.Core.Bool.{Bool, true, false, _&&_, not}
 use mathlib.Core.List.{List}
 use mathlib.Core.Logic.{⊎-elim}
@@ -17,8 +17,8 @@ use Rattle.dayfile.specs.Rows.{participantOk, routeOk, bicAmong}
 use Rattle.dayfile.specs.Check.{participantRight, routeRight, participantsOk, routesOk}
 use Rattle.dayfile.specs.Roster.{participantAt, routeAt, rosterOf, emptyRoster, noParticipant, noRoute, participantOf, routeOf}
 use Rattle.dayfile.specs.DayFile.{dayFile}
-use Rattle.dayfile.specs.Guarantee.{Guaranteed, GuaranteedFile}
-use Rattle.dayfile.proofs.RowTelling.{participant-bic, participant-opening, route-bic, route-leads}
+use Rattle.dayfile.specs.Guarantee.{ParticipantNumbers, RouteNumbers, RosterNumbers, Guaranteed, GuaranteedFile}
+use Rattle.dayfile.proofs.RowTelling.{participant-bic, participant-opening, participant-numbers, route-bic, route-leads, route-numbers}
 use Rattle.dayfile.proofs.Passing.{Accepted, Refused, outcome, accepted}
 use Rattle.dayfile.specs.declared.DayFile.{DayFile}
 use Rattle.dayfile.specs.declared.header.Header.{Header}
@@ -101,6 +101,19 @@ module _ (h : Header) (f : List ℕ) (few : h .counts .participants ≤ 32) (sho
         routeUnused = λ i b l. row-past 64 noRoute (λ j. routeAt (route-place j) f) (h .counts .routes) i _ b l;
       }
 
+  pub roster-numbers : h .offsets .participants ≡ 12 → h .offsets .routes ≡ 12 + 24 * h .counts .participants → RosterNumbers f (rosterOf h f)
+  roster-numbers first behind =
+      record {
+        participant =
+            λ p l.
+            rw (participant-is p l)
+            (subst (λ (at : ℕ). ParticipantNumbers (at + 24 * p) f (participantAt (participant-place p) f)) first (participant-numbers (participant-place p) f (participant-ok p l)));
+        route =
+            λ i l.
+            rw (route-is i l)
+            (subst (λ (at : ℕ). RouteNumbers (at + 16 * i) f (routeAt (route-place i) f)) behind (route-numbers (h .counts .participants) i (route-place i) f (route-ok i l)));
+      }
+
 -- what the roster of any file guarantees, refused ones included
 pub guaranteed : (f : List ℕ) → Guaranteed (dayFile f .roster)
 guaranteed f =
@@ -109,6 +122,16 @@ guaranteed f =
     let h = a .header in
     rw (a .file) (roster-guaranteed h f (a .range .participants) (a .range .routes) (a .participants) (a .routes)))
     (λ (r : Refused f). rw (r .file) empty-guaranteed)
+    (outcome f)
+
+-- its enums have the numbers that stand in the file
+pub numbers : (f : List ℕ) → RosterNumbers f (dayFile f .roster)
+numbers f =
+    ⊎-elim
+    (λ (a : Accepted f).
+    let h = a .header in
+    rw (a .file) (roster-numbers h f (a .range .participants) (a .range .routes) (a .participants) (a .routes) (a .place .participants) (a .place .routes)))
+    (λ (r : Refused f). rw (r .file) (record { participant = λ p l. absurd (not-suc-le-zero l); route = λ i l. absurd (not-suc-le-zero l) }))
     (outcome f)
 
 -- what an accepted file guarantees

@@ -15,10 +15,10 @@ use Rattle.fields.proofs.Holding.{Holds, held-first, held-whole, held-behind, h
 use Rattle.dayfile.specs.Header.{sectionsAt, headed}
 use Rattle.dayfile.specs.Check.{routesPlace, ticketsPlace, ranged, placed, participantRight, routeRight, participantsOk, routesOk}
 use Rattle.dayfile.specs.Rows.{bicAmong}
-use Rattle.dayfile.specs.Roster.{noParticipant, noRoute, participantAt, routeAt, participantIn, rowOf, participantOf, routeOf}
+use Rattle.dayfile.specs.Roster.{targetNumber, noParticipant, noRoute, participantAt, routeAt, participantIn, rowOf, participantOf, routeOf}
 use Rattle.dayfile.specs.DayFile.{dayFile, acceptedFile, ticketAt}
 use Rattle.dayfile.specs.Guarantee.{LeadsWithin}
-use Rattle.dayfile.specs.Writing.{targetNumber, headerFor, sectionsBytes, headerBytes, countsOf, fileBytes, WellFormedDay, bank, direct}
+use Rattle.dayfile.specs.Writing.{headerFor, sectionsBytes, headerBytes, countsOf, fileBytes, WellFormedDay, bank, direct}
 use Rattle.dayfile.proofs.Passing.{file-accepted}
 use Rattle.dayfile.proofs.Laid.{file-length, participant-held, route-held, ticket-held}
 use Rattle.dayfile.proofs.Written.{participant-back, participant-written, route-back, route-written}

@@ -1,9 +1,10 @@
 -- What a participant row and a route row that are right by themselves tell. Assumes nothing.
-use mathlib.Core.Path.{_≡_}
+use mathlib.Core.Path.{_≡_, refl, sym}
 use mathlib.Core.Bool.{Bool, true, false, _&&_, _||_, cond}
 use mathlib.Core.List.{List}
-use Prim.Native.Nat.{ℕ, _+_, _<_}
-use borrow.Author.Tests.{leb-true, ltb-true}
+use Prim.Native.Nat.{ℕ, zero, suc, _+_, _≤_, _<_}
+use native.Mathlib.Omega.{arith}
+use borrow.Author.Tests.{leb-true, ltb-true, eqb-true}
 use lib.Dec.{leb, ltb, eqb}
 use lib.ListN.{getD}
 use Rattle.codes.specs.Bic.{isBic}
@@ -12,10 +13,39 @@ use Rattle.fields.specs.Text.{blank}
 use Rattle.fields.proofs.Tests.{and-left, and-right}
 use Rattle.dayfile.specs.Limits.{mostOpening}
 use Rattle.dayfile.specs.Rows.{participantOk, boundOf, routeOk}
-use Rattle.dayfile.specs.Roster.{participantAt, routeAt}
-use Rattle.dayfile.specs.Guarantee.{OpeningWithin, LeadsWithin}
+use Rattle.dayfile.specs.Roster.{partyNumber, wishNumber, openingNumber, targetKind, targetNumber, kindOf, openingOf, targetOf, participantAt, routeAt}
+use Rattle.dayfile.specs.Guarantee.{OpeningWithin, LeadsWithin, ParticipantNumbers, RouteNumbers}
 use Rattle.dayfile.specs.declared.roster.Opening.the-variants.{None, Cover}
 use Rattle.dayfile.specs.declared.roster.Target.the-variants.{To, Row}
+
+-- the number of a case is the number that it was read from
+zero-or-one : {A : Type 0} (b : ℕ) → b ≤ 1 → (b ≡ 0 → A) → (b ≡ 1 → A) → A
+zero-or-one zero h none one = none refl
+zero-or-one (suc zero) h none one = one refl
+zero-or-one (suc (suc b)) h none one = absurd (omega arith)
+
+party-number : (b : ℕ) → b ≤ 1 → partyNumber (kindOf b) ≡ b
+party-number b h = zero-or-one b h (λ e. rw e) (λ e. rw e)
+
+wish-number : (b n : ℕ) → b ≤ 1 → wishNumber (openingOf b n) ≡ b
+wish-number b n h = zero-or-one b h (λ e. rw e) (λ e. rw e)
+
+opening-number : (b n : ℕ) → (eqb b 1 || eqb n 0) ≡ true → openingNumber (openingOf b n) ≡ n
+opening-number b n = go (eqb b 1)
+  where
+    go : (w : Bool) → (w || eqb n 0) ≡ true → openingNumber (cond w (Cover n) None) ≡ n
+    go true h = refl
+    go false h = sym (eqb-true n 0 h)
+
+target-kind : (b k : ℕ) → b ≤ 1 → targetKind (targetOf b k) ≡ b
+target-kind b k h = zero-or-one b h (λ e. rw e) (λ e. rw e)
+
+target-number : (b k : ℕ) → targetNumber (targetOf b k) ≡ k
+target-number b k = go (eqb b 1)
+  where
+    go : (w : Bool) → targetNumber (cond w (Row k) (To k)) ≡ k
+    go true = refl
+    go false = refl
 
 -- what a participant row that is right by itself tells
 module _ (at : ℕ) (f : List ℕ) (ok : participantOk at f ≡ true) where
@@ -50,6 +80,15 @@ module _ (at : ℕ) (f : List ℕ) (ok : participantOk at f ≡ true) where
       go true = leb-true (numberAt 8 (at + 12) f) mostOpening (and-right (bic && kind && wish) most to-most)
       go false = tt
 
+  pub participant-numbers : ParticipantNumbers at f (participantAt at f)
+  unfolding bic kind wish most wished
+  participant-numbers =
+      record {
+        kind = party-number (getD f (at + 11) 0) (leb-true (getD f (at + 11) 0) 1 (and-right bic kind (and-left (bic && kind) wish (and-left (bic && kind && wish) most to-most))));
+        wish = wish-number (getD f (at + 20) 0) _ (leb-true (getD f (at + 20) 0) 1 (and-right (bic && kind) wish (and-left (bic && kind && wish) most to-most)));
+        opening = opening-number (getD f (at + 20) 0) (numberAt 8 (at + 12) f) (and-right (bic && kind && wish && most) wished (and-left (bic && kind && wish && most && wished) (blank (part 3 (at + 21) f)) ok));
+      }
+
 -- what a route row that is right by itself tells
 module _ (size own at : ℕ) (f : List ℕ) (ok : routeOk size own at f ≡ true) where
   k : ℕ
@@ -77,3 +116,14 @@ module _ (size own at : ℕ) (f : List ℕ) (ok : routeOk size own at f ≡ true
       go : (b : Bool) → k < cond b own size → LeadsWithin size own (cond b (Row k) (To k))
       go true h = h
       go false h = h
+
+  pub route-numbers : RouteNumbers at f (routeAt at f)
+  route-numbers =
+      record {
+        kind =
+            target-kind (getD f (at + 11) 0) _
+            (leb-true (getD f (at + 11) 0) 1
+            (and-right (isBic (part 11 at f)) (leb (getD f (at + 11) 0) 1)
+            (and-left (isBic (part 11 at f) && leb (getD f (at + 11) 0) 1) (ltb k (boundOf (getD f (at + 11) 0) size own)) bounded)));
+        number = target-number (getD f (at + 11) 0) (numberAt 2 (at + 12) f);
+      }

@@ -13,9 +13,9 @@ use Rattle.fields.specs.Number.{part, numberAt, bytesOf}
 use Rattle.fields.proofs.Holding.{Holds, held-first, held-behind, held-in, held-at, held-part, held-byte, held-number}
 use Rattle.dayfile.specs.Limits.{mostOpening}
 use Rattle.dayfile.specs.Rows.{participantOk, boundOf, routeOk}
-use Rattle.dayfile.specs.Roster.{kindOf, openingOf, targetOf, participantAt, routeAt}
+use Rattle.dayfile.specs.Roster.{partyNumber, wishNumber, openingNumber, targetKind, targetNumber, kindOf, openingOf, targetOf, participantAt, routeAt}
 use Rattle.dayfile.specs.Guarantee.{OpeningWithin, LeadsWithin}
-use Rattle.dayfile.specs.Writing.{partyNumber, wishNumber, openingNumber, targetKind, targetNumber, participantBytes, routeBytes}
+use Rattle.dayfile.specs.Writing.{participantBytes, routeBytes}
 use Rattle.dayfile.specs.declared.roster.PartyKind.{PartyKind}
 use Rattle.dayfile.specs.declared.roster.PartyKind.the-variants.{Bank, Linked}
 use Rattle.dayfile.specs.declared.roster.Opening.{Opening}

@@ -1,4 +1,8 @@
 -- The roster that a file's rows give. Rows that are not in use are the zero of their type.
+--     partyNumber                   a kind's byte
+--     wishNumber, openingNumber     whether an opening is wished, and its cents
+--     targetKind, targetNumber      the kind of a route row, and its k
+--     kindOf, openingOf, targetOf   the case with these numbers
 --     participantAt, routeAt        the row at a place
 --     participantsTo, routesTo      the first n rows of a section that starts at a place
 --     bankKind                      whether a kind is that of a bank
@@ -28,20 +32,41 @@ use Rattle.dayfile.specs.declared.roster.Route.{Route}
 use Rattle.dayfile.specs.declared.roster.Roster.{Roster}
 
 -- 01: a kind (0 bank, 1 linked system such as RT1)
+abbrev pub partyNumber : PartyKind → ℕ
+partyNumber Bank = 0
+partyNumber Linked = 1
+
+-- 01: if it wishes, an opening cover (0 included); wish 0 or 1
+abbrev pub wishNumber : Opening → ℕ
+wishNumber None = 0
+wishNumber (Cover n) = 1
+
+abbrev pub openingNumber : Opening → ℕ
+openingNumber None = 0
+openingNumber (Cover n) = n
+
+-- 01: kind (0 participant, 1 row), k
+abbrev pub targetKind : Target → ℕ
+targetKind (To p) = 0
+targetKind (Row k) = 1
+
+abbrev pub targetNumber : Target → ℕ
+targetNumber (To p) = p
+targetNumber (Row k) = k
+
 abbrev pub kindOf : ℕ → PartyKind
-kindOf b = cond (eqb b 1) Linked Bank
+kindOf b = cond (eqb b (partyNumber Linked)) Linked Bank
 
 abbrev pub bankKind : PartyKind → Bool
 bankKind Bank = true
 bankKind Linked = false
 
--- 01: if it wishes, an opening cover (0 included)
 abbrev pub openingOf : ℕ → ℕ → Opening
-openingOf wish n = cond (eqb wish 1) (Cover n) None
+openingOf wish n = cond (eqb wish (wishNumber (Cover n))) (Cover n) None
 
 -- 01: leads either to participant k, or goes on from row k
 abbrev pub targetOf : ℕ → ℕ → Target
-targetOf kind k = cond (eqb kind 1) (Row k) (To k)
+targetOf kind k = cond (eqb kind (targetKind (Row k))) (Row k) (To k)
 
 abbrev pub participantAt : ℕ → List ℕ → Participant
 participantAt at f =

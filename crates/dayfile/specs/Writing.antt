@@ -1,7 +1,4 @@
 -- A day file's bytes from its fields, and what a file has to have for its bytes to be accepted: 01 'Day file and program'.
---     partyNumber                   a kind's byte
---     wishNumber, openingNumber     whether an opening is wished, and its cents
---     targetKind, targetNumber      the kind of a route row, and its k
 --     participantBytes, routeBytes  a row of 24 bytes and one of 16
 --     headerFor                     the counts, and the offsets that the layout gives
 --     headerBytes                   a header's 12 bytes
@@ -21,41 +18,15 @@ use Rattle.fields.specs.Text.{same, joined}
 use Rattle.ticket.specs.Layout.{ticketLength}
 use Rattle.dayfile.specs.Limits.{mostParticipants, mostRoutes, mostTickets, headerLength}
 use Rattle.dayfile.specs.Check.{routesPlace, ticketsPlace}
-use Rattle.dayfile.specs.Roster.{participantIn, rowOf}
+use Rattle.dayfile.specs.Roster.{partyNumber, wishNumber, openingNumber, targetKind, targetNumber, participantIn, rowOf}
 use Rattle.dayfile.specs.Guarantee.{OpeningWithin, LeadsWithin}
 use Rattle.dayfile.specs.declared.header.Sections.{Sections}
 use Rattle.dayfile.specs.declared.header.Header.{Header}
-use Rattle.dayfile.specs.declared.roster.PartyKind.{PartyKind}
 use Rattle.dayfile.specs.declared.roster.PartyKind.the-variants.{Bank, Linked}
-use Rattle.dayfile.specs.declared.roster.Opening.{Opening}
 use Rattle.dayfile.specs.declared.roster.Opening.the-variants.{None, Cover}
-use Rattle.dayfile.specs.declared.roster.Target.{Target}
 use Rattle.dayfile.specs.declared.roster.Target.the-variants.{To, Row}
 use Rattle.dayfile.specs.declared.roster.Participant.{Participant}
 use Rattle.dayfile.specs.declared.roster.Route.{Route}
-
--- 01: a kind (0 bank, 1 linked system such as RT1)
-abbrev pub partyNumber : PartyKind → ℕ
-partyNumber Bank = 0
-partyNumber Linked = 1
-
--- 01: if it wishes, an opening cover (0 included); wish 0 or 1
-abbrev pub wishNumber : Opening → ℕ
-wishNumber None = 0
-wishNumber (Cover n) = 1
-
-abbrev pub openingNumber : Opening → ℕ
-openingNumber None = 0
-openingNumber (Cover n) = n
-
--- 01: kind (0 participant, 1 row), k
-abbrev pub targetKind : Target → ℕ
-targetKind (To p) = 0
-targetKind (Row k) = 1
-
-abbrev pub targetNumber : Target → ℕ
-targetNumber (To p) = p
-targetNumber (Row k) = k
 
 -- 01: BIC, kind, opening (8), wish 0 or 1, three zero
 abbrev pub participantBytes : Participant → List ℕ

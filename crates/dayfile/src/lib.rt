@@ -1,4 +1,4 @@
-// Reading a day file: refusals 1 to 5 in the paper's order, or the roster and where the tickets lie; and following a payee BIC.
+// Reading a day file: refusals 1 to 5 in the paper's order, or the roster and where the tickets lie; and the row of a payee BIC.
 // Any bytes of any length may be handed in.
 mod check;
 mod header;
@@ -18,6 +18,7 @@ use ticket::layout;
 ghost use mathlib.Core.Path.{_≡_};
 ghost use Prim.Native.Nat.{_<_};
 ghost use Rattle.dayfile.specs.DayFile.{dayFile, refusedFile, ticketAt};
+ghost use Rattle.dayfile.specs.Guarantee.{RosterNumbers};
 
 // What a day file gives: the refusal, 0 if none; the roster, empty if refused; how many tickets there are and where the first lies.
 pub struct DayFile {
@@ -39,7 +40,7 @@ fn refused(refusal: u8) -> DayFile
 }
 
 pub fn read_day_file(f: &[u8]) -> DayFile
-    ensures { λ r. ⌜ r ≡ dayFile (now (f .entry)) ⌝ }
+    ensures { λ r. ⌜ (r ≡ dayFile (now (f .entry))) × RosterNumbers (now (f .entry)) (r .roster) ⌝ }
 {
     let Headed::As(h) = header::read_header(f) else {
         return refused(1);

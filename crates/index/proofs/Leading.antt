@@ -8,9 +8,8 @@ use lib.ListN.{getD}
 use Rattle.fields.specs.declared.search.Found.{Found}
 use Rattle.fields.specs.declared.search.Found.the-variants as found
 use Rattle.fields.proofs.UpTo.{row-at}
-use Rattle.dayfile.specs.Roster.{targetOf}
+use Rattle.dayfile.specs.Roster.{targetKind, targetNumber, targetOf}
 use Rattle.dayfile.specs.Route.{targetIn, followed, followedFrom}
-use Rattle.dayfile.specs.Writing.{targetKind, targetNumber}
 use Rattle.dayfile.specs.declared.roster.Target.the-variants.{To, Row}
 use Rattle.dayfile.specs.declared.roster.Route.{Route}
 use Rattle.dayfile.specs.declared.roster.Roster.{Roster}

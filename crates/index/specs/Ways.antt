@@ -11,9 +11,8 @@ use Rattle.fields.specs.UpTo.{rowsTo}
 use Rattle.fields.specs.declared.search.Found.{Found}
 use Rattle.fields.specs.declared.search.Found.the-variants as found
 use Rattle.dayfile.specs.Limits.{mostRoutes}
-use Rattle.dayfile.specs.Roster.{targetOf}
+use Rattle.dayfile.specs.Roster.{targetKind, targetNumber, targetOf}
 use Rattle.dayfile.specs.Route.{targetIn, followed}
-use Rattle.dayfile.specs.Writing.{targetKind, targetNumber}
 use Rattle.dayfile.specs.declared.roster.Target.{Target}
 use Rattle.dayfile.specs.declared.roster.Route.{Route}
 use Rattle.dayfile.specs.declared.route.Followed.{Followed}

@@ -9,9 +9,8 @@ ghost use mathlib.Core.Path.{_≡_};
 ghost use Prim.Native.Nat.{ℕ, _≤_, _<_};
 ghost use lib.ListN.{length};
 ghost use Rattle.fields.specs.Rows.{Indexed};
-ghost use Rattle.dayfile.specs.Roster.{rowOf};
+ghost use Rattle.dayfile.specs.Roster.{targetKind, targetNumber, rowOf};
 ghost use Rattle.dayfile.specs.Route.{followed};
-ghost use Rattle.dayfile.specs.Writing.{targetKind, targetNumber};
 ghost use Rattle.index.specs.Ways.{kindsOf, numbersOf, targetBy, endAt};
 
 pub fn route_bics_of(routes: [Route; 64], rows: usize) -> [u8; 704]

@@ -18,9 +18,10 @@ abbrev pub kindedRefusal : Kinded → ℕ
 kindedRefusal (As kind) = 0
 kindedRefusal Unknown = 7
 
+-- an unknown kind or flag is one of the ways to be malformed, and the number of all of them
 abbrev pub shapeRefusal : Shape → ℕ
 shapeRefusal (Formed kind) = 0
-shapeRefusal Malformed = 7
+shapeRefusal Malformed = kindedRefusal Unknown
 
 abbrev pub accountRefusal : Account → ℕ
 accountRefusal Named = 0

@@ -1,6 +1,6 @@
 -- `dayfile::read_day_file` meets its contract: each check passed on the way, and the one that did not, is a step of `dayFile`.
 -- Assumes nothing.
-use mathlib.Core.Path.{_≡_, sym, _∙_, ap}
+use mathlib.Core.Path.{_≡_, sym, _∙_, ap, subst}
 use mathlib.Core.List.{List}
 use Prim.Native.Nat.{ℕ}
 use native.Mathlib.Omega.{arith}
@@ -9,11 +9,14 @@ use lib.ListN.{length}
 use Rattle.dayfile.specs.Header.{headed}
 use Rattle.dayfile.specs.Check.{InRange, ranged, placed, routed}
 use Rattle.dayfile.specs.DayFile.{dayFile, fileHeaded, fileRanged, filePlaced, fileEnrolled, fileRouted}
+use Rattle.dayfile.specs.Guarantee.{RosterNumbers}
+use Rattle.dayfile.specs.declared.DayFile.{DayFile}
 use Rattle.dayfile.specs.declared.header.Header.{Header}
 use Rattle.dayfile.specs.declared.header.Headed.the-variants.{As}
 use Rattle.dayfile.specs.declared.check.Ranged.the-variants.{Within}
 use Rattle.dayfile.specs.declared.check.Placed.the-variants.{Right}
 use Rattle.dayfile.proofs.Passing.{InPlace, in-range, in-place, file-headed, file-ranged, file-placed}
+use Rattle.dayfile.proofs.Accepted.{numbers}
 use borrow.Author.Needs.{needs}
 use Rattle.dayfile.proofs.read_day_file.Statement.{statement}
 use Rattle.dayfile.proofs.read_day_file.Tie as tie
@@ -24,6 +27,10 @@ given c = now (c .before .before .before .before .before .before .args .f)
 
 abbrev header : tie.After-check-counts → Header
 header c = c .before .before .h .given .0 .0
+
+-- the enums of what is read have the numbers that stand in the file
+both : (f : List ℕ) (d : DayFile) → d ≡ dayFile f → (d ≡ dayFile f) × RosterNumbers f (d .roster)
+both f d e = (e, subst (λ (x : DayFile). RosterNumbers f (x .roster)) (sym e) (numbers f))
 
 -- 1 passed
 head : (c : tie.After-check-counts) → headed (given c) ≡ As (header c)
@@ -74,15 +81,16 @@ read-day-file-spec =
     (λ c κs. search needs)
     (λ c.
     let r = c .before .before .before in
-    c .refused .ensures ∙ sym (ap (fileHeaded (now (r .before .before .args .f))) (sym (r .read-header .ensures) ∙ c .before .enum-told .given .1)))
+    both _ _ (c .refused .ensures ∙ sym (ap (fileHeaded (now (r .before .before .args .f))) (sym (r .read-header .ensures) ∙ c .before .enum-told .given .1))))
     (λ c κs. search needs)
     (λ c. search needs)
     (λ c. search needs)
     (λ c κs. search needs)
     (λ c.
     let k = c .before .before .before in
-    c .refused2 .ensures
-    ∙ sym (file-headed (given k) (header k) (head k) ∙ ap (fileRanged (header k) (given k)) (sym (k .check-counts .ensures) ∙ c .before .enum-told3 .given .1)))
+    both _ _
+    (c .refused2 .ensures
+    ∙ sym (file-headed (given k) (header k) (head k) ∙ ap (fileRanged (header k) (given k)) (sym (k .check-counts .ensures) ∙ c .before .enum-told3 .given .1))))
     (λ c κs. in-range (header (c .before .before)) (range c))
     (λ c. search needs)
     (λ c. search needs)
@@ -90,10 +98,11 @@ read-day-file-spec =
     (λ c.
     let p = c .before .before .before in
     let k = p .before .before .before in
-    c .refused3 .ensures
+    both _ _
+    (c .refused3 .ensures
     ∙ sym
     (file-ranged (given k) (header k) (head k) (range (p .before))
-    ∙ ap (filePlaced (header k) (given k)) (sym (p .check-places .ensures) ∙ c .before .enum-told5 .given .1)))
+    ∙ ap (filePlaced (header k) (given k)) (sym (p .check-places .ensures) ∙ c .before .enum-told5 .given .1))))
     (λ c κs. let p = placing (c .before .before) in omega arith)
     (λ c. search needs)
     (λ c. search needs)
@@ -101,7 +110,7 @@ read-day-file-spec =
     (λ c.
     let p = c .before .before .before in
     let k = p .before .before .before .before .before .before .before .before in
-    c .refused4 .ensures ∙ sym (from-participants p ∙ ap (fileEnrolled (header k) (given k)) (c .before .enum-told7 .given .1)))
+    both _ _ (c .refused4 .ensures ∙ sym (from-participants p ∙ ap (fileEnrolled (header k) (given k)) (c .before .enum-told7 .given .1))))
     (λ c κs. let p = placing (c .before .before .before .before .before) in omega arith)
     (λ c. search needs)
     (λ c. search needs)
@@ -109,7 +118,7 @@ read-day-file-spec =
     (λ c.
     let r = c .before .before .before in
     let k = r .before .before .before .before .before .before .before .before .before .before .before in
-    c .refused5 .ensures ∙ sym (from-routes r ∙ ap (fileRouted (header k) (given k)) (c .before .enum-told9 .given .1)))
+    both _ _ (c .refused5 .ensures ∙ sym (from-routes r ∙ ap (fileRouted (header k) (given k)) (c .before .enum-told9 .given .1))))
     (λ c κs.
     let e = c .before .before .before .before .before .before .before .before in
     let p = placing e in
@@ -118,4 +127,4 @@ read-day-file-spec =
     (λ c.
     let r = c .before .before .before in
     let k = r .before .before .before .before .before .before .before .before .before .before .before in
-    simp (c .read-roster .ensures) (sym (from-routes r ∙ ap (fileRouted (header k) (given k)) (c .before .enum-told8 .given .1)))))
+    both _ _ (simp (c .read-roster .ensures) (sym (from-routes r ∙ ap (fileRouted (header k) (given k)) (c .before .enum-told8 .given .1))))))

@@ -18,5 +18,5 @@ open-spec =
     (λ c.
     let read = c .before .before in
     let file = now (read .before .before .args .file) in
-    let is = c .fresh .ensures ∙ ap (λ (d : DayFile). freshBook (d .roster)) (read .read-day-file .ensures) in
-    record { opened = simp (is, read .read-day-file .ensures); sound = subst Sound (sym is) (file-sound file) }))
+    let is = c .fresh .ensures ∙ ap (λ (d : DayFile). freshBook (d .roster)) (read .read-day-file .ensures .0) in
+    record { opened = simp (is, read .read-day-file .ensures .0); sound = subst Sound (sym is) (file-sound file) }))

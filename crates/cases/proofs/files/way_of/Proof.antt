@@ -28,4 +28,4 @@ way-of-spec =
     ∙ ap₂ (λ (x y : List ℕ). endAt x y (row .result)) (targets .targets-of .ensures .0) (targets .targets-of .ensures .1)
     ∙ led-end r (row .result)
     ∙ ap (followedFrom r) (row .ensures)
-    ∙ ap (λ (file : DayFile). followedBic (file .roster) (now (d .before .before .before .args .bic))) (d .read-day-file .ensures)))
+    ∙ ap (λ (file : DayFile). followedBic (file .roster) (now (d .before .before .before .args .bic))) (d .read-day-file .ensures .0)))

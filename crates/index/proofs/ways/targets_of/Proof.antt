@@ -6,8 +6,8 @@ use native.Mathlib.Numerals.{add-one}
 use native.Mathlib.Omega.{arith}
 use lib.ListN.{length, length-set}
 use Rattle.fields.specs.UpTo.{rowsTo}
+use Rattle.dayfile.specs.Roster.{targetKind, targetNumber}
 use Rattle.dayfile.specs.Route.{targetIn}
-use Rattle.dayfile.specs.Writing.{targetKind, targetNumber}
 use Rattle.dayfile.specs.declared.roster.Route.{Route}
 use Rattle.index.specs.Ways.{kindsOf, numbersOf}
 use borrow.Author.Needs.{needs}
