@@ -79,7 +79,7 @@ pub fn run(mut b: Book, tickets: &[u8], answers: &mut [u8], reports: &mut [u8]) 
         let end = room::sweep_end(e.refusal, mark, b.count);
         while mark < end {
             let o = b.orders[mark];
-            if b.clock - o.time < 20 {
+            if tick::is_young(b.clock, o.time) {
                 break;
             }
             let payee = o.payee;

@@ -6,6 +6,7 @@ use mathlib.Core.Logic.{_⊎_, inl, inr, ⊎-elim}
 use Prim.Native.Nat.{ℕ, _+_, _-_, _*_, _≤_, _<_}
 use native.Mathlib.Nat.{not-suc-le-zero, add-assoc}
 use native.Mathlib.Omega.{arith}
+use borrow.Author.Tests.{ltb-true, ltb-false}
 use denote.Ref.{now}
 use lib.Dec.{eqb}
 use lib.ListN.{length, set, take, drop, length-append, length-set}
@@ -266,7 +267,7 @@ module _ (c : tie.Left-loop2 Inv-loop2 μ-loop2 Inv-loop μ-loop) where
 
   stops : (cond (eqb (entry at-end .refusal) 0) (b top .count) (top .loop .mark) ≤ c .before .loop2 .mark)
       ⊎ (swept-book .clock - orderOf (swept-book .orders) (c .before .loop2 .mark) .time < 20)
-  stops = ⊎-elim (λ x. inl (let h = x .left in let e = end-is at-end in omega arith)) (λ x. inr (x .3 .taken)) (c .loop2-test .came)
+  stops = ⊎-elim (λ x. inl (let h = x .left in let e = end-is at-end in omega arith)) (λ x. inr (ltb-true _ _ (sym (x .2 .ensures) ∙ x .3 .taken))) (c .loop2-test .came)
 
   all : sweepTo (start at-end) (c .before .loop2 .mark) ≡ sweptFor (entry at-end .refusal) (start at-end)
   all =
@@ -789,7 +790,7 @@ loop2-again c =
     let x = c .before .before .before .before .before .before .before .before in
     let i = in-loop x in
     let w = i .before .loop2 .inv in (
-      one-more (start (entered i)) (start-is-sound (entered i)) _ _ (w .0) (below i) (x .before .before .before .if2 .left) _ _ _
+      one-more (start (entered i)) (start-is-sound (entered i)) _ _ (w .0) (below i) (ltb-false _ _ (sym (x .before .before .before .before .is-young .ensures) ∙ x .before .before .before .if2 .left)) _ _ _
           (ap
           (λ (v : Cover).
           record {
@@ -963,7 +964,7 @@ run-spec =
     loop2-holds
     (λ c. let h = mark-below c in search needs)
     (λ c. mark-below c)
-    (λ c. now-sound (c .before .before) .orders .early _ (in-use (c .before .before)))
+    (λ c κs. now-sound (c .before) .orders .early _ (in-use (c .before)))
     (λ c. let h = payee-below (c .before .before .before) in search needs)
     (λ c. payee-below (c .before .before .before))
     (λ c κs. search needs)
