@@ -19,6 +19,7 @@ use Rattle.rules.specs.Book.{orderOf, coverOf}
 use Rattle.rules.specs.Status.{isWaiting}
 use Rattle.rules.specs.Cover.{whole}
 use Rattle.rules.specs.declared.Book.{Book}
+use Rattle.rules.specs.Tick.{timeLimit}
 use Rattle.audit.specs.History.{Event, isKind, isSentBy}
 use Rattle.audit.specs.Sums.{amountIf, coverIn, coverOut, lastCutIn, settledTo, settledFrom, returnBy, returnTo, firstWith}
 use Rattle.audit.specs.Orders.{isOrder, toBank, isNone, isFirst4, setsClock, tellsParties}
