@@ -1,0 +1,13 @@
+-- `checks::space_check` meets its contract. Assumes nothing.
+use borrow.Author.Needs.{needs}
+use Rattle.checks.proofs.space_check.Statement.{statement}
+use Rattle.checks.proofs.space_check.Tie as tie
+
+pub space-check-spec : {M : Type 1} → statement M
+space-check-spec =
+    tie.close
+    (tie.spec
+    -- Need-returns
+    (λ c. simp (c .if1 .taken))
+    -- Need-returns-2
+    (λ c. simp (c .if1 .left)))

@@ -1,0 +1,1 @@
+// The judgement of a ticket, check by check.
