@@ -23,6 +23,7 @@ ghost use Rattle.rules.specs.Cover.{mostTotal};
 ghost use Rattle.rules.specs.Checks.{senderCheck, newCheck, payeeCheck, spaceCheck, heldCheck, partyCheck, standing, waitingCheck, unmarkedCheck, askedCheck, sumCheck, fundsCheck, cutCheck, confirmCheck, brings, limitCheck};
 
 const MOST_ORDERS: usize = 256;
+
 const MOST_TOTAL: u64 = 1_000_000_000_000_000_000;
 
 // 12. Sender no participant.

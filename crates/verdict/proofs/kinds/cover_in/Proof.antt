@@ -1,0 +1,24 @@
+-- `verdict::kinds::cover_in` meets its contract. Assumes nothing.
+use borrow.Author.Needs.{needs}
+use Rattle.verdict.proofs.kinds.cover_in.Statement.{statement}
+use Rattle.verdict.proofs.kinds.cover_in.Tie as tie
+
+pub cover-in-spec : {M : Type 1} → statement M
+cover-in-spec =
+    tie.close
+    (tie.spec
+    (λ c κs. search needs)
+    (λ c. search needs)
+    (λ c. search needs)
+    (λ c κs. search needs)
+    -- Need-returns
+    (λ c. simp (c .refused .ensures, c .before .enum-told .given .1, ← c .before .before .before .sender-check .ensures))
+    (λ c κs. search needs)
+    (λ c. search needs)
+    (λ c. search needs)
+    (λ c κs. search needs)
+    -- Need-returns-2
+    (λ c. simp (c .refused2 .ensures, c .before .enum-told3 .given .1, ← c .before .before .before .limit-check .ensures, c .before .before .before .before .before .p .given .1, ← c .before .before .before .before .before .before .before .sender-check .ensures))
+    (λ c κs. search needs)
+    -- Need-returns-3
+    (λ c. simp (c .cover-moved .ensures, c .before .enum-told2 .given .1, ← c .before .before .before .limit-check .ensures, c .before .before .before .before .before .p .given .1, ← c .before .before .before .before .before .before .before .sender-check .ensures)))

@@ -1,0 +1,36 @@
+-- `verdict::kinds::no` meets its contract. Assumes nothing.
+use borrow.Author.Needs.{needs}
+use Rattle.verdict.proofs.kinds.no.Statement.{statement}
+use Rattle.verdict.proofs.kinds.no.Tie as tie
+
+pub no-spec : {M : Type 1} → statement M
+no-spec =
+    tie.close
+    (tie.spec
+    (λ c κs. search needs)
+    (λ c. search needs)
+    (λ c. search needs)
+    (λ c κs. search needs)
+    -- Need-returns
+    (λ c. simp (c .refused .ensures, c .before .enum-told .given .1, ← c .before .before .before .sender-check .ensures))
+    (λ c κs. search needs)
+    (λ c. search needs)
+    (λ c. search needs)
+    (λ c κs. search needs)
+    -- Need-returns-2
+    (λ c. simp (c .refused2 .ensures, c .before .enum-told2 .given .1, ← c .before .before .before .held-check .ensures, c .before .before .before .before .before .p .given .1, ← c .before .before .before .before .before .before .before .sender-check .ensures))
+    (λ c κs. search needs)
+    (λ c. search needs)
+    (λ c. search needs)
+    (λ c κs. search needs)
+    -- Need-returns-3
+    (λ c. simp (c .refused3 .ensures, c .before .enum-told4 .given .1, ← c .before .before .before .party-check .ensures, c .before .before .before .before .before .i .given .1, ← c .before .before .before .before .before .before .before .held-check .ensures, c .before .before .before .before .before .before .before .before .before .p .given .1, ← c .before .before .before .before .before .before .before .before .before .before .before .sender-check .ensures))
+    (λ c κs. search needs)
+    (λ c. search needs)
+    (λ c. search needs)
+    (λ c κs. search needs)
+    -- Need-returns-4
+    (λ c. simp (c .refused4 .ensures, c .before .enum-told6 .given .1, ← c .before .before .before .waiting-check .ensures, c .before .before .before .before .enum-told3 .given .1, ← c .before .before .before .before .before .before .party-check .ensures, c .before .before .before .before .before .before .before .before .i .given .1, ← c .before .before .before .before .before .before .before .before .before .before .held-check .ensures, c .before .before .before .before .before .before .before .before .before .before .before .before .p .given .1, ← c .before .before .before .before .before .before .before .before .before .before .before .before .before .before .sender-check .ensures))
+    (λ c κs. search needs)
+    -- Need-returns-5
+    (λ c. simp (c .turned-down .ensures, c .before .enum-told5 .given .1, ← c .before .before .before .waiting-check .ensures, c .before .before .before .before .enum-told3 .given .1, ← c .before .before .before .before .before .before .party-check .ensures, c .before .before .before .before .before .before .before .before .i .given .1, ← c .before .before .before .before .before .before .before .before .before .before .held-check .ensures, c .before .before .before .before .before .before .before .before .before .before .before .before .p .given .1, ← c .before .before .before .before .before .before .before .before .before .before .before .before .before .before .sender-check .ensures)))

@@ -1,0 +1,42 @@
+-- `verdict::kinds::order` meets its contract. Assumes nothing.
+use borrow.Author.Needs.{needs}
+use Rattle.verdict.proofs.kinds.order.Statement.{statement}
+use Rattle.verdict.proofs.kinds.order.Tie as tie
+
+pub order-spec : {M : Type 1} → statement M
+order-spec =
+    tie.close
+    (tie.spec
+    (λ c κs. search needs)
+    (λ c. search needs)
+    (λ c. search needs)
+    (λ c κs. search needs)
+    -- Need-returns
+    (λ c. simp (c .refused .ensures, c .before .enum-told .given .1, ← c .before .before .before .sender-check .ensures))
+    (λ c κs. search needs)
+    (λ c. search needs)
+    (λ c. search needs)
+    (λ c κs. search needs)
+    -- Need-returns-2
+    (λ c. simp (c .refused2 .ensures, c .before .enum-told3 .given .1, ← c .before .before .before .new-check .ensures, c .before .before .before .before .before .p .given .1, ← c .before .before .before .before .before .before .before .sender-check .ensures))
+    (λ c κs. search needs)
+    (λ c. search needs)
+    (λ c. search needs)
+    (λ c κs. search needs)
+    -- Need-returns-3
+    (λ c. simp (c .refused3 .ensures, c .before .enum-told4 .given .1, ← c .before .before .before .payee-check .ensures, c .before .before .before .before .enum-told2 .given .1, ← c .before .before .before .before .before .before .new-check .ensures, c .before .before .before .before .before .before .before .before .p .given .1, ← c .before .before .before .before .before .before .before .before .before .before .sender-check .ensures))
+    (λ c κs. search needs)
+    (λ c. search needs)
+    (λ c. search needs)
+    (λ c κs. search needs)
+    -- Need-returns-4
+    (λ c. simp (c .refused4 .ensures, c .before .enum-told6 .given .1, ← c .before .before .before .space-check .ensures, c .before .before .before .before .before .payee .given .1, ← c .before .before .before .before .before .before .before .payee-check .ensures, c .before .before .before .before .before .before .before .before .enum-told2 .given .1, ← c .before .before .before .before .before .before .before .before .before .before .new-check .ensures, c .before .before .before .before .before .before .before .before .before .before .before .before .p .given .1, ← c .before .before .before .before .before .before .before .before .before .before .before .before .before .before .sender-check .ensures))
+    (λ c κs. search needs)
+    (λ c. search needs)
+    (λ c. search needs)
+    (λ c κs. search needs)
+    -- Need-returns-5
+    (λ c. simp (c .refused5 .ensures, c .before .enum-told8 .given .1, ← c .before .before .before .funds-check .ensures, c .before .before .before .before .enum-told5 .given .1, ← c .before .before .before .before .before .before .space-check .ensures, c .before .before .before .before .before .before .before .before .payee .given .1, ← c .before .before .before .before .before .before .before .before .before .before .payee-check .ensures, c .before .before .before .before .before .before .before .before .before .before .before .enum-told2 .given .1, ← c .before .before .before .before .before .before .before .before .before .before .before .before .before .new-check .ensures, c .before .before .before .before .before .before .before .before .before .before .before .before .before .before .before .p .given .1, ← c .before .before .before .before .before .before .before .before .before .before .before .before .before .before .before .before .before .sender-check .ensures))
+    (λ c κs. search needs)
+    -- Need-returns-6
+    (λ c. simp (c .opened .ensures, c .before .enum-told7 .given .1, ← c .before .before .before .funds-check .ensures, c .before .before .before .before .enum-told5 .given .1, ← c .before .before .before .before .before .before .space-check .ensures, c .before .before .before .before .before .before .before .before .payee .given .1, ← c .before .before .before .before .before .before .before .before .before .before .payee-check .ensures, c .before .before .before .before .before .before .before .before .before .before .before .enum-told2 .given .1, ← c .before .before .before .before .before .before .before .before .before .before .before .before .before .new-check .ensures, c .before .before .before .before .before .before .before .before .before .before .before .before .before .before .before .p .given .1, ← c .before .before .before .before .before .before .before .before .before .before .before .before .before .before .before .before .before .sender-check .ensures)))

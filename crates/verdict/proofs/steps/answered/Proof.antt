@@ -1,0 +1,13 @@
+-- `verdict::steps::answered` meets its contract. Assumes nothing.
+use borrow.Author.Needs.{needs}
+use Rattle.verdict.proofs.steps.answered.Statement.{statement}
+use Rattle.verdict.proofs.steps.answered.Tie as tie
+
+pub answered-spec : {M : Type 1} → statement M
+answered-spec =
+    tie.close
+    (tie.spec
+    (λ c κs. search needs)
+    (λ c κs. search needs)
+    -- Need-returns
+    (λ c. simp (c .answer-also .ensures, ← c .before .answer-told .ensures)))

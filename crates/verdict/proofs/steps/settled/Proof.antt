@@ -1,0 +1,12 @@
+-- `verdict::steps::settled` meets its contract. Assumes nothing.
+use borrow.Author.Needs.{needs}
+use Rattle.verdict.proofs.steps.settled.Statement.{statement}
+use Rattle.verdict.proofs.steps.settled.Tie as tie
+
+pub settled-spec : {M : Type 1} → statement M
+settled-spec =
+    tie.close
+    (tie.spec
+    (λ c κs. search needs)
+    -- Need-returns
+    (λ c. simp (c .payee-told .ensures)))
