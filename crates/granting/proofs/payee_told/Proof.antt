@@ -1,0 +1,13 @@
+-- `granting::payee_told` meets its contract. Assumes nothing.
+use borrow.Author.Needs.{needs}
+use Rattle.granting.proofs.payee_told.Statement.{statement}
+use Rattle.granting.proofs.payee_told.Tie as tie
+
+pub payee-told-spec : {M : Type 1} → statement M
+payee-told-spec =
+    tie.close
+    (tie.spec
+    -- Need-returns
+    (λ c. simp (c .if1 .taken))
+    -- Need-returns-2
+    (λ c. simp (c .if1 .left)))
