@@ -41,6 +41,7 @@ cases =
     ∷ refuses "the same by no participant" (coverInVerdict Nothing 999_999_999_999_999_999 2) 12
     ∷ refuses "a cover out of all that is available" (coverOutVerdict (At 0) 1000 1000) 0
     ∷ refuses "one cent more" (coverOutVerdict (At 0) 1000 1001) 20
+    ∷ refuses "the same by no participant" (coverOutVerdict Nothing 1000 1001) 12
     ∷ answers "an order of all that is available" (orderVerdict (At 0) Nothing (At 3) (way.At 1 2) 255 1000 1000) (0 ∷ 1 ∷ 1 ∷ 0 ∷ 0 ∷ [])
     ∷ refuses "one cent more" (orderVerdict (At 0) Nothing (At 3) (way.At 1 2) 255 1000 1001) 20
     ∷ refuses "the 257th order" (orderVerdict (At 0) Nothing (At 3) (way.At 1 2) 256 1000 1001) 15
@@ -53,6 +54,7 @@ cases =
     ∷ refuses "a yes to no order" (yesVerdict (At 0) Nothing unmarked true) 16
     ∷ answers "a no is told to the payer only" (noVerdict (At 1) (At 7) (of status.Waiting)) (0 ∷ 0 ∷ 3 ∷ 0 ∷ 0 ∷ [])
     ∷ refuses "a no to an expired order" (noVerdict (At 1) (At 7) (of status.Expired)) 18
+    ∷ refuses "the same by the payer" (noVerdict (At 0) (At 7) (of status.Expired)) 17
     ∷ answers "a recall" (recallVerdict (At 0) (At 7) unmarked) (0 ∷ 1 ∷ 5 ∷ 0 ∷ 0 ∷ [])
     ∷ refuses "a second recall" (recallVerdict (At 0) (At 7) asked) 18
     ∷ refuses "a recall by the payee" (recallVerdict (At 1) (At 7) asked) 17
@@ -62,6 +64,7 @@ cases =
     ∷ refuses "a return that was not asked for" (returnVerdict (At 1) (At 7) unmarked 0 399) 18
     ∷ answers "a decline" (declineVerdict (At 1) (At 7) asked) (0 ∷ 0 ∷ 7 ∷ 0 ∷ 0 ∷ [])
     ∷ refuses "a decline that was not asked for" (declineVerdict (At 1) (At 7) unmarked) 18
+    ∷ refuses "a decline of no order" (declineVerdict (At 1) Nothing unmarked) 16
     ∷ answers "an inquiry about an order that waits for a bank" (inquiryVerdict (At 0) (At 7) (of status.Waiting) true) (0 ∷ 0 ∷ 9 ∷ 0 ∷ 0 ∷ [])
     ∷ answers "for a linked system" (inquiryVerdict (At 0) (At 7) (of status.Waiting) false) (0 ∷ 1 ∷ 8 ∷ 0 ∷ 0 ∷ [])
     ∷ answers "about a refused one" (inquiryVerdict (At 0) (At 7) (of status.Refused) true) (0 ∷ 0 ∷ 3 ∷ 0 ∷ 0 ∷ [])
@@ -71,10 +74,12 @@ cases =
     ∷ answers "recalled" (inquiryVerdict (At 0) (At 7) asked true) (0 ∷ 0 ∷ 2 ∷ 1 ∷ 8 ∷ [])
     ∷ answers "recalled and declined" (inquiryVerdict (At 0) (At 7) (of (status.Settled mark.Declined)) true) (0 ∷ 0 ∷ 2 ∷ 0 ∷ 7 ∷ [])
     ∷ refuses "an inquiry by the payee" (inquiryVerdict (At 1) (At 7) asked true) 17
+    ∷ refuses "about no order" (inquiryVerdict (At 1) Nothing asked true) 16
     ∷ refuses "a cut" (cutsVerdict false) 0
     ∷ refuses "a cut before all is confirmed" (cutsVerdict true) 21
     ∷ refuses "held 50 confirmed by 50, with 10^18 in all" (confirmVerdict (At 0) 50 0 1_000_000_000_000_000_000 50) 0
     ∷ refuses "held 50 confirmed by 49" (confirmVerdict (At 0) 50 0 1000 49) 21
+    ∷ refuses "the same by no participant" (confirmVerdict Nothing 50 0 1000 49) 12
     ∷ refuses "confirm 0 of an open debit" (confirmVerdict (At 0) 0 70 1000 0) 0
     ∷ refuses "all of an open debit" (confirmVerdict (At 0) 0 70 1000 70) 0
     ∷ refuses "one cent more" (confirmVerdict (At 0) 0 70 1000 71) 21
