@@ -1,5 +1,4 @@
 -- `checks::confirm_check` meets its contract. Assumes nothing.
-use borrow.Author.Needs.{needs}
 use Rattle.checks.proofs.confirm_check.Statement.{statement}
 use Rattle.checks.proofs.confirm_check.Tie as tie
 
@@ -7,11 +6,11 @@ pub confirm-check-spec : {M : Type 1} → statement M
 confirm-check-spec =
     tie.close
     (tie.spec
-    -- Need-returns
+    -- a confirmed debit
     (λ c. simp (c .if2 .taken, c .before .if1 .taken))
-    -- Need-returns-2
+    -- nothing held, and no debit or one below the amount
     (λ c. simp (c .if2 .left, c .before .if1 .taken))
-    -- Need-returns-3
+    -- a confirmed credit
     (λ c. simp (c .if3 .taken, c .before .if1 .left))
-    -- Need-returns-4
+    -- held, and another amount
     (λ c. simp (c .if3 .left, c .before .if1 .left)))

@@ -1,5 +1,4 @@
 -- `checks::funds_check` meets its contract. Assumes nothing.
-use borrow.Author.Needs.{needs}
 use Rattle.checks.proofs.funds_check.Statement.{statement}
 use Rattle.checks.proofs.funds_check.Tie as tie
 
@@ -7,7 +6,7 @@ pub funds-check-spec : {M : Type 1} → statement M
 funds-check-spec =
     tie.close
     (tie.spec
-    -- Need-returns
+    -- too little
     (λ c. simp (c .if1 .taken))
-    -- Need-returns-2
+    -- enough
     (λ c. simp (c .if1 .left)))

@@ -9,7 +9,7 @@ held-check-spec =
     (tie.spec
     (λ c. search needs)
     (λ c. search needs)
-    -- Need-returns
+    -- held
     (λ c. simp (c .before .order .given .1))
-    -- Need-returns-2
+    -- not held
     (λ c. simp (c .enum-told .given .1)))

@@ -1,5 +1,4 @@
 -- `checks::party_check` meets its contract. Assumes nothing.
-use borrow.Author.Needs.{needs}
 use Rattle.checks.proofs.party_check.Statement.{statement}
 use Rattle.checks.proofs.party_check.Tie as tie
 
@@ -7,7 +6,7 @@ pub party-check-spec : {M : Type 1} → statement M
 party-check-spec =
     tie.close
     (tie.spec
-    -- Need-returns
+    -- right
     (λ c. simp (c .if1 .taken))
-    -- Need-returns-2
+    -- wrong
     (λ c. simp (c .if1 .left)))

@@ -10,7 +10,7 @@ payee-check-spec =
     (λ c. search needs)
     (λ c κs. search needs)
     (λ c. search needs)
-    -- Need-returns
+    -- a row is found
     (λ c. simp (c .reached .ensures, c .before .enum-told .given .1))
-    -- Need-returns-2
+    -- none is
     (λ c. simp (c .enum-told2 .given .1)))

@@ -9,7 +9,7 @@ sender-check-spec =
     (tie.spec
     (λ c. search needs)
     (λ c. search needs)
-    -- Need-returns
+    -- a participant
     (λ c. simp (c .before .sender .given .1))
-    -- Need-returns-2
+    -- none
     (λ c. simp (c .enum-told .given .1)))

@@ -1,5 +1,4 @@
 -- `checks::space_check` meets its contract. Assumes nothing.
-use borrow.Author.Needs.{needs}
 use Rattle.checks.proofs.space_check.Statement.{statement}
 use Rattle.checks.proofs.space_check.Tie as tie
 
@@ -7,7 +6,7 @@ pub space-check-spec : {M : Type 1} → statement M
 space-check-spec =
     tie.close
     (tie.spec
-    -- Need-returns
+    -- full
     (λ c. simp (c .if1 .taken))
-    -- Need-returns-2
+    -- space is left
     (λ c. simp (c .if1 .left)))

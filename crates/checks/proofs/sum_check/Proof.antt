@@ -1,5 +1,4 @@
 -- `checks::sum_check` meets its contract. Assumes nothing.
-use borrow.Author.Needs.{needs}
 use Rattle.checks.proofs.sum_check.Statement.{statement}
 use Rattle.checks.proofs.sum_check.Tie as tie
 
@@ -7,7 +6,7 @@ pub sum-check-spec : {M : Type 1} → statement M
 sum-check-spec =
     tie.close
     (tie.spec
-    -- Need-returns
+    -- the whole
     (λ c. simp (c .if1 .taken))
-    -- Need-returns-2
+    -- another amount
     (λ c. simp (c .if1 .left)))

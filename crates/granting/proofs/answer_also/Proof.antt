@@ -13,13 +13,13 @@ answer-also-spec =
     (λ c. search needs)
     (λ c. search needs)
     (λ c κs. search needs)
-    -- Need-returns
+    -- Waiting
     (λ c. simp (c .enum-told .given .1))
-    -- Need-returns-2
+    -- Refused
     (λ c. simp (c .enum-told2 .given .1))
-    -- Need-returns-3
+    -- Expired
     (λ c. simp (c .enum-told3 .given .1))
-    -- Need-returns-4
+    -- Returned
     (λ c. simp (c .enum-told4 .given .1))
-    -- Need-returns-5
+    -- Settled
     (λ c. simp (c .mark-told .ensures, c .before .before .s .given .1)))

@@ -13,13 +13,13 @@ answer-told-spec =
     (λ c. search needs)
     (λ c. search needs)
     (λ c. search needs)
-    -- Need-returns
+    -- Waiting
     (λ c. simp (c .waiting-told .ensures, c .before .enum-told .given .1))
-    -- Need-returns-2
+    -- Refused
     (λ c. simp (c .enum-told2 .given .1))
-    -- Need-returns-3
+    -- Expired
     (λ c. simp (c .enum-told3 .given .1))
-    -- Need-returns-4
+    -- Returned
     (λ c. simp (c .enum-told4 .given .1))
-    -- Need-returns-5
+    -- Settled
     (λ c. simp (c .enum-told5 .given .1)))

@@ -9,5 +9,4 @@ answered-spec =
     (tie.spec
     (λ c κs. search needs)
     (λ c κs. search needs)
-    -- Need-returns
     (λ c. simp (c .answer-also .ensures, ← c .before .answer-told .ensures)))

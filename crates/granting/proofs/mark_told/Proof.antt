@@ -10,9 +10,9 @@ mark-told-spec =
     (λ c. search needs)
     (λ c. search needs)
     (λ c. search needs)
-    -- Need-returns
+    -- none
     (λ c. simp (c .enum-told .given .1))
-    -- Need-returns-2
+    -- asked
     (λ c. simp (c .enum-told2 .given .1))
-    -- Need-returns-3
+    -- declined
     (λ c. simp (c .enum-told3 .given .1)))

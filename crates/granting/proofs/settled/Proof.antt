@@ -8,5 +8,4 @@ settled-spec =
     tie.close
     (tie.spec
     (λ c κs. search needs)
-    -- Need-returns
     (λ c. simp (c .payee-told .ensures)))

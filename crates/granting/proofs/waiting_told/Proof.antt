@@ -1,5 +1,4 @@
 -- `granting::waiting_told` meets its contract. Assumes nothing.
-use borrow.Author.Needs.{needs}
 use Rattle.granting.proofs.waiting_told.Statement.{statement}
 use Rattle.granting.proofs.waiting_told.Tie as tie
 
@@ -7,7 +6,7 @@ pub waiting-told-spec : {M : Type 1} → statement M
 waiting-told-spec =
     tie.close
     (tie.spec
-    -- Need-returns
+    -- a bank
     (λ c. simp (c .if1 .taken))
-    -- Need-returns-2
+    -- a linked system
     (λ c. simp (c .if1 .left)))
