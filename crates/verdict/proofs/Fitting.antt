@@ -31,7 +31,7 @@ use Rattle.verdict.specs.Step.{unless, refusedVerdict, nothing, coverMov
 use Rattle.verdict.specs.Judgement.{coverInRefusal, coverOutRefusal, orderRefusal, answerRefusal, recallRefusal, returnRefusal, declineRefusal, inquiryRefusal, confirmsRefusal, verdictFor, verdictOf}
 
 -- the step of each kind
-abbrev stepFor : Kind → Facts → Verdict
+abbrev pub stepFor : Kind → Facts → Verdict
 stepFor kind.CoverIn x = coverMoved (sending (senderCheck (x .sender))) Give (x .amount)
 stepFor kind.CoverOut x = coverMoved (sending (senderCheck (x .sender))) Draw (x .amount)
 stepFor kind.Order x = opened (x .count) (sending (senderCheck (x .sender))) (receiving (payeeCheck (x .route) (x .way))) (x .amount)
@@ -54,7 +54,7 @@ module _ (P : Verdict → Type 0) (refused : (n : ℕ) → P (refusedVerdict n))
       go true = h
       go false = refused n
 
-  by-kind : (k : Kind) (x : Facts) → P (stepFor k x) → P (verdictFor k x)
+  pub by-kind : (k : Kind) (x : Facts) → P (stepFor k x) → P (verdictFor k x)
   by-kind kind.CoverIn x = either (coverInRefusal (x .sender) (x .total) (x .amount)) (stepFor kind.CoverIn x)
   by-kind kind.CoverOut x = either (coverOutRefusal (x .sender) (x .cover .available) (x .amount)) (stepFor kind.CoverOut x)
   by-kind kind.Order x =

@@ -1,3 +1,4 @@
 pub mod Meaning
 pub mod Fitting
+pub mod Carrying
 pub mod Cases

@@ -105,7 +105,7 @@ cut-alone false = refl
 
 -- a confirm: whether nothing is held, whether its amount is within an open debit, whether it is all that is held, whether it goes above
 -- the limit
-abbrev confirmed : Bool → Bool → Bool → Confirming
+abbrev pub confirmed : Bool → Bool → Bool → Confirming
 confirmed none within all = cond none (cond within (By Debit) Excluded) (cond all (By Credit) Excluded)
 
 confirm-checks : (y : Finding) (p n : ℕ) (none within all above : Bool)
@@ -274,3 +274,10 @@ module _ (x : Finding) where
 
   pub judged-verdict : judged 0 x ≡ judgedBy x (verdictOf (factsOf x))
   judged-verdict = by-kind (x .kind) (x .sender) (x .order) (x .route)
+
+  pub refuses-alike : firstRefusal x ≡ verdictOf (factsOf x) .refusal
+  refuses-alike = ap (λ (j : Judged). j .refusal) judged-verdict
+
+  -- a refused verdict stands for the decision that all stays as it is
+  pub refused-keeps : (n : ℕ) → decisionBy x (refusedVerdict n) ≡ orderKept x nobody false Nobody
+  refused-keeps n = refl
