@@ -21,6 +21,7 @@ ghost use mathlib.Core.Path.{_≡_};
 ghost use Rattle.rules.specs.Cover.{mostTotal};
 ghost use Rattle.verdict.specs.Judgement.{coverInVerdict, coverOutVerdict, orderVerdict, yesVerdict, noVerdict, recallVerdict, returnVerdict, declineVerdict, inquiryVerdict, cutsVerdict, confirmVerdict};
 
+// Cover in: available rises.
 pub fn cover_in(sender: Found, total: u64, n: u64) -> Verdict
     requires { ⌜ total ≤ mostTotal ⌝ }
     ensures { λ r. ⌜ r ≡ coverInVerdict sender total n ⌝ }
@@ -34,6 +35,7 @@ pub fn cover_in(sender: Found, total: u64, n: u64) -> Verdict
     granting::cover_moved(p, Move::Give, n)
 }
 
+// Cover out: available falls.
 pub fn cover_out(sender: Found, available: u64, n: u64) -> Verdict
     ensures { λ r. ⌜ r ≡ coverOutVerdict sender available n ⌝ }
 {
@@ -46,6 +48,7 @@ pub fn cover_out(sender: Found, available: u64, n: u64) -> Verdict
     granting::cover_moved(p, Move::Draw, n)
 }
 
+// Order: a new Waiting order.
 pub fn order(
     sender: Found,
     order: Found,
@@ -75,6 +78,7 @@ pub fn order(
     granting::opened(count, p, payee, n)
 }
 
+// Yes of the payee, to Waiting.
 pub fn yes(sender: Found, order: Found, a: About, bank: bool) -> Verdict
     ensures { λ r. ⌜ r ≡ yesVerdict sender order a bank ⌝ }
 {
@@ -94,6 +98,7 @@ pub fn yes(sender: Found, order: Found, a: About, bank: bool) -> Verdict
     granting::settled(i, a, bank)
 }
 
+// No of the payee, to Waiting.
 pub fn no(sender: Found, order: Found, a: About) -> Verdict
     ensures { λ r. ⌜ r ≡ noVerdict sender order a ⌝ }
 {
@@ -113,6 +118,7 @@ pub fn no(sender: Found, order: Found, a: About) -> Verdict
     granting::turned_down(i, a)
 }
 
+// Recall of the payer, of Settled with mark none.
 pub fn recall(sender: Found, order: Found, a: About) -> Verdict
     ensures { λ r. ⌜ r ≡ recallVerdict sender order a ⌝ }
 {
@@ -132,6 +138,7 @@ pub fn recall(sender: Found, order: Found, a: About) -> Verdict
     granting::recalled(i, a)
 }
 
+// Return of the payee, of Settled, asked, by the full amount.
 pub fn return_of(sender: Found, order: Found, a: About, available: u64, n: u64) -> Verdict
     ensures { λ r. ⌜ r ≡ returnVerdict sender order a available n ⌝ }
 {
@@ -157,6 +164,7 @@ pub fn return_of(sender: Found, order: Found, a: About, available: u64, n: u64) 
     granting::returned(i, a, n)
 }
 
+// Decline of the payee, of Settled, asked.
 pub fn decline(sender: Found, order: Found, a: About) -> Verdict
     ensures { λ r. ⌜ r ≡ declineVerdict sender order a ⌝ }
 {
@@ -176,6 +184,7 @@ pub fn decline(sender: Found, order: Found, a: About) -> Verdict
     granting::declined(i, a)
 }
 
+// Inquiry of the payer.
 pub fn inquiry(sender: Found, order: Found, a: About, bank: bool) -> Verdict
     ensures { λ r. ⌜ r ≡ inquiryVerdict sender order a bank ⌝ }
 {
@@ -191,6 +200,7 @@ pub fn inquiry(sender: Found, order: Found, a: About, bank: bool) -> Verdict
     granting::answered(i, a, bank)
 }
 
+// Cut: all covers.
 pub fn cut(unconfirmed: bool) -> Verdict
     ensures { λ r. ⌜ r ≡ cutsVerdict unconfirmed ⌝ }
 {
@@ -200,6 +210,7 @@ pub fn cut(unconfirmed: bool) -> Verdict
     granting::cuts()
 }
 
+// Confirm: as a confirmed credit or debit.
 pub fn confirm(sender: Found, held: u64, debit: u64, total: u64, n: u64) -> Verdict
     requires { ⌜ total ≤ mostTotal ⌝ }
     ensures { λ r. ⌜ r ≡ confirmVerdict sender held debit total n ⌝ }
