@@ -89,10 +89,7 @@ pub fn of_moved(numbers: &[u16; 17], scales: &[u16; 17]) -> u64
     let scale = three_scale(scales, 14);
     let d = behind(c, scale, three(numbers, scales, 14)) % 97;
     let by = behind(four_scale(scales, 10) % 97, scale, 0) % 97;
-    last(
-        small(b, by, d),
-        two_scale(scales, 0),
-        two(numbers, scales, 0),
-    )
-        % 97
+    let others = small(b, by, d);
+    let all = last(others, two_scale(scales, 0), two(numbers, scales, 0));
+    all % 97
 }
