@@ -5,7 +5,6 @@ use super::words;
 use dayfile::roster::Roster;
 use dayfile::route;
 use dayfile::route::Followed;
-use index::ways;
 use libc::STDOUT_FILENO;
 ghost use mathlib.Core.Path.{_≡_};
 ghost use Rattle.dayfile.specs.DayFile.{dayFile};
@@ -27,12 +26,12 @@ fn print_way(way: Followed) {
 fn print_routes(r: Roster) {
     let rows = r.rows;
     let routes = r.routes;
-    let targets = ways::targets_of(routes);
+    let targets = routes::targets_of(routes);
     let kinds = targets.kinds;
     let numbers = targets.numbers;
     let mut i = 0;
     while i < rows {
-        print_way(ways::follow(&kinds, &numbers, i));
+        print_way(routes::follow(&kinds, &numbers, i));
         i += 1;
     }
 }
@@ -60,10 +59,10 @@ fn way_of(f: &[u8], bic: &[u8]) -> Followed
     let d = dayfile::read_day_file(f);
     let r = d.roster;
     let routes = r.routes;
-    let targets = ways::targets_of(routes);
+    let targets = routes::targets_of(routes);
     let kinds = targets.kinds;
     let numbers = targets.numbers;
-    ways::end_of(&kinds, &numbers, route::row_with(r, bic))
+    routes::end_of(&kinds, &numbers, route::row_with(r, bic))
 }
 
 pub fn run_way(line: &[u8]) {

@@ -2,7 +2,6 @@
 mod judgement;
 
 use index::chains;
-use index::ways;
 use judging::entry;
 use judging::terms;
 use moves::cover;
@@ -45,11 +44,11 @@ pub fn run(mut b: Book, tickets: &[u8], answers: &mut [u8], reports: &mut [u8]) 
     let bic_links = bic_chains.links;
     let rows = roster.rows;
     let routes = roster.routes;
-    let route_bics = ways::route_bics_of(routes, rows);
+    let route_bics = index::route_bics_of(routes, rows);
     let route_chains = chains::bic_chains(&route_bics, rows);
     let route_heads = route_chains.heads;
     let route_links = route_chains.links;
-    let targets = ways::targets_of(routes);
+    let targets = routes::targets_of(routes);
     let kinds = targets.kinds;
     let numbers = targets.numbers;
     let orders = b.orders;
@@ -128,7 +127,7 @@ pub fn run(mut b: Book, tickets: &[u8], answers: &mut [u8], reports: &mut [u8]) 
             rows,
             &t[layout::PAYEE..layout::TXID],
         );
-        let end = ways::end_of(&kinds, &numbers, route);
+        let end = routes::end_of(&kinds, &numbers, route);
         let flow = terms.flow;
         let mut unconfirmed = false;
         if sums::seeks_open(flow) {

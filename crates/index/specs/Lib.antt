@@ -1,2 +1,1 @@
 pub mod Chains
-pub mod Ways

@@ -1,10 +1,10 @@
-// The participants' BICs and the orders' TxIds, each as rows one after the other with chains through them: what a search is lent. Rows
-// and links behind those in use are left open: no search looks at them.
+// The participants' and the route rows' BICs and the orders' TxIds, each as rows one after the other with chains through them: what a
+// search is lent. Rows and links behind those in use are left open: no search looks at them.
 pub mod chains;
 pub mod row;
-pub mod ways;
 
 use dayfile::roster::Participant;
+use dayfile::roster::Route;
 use fields::Found;
 use rules::Order;
 ghost use mathlib.Core.Path.{_≡_};
@@ -14,7 +14,7 @@ ghost use lib.ListN.{length, getD, set};
 ghost use lib.Seq.{sets};
 ghost use Rattle.fields.specs.Number.{part};
 ghost use Rattle.fields.specs.Rows.{firstRow, Indexed};
-ghost use Rattle.dayfile.specs.Roster.{participantIn};
+ghost use Rattle.dayfile.specs.Roster.{participantIn, rowOf};
 ghost use Rattle.rules.specs.Book.{orderOf};
 ghost use Rattle.index.specs.Chains.{buckets, bicBucket, txidBucket, Chained, Distinct};
 
@@ -29,6 +29,21 @@ pub fn bics_of(participants: [Participant; 32], size: usize) -> [u8; 352]
         let bic = participant.bic;
         row::put_row(&mut bics, 11, p, &bic);
         p += 1;
+    }
+    bics
+}
+
+pub fn route_bics_of(routes: [Route; 64], rows: usize) -> [u8; 704]
+    requires { ⌜ (rows ≤ 64) × ((i : ℕ) → i < rows → length (rowOf routes i .bic) ≡ 11) ⌝ }
+    ensures { λ r. ⌜ (length r ≡ 704) × Indexed 11 (λ i. rowOf routes i .bic) rows r ⌝ }
+{
+    let mut bics = [0u8; 704];
+    let mut i = 0;
+    while i < rows {
+        let route = routes[i];
+        let bic = route.bic;
+        row::put_row(&mut bics, 11, i, &bic);
+        i += 1;
     }
     bics
 }

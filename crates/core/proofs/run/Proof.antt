@@ -17,9 +17,9 @@ use Rattle.fields.specs.declared.search.Found.{Found}
 use Rattle.fields.specs.declared.search.Found.the-variants as found
 use Rattle.fields.proofs.Stores.{length-part}
 use Rattle.index.specs.Chains.{txidBucket}
-use Rattle.index.specs.Ways.{endAt}
+use Rattle.routes.specs.Ways.{endAt}
 use Rattle.index.proofs.Chaining.{same-chained, distinct-rows}
-use Rattle.index.proofs.Leading.{led-end}
+use Rattle.routes.proofs.Leading.{led-end}
 use Rattle.codes.proofs.Whole.{bic-length}
 use Rattle.ticket.specs.Layout.{txidField}
 use Rattle.report.specs.Layout.{reportsBytes}

@@ -5,8 +5,8 @@ use Prim.Native.Nat.{ℕ}
 use denote.Ref.{now}
 use Rattle.dayfile.specs.Route.{followedFrom, followedBic}
 use Rattle.dayfile.specs.declared.DayFile.{DayFile}
-use Rattle.index.specs.Ways.{endAt}
-use Rattle.index.proofs.Leading.{led-end}
+use Rattle.routes.specs.Ways.{endAt}
+use Rattle.routes.proofs.Leading.{led-end}
 use borrow.Author.Needs.{needs}
 use Rattle.cases.proofs.files.way_of.Statement.{statement}
 use Rattle.cases.proofs.files.way_of.Tie as tie

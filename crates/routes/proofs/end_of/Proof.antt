@@ -1,10 +1,10 @@
--- `index::ways::end_of` meets its contract. Assumes nothing.
+-- `routes::end_of` meets its contract. Assumes nothing.
 use mathlib.Core.Path.{sym, _∙_, ap}
 use denote.Ref.{now}
-use Rattle.index.specs.Ways.{endAt}
+use Rattle.routes.specs.Ways.{endAt}
 use borrow.Author.Needs.{needs}
-use Rattle.index.proofs.ways.end_of.Statement.{statement}
-use Rattle.index.proofs.ways.end_of.Tie as tie
+use Rattle.routes.proofs.end_of.Statement.{statement}
+use Rattle.routes.proofs.end_of.Tie as tie
 
 pub end-of-spec : {M : Type 1} → statement M
 end-of-spec =

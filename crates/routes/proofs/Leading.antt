@@ -15,7 +15,7 @@ use Rattle.dayfile.specs.declared.roster.Route.{Route}
 use Rattle.dayfile.specs.declared.roster.Roster.{Roster}
 use Rattle.dayfile.proofs.Following.{followed-same}
 use Rattle.dayfile.proofs.Written.{target-back}
-use Rattle.index.specs.Ways.{kindsOf, numbersOf, targetBy, endAt}
+use Rattle.routes.specs.Ways.{kindsOf, numbersOf, targetBy, endAt}
 
 -- a row's kind says how its number is meant
 module _ (kinds numbers : List ℕ) (row : ℕ) where

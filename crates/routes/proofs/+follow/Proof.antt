@@ -1,4 +1,4 @@
--- `index::ways::follow` meets its contract: each way through it is one row of the definition, and the row number falls.
+-- `routes::follow` meets its contract: each way through it is one row of the definition, and the row number falls.
 -- Assumes nothing.
 use mathlib.Core.Path.{_≡_, sym, _∙_, ap}
 use Prim.Native.Nat.{ℕ, _<_}
@@ -9,13 +9,13 @@ use borrow.Fn.Kinds.{In}
 use borrow.Fn.PlainCycle.{Measures, is, falls, and}
 use Rattle.dayfile.specs.Route.{oneMore, followed}
 use Rattle.dayfile.proofs.Following.{followed-out, followed-rows, follows-to, follows-row, follows-none}
-use Rattle.index.specs.Ways.{targetBy}
-use Rattle.index.proofs.Leading.{by-participant, by-row}
-use Rattle.index.proofs.ways.follow.Reads as follow
-use Rattle.index.proofs.ways.follow.Kinds as follow-kinds
-use Rattle.index.proofs.ways.+follow.Lts-follow as follow-lts
-use Rattle.index.proofs.ways.+follow.{statement}
-use Rattle.index.proofs.ways.+follow.Tie.{close}
+use Rattle.routes.specs.Ways.{targetBy}
+use Rattle.routes.proofs.Leading.{by-participant, by-row}
+use Rattle.routes.proofs.follow.Reads as follow
+use Rattle.routes.proofs.follow.Kinds as follow-kinds
+use Rattle.routes.proofs.+follow.Lts-follow as follow-lts
+use Rattle.routes.proofs.+follow.{statement}
+use Rattle.routes.proofs.+follow.Tie.{close}
 
 abbrev μ-follow : Measures 2 follow-kinds.ps ℕ
 μ-follow κs a = a .1 .1 .0

@@ -1,32 +1,12 @@
-// The route rows: their BICs, where each row leads, and following from a row on. Which BICs stand behind the rows in use is
-// left open: nothing looks at them.
-use super::row;
+// Following routes: where each row leads, as numbers that can be lent, and following from a row on.
 use dayfile::roster::Route;
 use dayfile::roster::Target;
 use dayfile::route::Followed;
 use fields::Found;
 ghost use mathlib.Core.Path.{_≡_};
-ghost use Prim.Native.Nat.{ℕ, _≤_, _<_};
-ghost use lib.ListN.{length};
-ghost use Rattle.fields.specs.Rows.{Indexed};
-ghost use Rattle.dayfile.specs.Roster.{targetKind, targetNumber, rowOf};
+ghost use Rattle.dayfile.specs.Roster.{targetKind, targetNumber};
 ghost use Rattle.dayfile.specs.Route.{followed};
-ghost use Rattle.index.specs.Ways.{kindsOf, numbersOf, targetBy, endAt};
-
-pub fn route_bics_of(routes: [Route; 64], rows: usize) -> [u8; 704]
-    requires { ⌜ (rows ≤ 64) × ((i : ℕ) → i < rows → length (rowOf routes i .bic) ≡ 11) ⌝ }
-    ensures { λ r. ⌜ (length r ≡ 704) × Indexed 11 (λ i. rowOf routes i .bic) rows r ⌝ }
-{
-    let mut bics = [0u8; 704];
-    let mut i = 0;
-    while i < rows {
-        let route = routes[i];
-        let bic = route.bic;
-        row::put_row(&mut bics, 11, i, &bic);
-        i += 1;
-    }
-    bics
-}
+ghost use Rattle.routes.specs.Ways.{kindsOf, numbersOf, targetBy, endAt};
 
 // Where each row leads, as numbers: its kind, 0 participant or 1 row, and its k.
 pub struct Targets {

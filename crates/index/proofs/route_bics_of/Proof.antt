@@ -1,4 +1,4 @@
--- `index::ways::route_bics_of` meets its contract. The loop's invariant: the first i rows are written. Assumes nothing.
+-- `index::route_bics_of` meets its contract. The loop's invariant: the first i rows are written. Assumes nothing.
 use mathlib.Core.Path.{_≡_, refl, sym, _∙_, subst}
 use mathlib.Core.List.{List}
 use Prim.Native.Nat.{ℕ, _+_, _≤_, _-_}
@@ -9,8 +9,8 @@ use Rattle.fields.specs.Rows.{Indexed}
 use Rattle.fields.proofs.Indexing.{put-indexed}
 use Rattle.dayfile.specs.Roster.{rowOf}
 use borrow.Author.Needs.{needs}
-use Rattle.index.proofs.ways.route_bics_of.Statement.{statement}
-use Rattle.index.proofs.ways.route_bics_of.Tie as tie
+use Rattle.index.proofs.route_bics_of.Statement.{statement}
+use Rattle.index.proofs.route_bics_of.Tie as tie
 
 abbrev Inv-loop : tie.InvT-loop
 Inv-loop rows routes bics₀ i₀ bics i =

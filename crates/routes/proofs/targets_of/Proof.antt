@@ -1,4 +1,4 @@
--- `index::ways::targets_of` meets its contract. The loop's invariant: the first i rows are written. Assumes nothing.
+-- `routes::targets_of` meets its contract. The loop's invariant: the first i rows are written. Assumes nothing.
 use mathlib.Core.Path.{_≡_, refl, _∙_, ap}
 use mathlib.Core.List.{List}
 use Prim.Native.Nat.{ℕ, _≤_, _-_}
@@ -9,10 +9,10 @@ use Rattle.fields.specs.UpTo.{rowsTo}
 use Rattle.dayfile.specs.Roster.{targetKind, targetNumber}
 use Rattle.dayfile.specs.Route.{targetIn}
 use Rattle.dayfile.specs.declared.roster.Route.{Route}
-use Rattle.index.specs.Ways.{kindsOf, numbersOf}
+use Rattle.routes.specs.Ways.{kindsOf, numbersOf}
 use borrow.Author.Needs.{needs}
-use Rattle.index.proofs.ways.targets_of.Statement.{statement}
-use Rattle.index.proofs.ways.targets_of.Tie as tie
+use Rattle.routes.proofs.targets_of.Statement.{statement}
+use Rattle.routes.proofs.targets_of.Tie as tie
 
 abbrev kindsTo : List Route → ℕ → List ℕ
 kindsTo routes n = rowsTo 64 0 (λ i. targetKind (targetIn routes i)) n
