@@ -1,9 +1,9 @@
--- The number that characters spell: written behind another, in parts, and by its remainder. Assumes nothing.
+-- The number that characters spell: written behind another, and in parts. Assumes nothing.
 use mathlib.Core.Path.{_≡_, refl, sym, _∙_, ap}
 use mathlib.Core.Bool.{cond}
 use mathlib.Core.List.{List, [], _∷_, _++_, append-assoc, append-nil}
 use Prim.Native.Nat.{ℕ, _+_, _*_, _/_, _%_, _^_, _≤_, _<_}
-use native.Mathlib.Nat.{add-assoc, add-mul, mul-assoc, mul-right-comm, zero-mul, zero-add, div-add-mod', mul-add-mod-self-right}
+use native.Mathlib.Nat.{add-assoc, add-mul, mul-assoc, zero-mul, zero-add}
 use native.Mathlib.Omega.{arith}
 use borrow.Author.Tests.{lt-ltb, le-ltb}
 use lib.Dec.{ltb}
@@ -39,16 +39,6 @@ nothing-behind n = omega arith
 -- the first four behind the others
 pub four-behind : (s : List ℕ) → behind (behind 0 (drop 4 s)) (take 4 s) ≡ readDecimal (digits (moved s))
 four-behind s = sym (behind-append 0 (drop 4 s) (take 4 s)) ∙ simp (zero-mul, zero-add)
-
--- a remainder serves for the number
-pub mod-scaled : (n m p d : ℕ) → (n % m * p + d) % m ≡ (n * p + d) % m
-mod-scaled n m p d = sym (ap (λ (x : ℕ). x % m) split ∙ mul-add-mod-self-right (n / m * p) m (n % m * p + d))
-  where
-    split : n * p + d ≡ n / m * p * m + (n % m * p + d)
-    split =
-        ap (λ (x : ℕ). x * p + d) (sym (div-add-mod' n m))
-        ∙ ap (λ (x : ℕ). x + d) (add-mul (n / m * m) (n % m) p ∙ ap (λ (x : ℕ). x + n % m * p) (mul-right-comm (n / m) m p))
-        ∙ add-assoc (n / m * p * m) (n % m * p) d
 
 one-digit : (v : ℕ) → v < 10 → cond (ltb v 10) (v ∷ []) (v / 10 ∷ v % 10 ∷ []) ≡ v ∷ []
 one-digit v h = rw (lt-ltb v 10 h)

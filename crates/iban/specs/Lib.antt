@@ -1,3 +1,2 @@
 pub mod Iban
 pub mod Spelling
-pub mod Carried

@@ -1,7 +1,6 @@
 // The check of an IBAN as it stands in a ticket, padded with zero bytes: every byte of the field is looked at, and where the padding
 // begins is never asked. A caller hands in the whole field. The check for C is in `codes`, and goes through this one.
 mod pairs;
-mod remainder;
 
 use classes::Class;
 ghost use mathlib.Core.Path.{_≡_};

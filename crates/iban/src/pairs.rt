@@ -1,5 +1,4 @@
 // The number that the characters of a padded IBAN spell, two bytes at a time.
-use super::remainder;
 ghost use mathlib.Core.Path.{_≡_};
 ghost use Prim.Native.Nat.{_≤_};
 ghost use lib.ListN.{length};

@@ -1,10 +1,10 @@
--- `iban::remainder::last` meets its contract. Assumes nothing.
+-- `remainder::last` meets its contract. Assumes nothing.
 use Prim.Native.Nat.{_*_, _^_, _≤_}
 use native.Mathlib.Omega.{arith}
-use Rattle.iban.proofs.Carrying.{most}
+use Rattle.remainder.proofs.Carrying.{most}
 use borrow.Author.Needs.{needs}
-use Rattle.iban.proofs.remainder.last.Statement.{statement}
-use Rattle.iban.proofs.remainder.last.Tie as tie
+use Rattle.remainder.proofs.last.Statement.{statement}
+use Rattle.remainder.proofs.last.Tie as tie
 
 product : (c : tie.Start) → c .args .n * c .args .scale ≤ 9999 * (10 ^ 8)
 product c = most (c .args .n) (c .args .scale) 9999 (10 ^ 8) (omega arith) (c .pre .1)

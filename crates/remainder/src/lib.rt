@@ -3,7 +3,7 @@
 // divided so often that 64 bits suffice.
 ghost use mathlib.Core.Path.{_≡_};
 ghost use Prim.Native.Nat.{_+_, _*_, _%_, _^_, _≤_, _<_};
-ghost use Rattle.iban.specs.Carried.{Scaling, Fitting, carried, scaled, carriedMoved};
+ghost use Rattle.remainder.specs.Carried.{Scaling, Fitting, carried, scaled, carriedMoved};
 
 fn wide(n: u16) -> u64
     ensures { λ r. ⌜ r ≡ n ⌝ }

@@ -1,12 +1,12 @@
--- `iban::remainder::four` meets its contract. Assumes nothing.
+-- `remainder::four` meets its contract. Assumes nothing.
 use mathlib.Core.Path.{_≡_, _∙_, ap₂}
 use Prim.Native.Nat.{_+_, _*_, _^_, _≤_}
 use denote.Ref.{now}
 use native.Mathlib.Omega.{arith}
-use Rattle.iban.proofs.Carrying.{most, carried-parts}
+use Rattle.remainder.proofs.Carrying.{most, carried-parts}
 use borrow.Author.Needs.{needs}
-use Rattle.iban.proofs.remainder.four.Statement.{statement}
-use Rattle.iban.proofs.remainder.four.Tie as tie
+use Rattle.remainder.proofs.four.Statement.{statement}
+use Rattle.remainder.proofs.four.Tie as tie
 
 product : (c : tie.After-two-scale) → c .before .two .result * c .two-scale .result ≤ 99999999 * 10 ^ 8
 product c =

@@ -1,11 +1,11 @@
--- `iban::remainder::three_scale` meets its contract. Assumes nothing.
+-- `remainder::three_scale` meets its contract. Assumes nothing.
 use mathlib.Core.Path.{_≡_, ap₂}
 use Prim.Native.Nat.{_+_, _*_, _^_, _≤_}
 use native.Mathlib.Omega.{arith}
-use Rattle.iban.proofs.Carrying.{most}
+use Rattle.remainder.proofs.Carrying.{most}
 use borrow.Author.Needs.{needs}
-use Rattle.iban.proofs.remainder.three_scale.Statement.{statement}
-use Rattle.iban.proofs.remainder.three_scale.Tie as tie
+use Rattle.remainder.proofs.three_scale.Statement.{statement}
+use Rattle.remainder.proofs.three_scale.Tie as tie
 
 product : (c : tie.After-wide) → c .before .before .two-scale .result * c .wide .result ≤ 10 ^ 8 * 10 ^ 4
 product c =

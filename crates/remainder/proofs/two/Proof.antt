@@ -1,12 +1,12 @@
--- `iban::remainder::two` meets its contract. Assumes nothing.
+-- `remainder::two` meets its contract. Assumes nothing.
 use mathlib.Core.Path.{_≡_}
 use Prim.Native.Nat.{_+_, _*_, _^_, _≤_, _<_}
 use native.Mathlib.Nat.{zero-mul, zero-add, add-zero}
 use native.Mathlib.Omega.{arith}
-use Rattle.iban.proofs.Carrying.{most}
+use Rattle.remainder.proofs.Carrying.{most}
 use borrow.Author.Needs.{needs}
-use Rattle.iban.proofs.remainder.two.Statement.{statement}
-use Rattle.iban.proofs.remainder.two.Tie as tie
+use Rattle.remainder.proofs.two.Statement.{statement}
+use Rattle.remainder.proofs.two.Tie as tie
 
 product : (c : tie.After-wide2) → c .before .before .wide .result * c .wide2 .result ≤ 9999 * 10 ^ 4
 product c =

@@ -1,11 +1,11 @@
--- `iban::remainder::small` meets its contract. Assumes nothing.
+-- `remainder::small` meets its contract. Assumes nothing.
 use mathlib.Core.Path.{refl}
 use Prim.Native.Nat.{_*_, _≤_}
 use native.Mathlib.Omega.{arith}
-use Rattle.iban.proofs.Carrying.{most}
+use Rattle.remainder.proofs.Carrying.{most}
 use borrow.Author.Needs.{needs}
-use Rattle.iban.proofs.remainder.small.Statement.{statement}
-use Rattle.iban.proofs.remainder.small.Tie as tie
+use Rattle.remainder.proofs.small.Statement.{statement}
+use Rattle.remainder.proofs.small.Tie as tie
 
 product : (c : tie.Start) → c .args .n * c .args .scale ≤ 96 * 96
 product c = most (c .args .n) (c .args .scale) 96 96 (omega arith) (omega arith)

@@ -1,11 +1,11 @@
--- `iban::remainder::three` meets its contract. Assumes nothing.
+-- `remainder::three` meets its contract. Assumes nothing.
 use mathlib.Core.Path.{_≡_, _∙_, ap, ap₂}
 use Prim.Native.Nat.{ℕ, _+_, _*_, _^_, _≤_, _<_}
 use native.Mathlib.Omega.{arith}
-use Rattle.iban.proofs.Carrying.{most}
+use Rattle.remainder.proofs.Carrying.{most}
 use borrow.Author.Needs.{needs}
-use Rattle.iban.proofs.remainder.three.Statement.{statement}
-use Rattle.iban.proofs.remainder.three.Tie as tie
+use Rattle.remainder.proofs.three.Statement.{statement}
+use Rattle.remainder.proofs.three.Tie as tie
 
 product : (c : tie.After-wide) → c .before .before .two .result * c .wide .result ≤ 99999999 * 10 ^ 4
 product c =

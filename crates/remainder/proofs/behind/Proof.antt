@@ -1,10 +1,10 @@
--- `iban::remainder::behind` meets its contract. Assumes nothing.
+-- `remainder::behind` meets its contract. Assumes nothing.
 use Prim.Native.Nat.{_*_, _^_, _≤_}
 use native.Mathlib.Omega.{arith}
-use Rattle.iban.proofs.Carrying.{most}
+use Rattle.remainder.proofs.Carrying.{most}
 use borrow.Author.Needs.{needs}
-use Rattle.iban.proofs.remainder.behind.Statement.{statement}
-use Rattle.iban.proofs.remainder.behind.Tie as tie
+use Rattle.remainder.proofs.behind.Statement.{statement}
+use Rattle.remainder.proofs.behind.Tie as tie
 
 product : (c : tie.Start) → c .args .n * c .args .scale ≤ 96 * (10 ^ 16)
 product c = most (c .args .n) (c .args .scale) 96 (10 ^ 16) (omega arith) (c .pre .1)

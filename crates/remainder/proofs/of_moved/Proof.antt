@@ -1,9 +1,9 @@
--- `iban::remainder::of_moved` meets its contract. Assumes nothing.
+-- `remainder::of_moved` meets its contract. Assumes nothing.
 use denote.Ref.{now}
-use Rattle.iban.proofs.Carrying.{moved-carried}
+use Rattle.remainder.proofs.Carrying.{moved-carried}
 use borrow.Author.Needs.{needs}
-use Rattle.iban.proofs.remainder.of_moved.Statement.{statement}
-use Rattle.iban.proofs.remainder.of_moved.Tie as tie
+use Rattle.remainder.proofs.of_moved.Statement.{statement}
+use Rattle.remainder.proofs.of_moved.Tie as tie
 
 pub of-moved-spec : {M : Type 1} → statement M
 of-moved-spec =
