@@ -1,13 +1,14 @@
 -- Bytes copied into the front of zeroes are padded, and the value of the padded field is the bytes where they don't end in a zero.
 -- Assumes nothing.
-use mathlib.Core.Path.{_≡_, refl, sym, _∙_, ap}
+use mathlib.Core.Path.{_≡_, refl, sym, _∙_, ap, ap₂}
 use mathlib.Core.Bool.{false}
-use mathlib.Core.List.{List, _++_}
+use mathlib.Core.List.{List, _++_, append-assoc}
 use Prim.Native.Nat.{ℕ, zero, suc, _+_, _-_, _≤_}
 use native.Mathlib.Nat.{sub-zero}
 use native.Mathlib.Omega.{arith}
 use lib.Dec.{eqb}
-use lib.ListN.{length, getD, drop, replicate}
+use lib.ListN.{length, getD, take, drop, replicate, length-append, length-drop, take-append-drop}
+use lib.Seq.{take-take, take-append-le, take-all, drop-at, drop-drop, length-take-le}
 use Rattle.fields.specs.Text.{unpadded, padded}
 use Rattle.fields.proofs.Padding.{whole, unpadded-padded}
 
@@ -26,3 +27,41 @@ filled w s e =
 
 pub filled-value : (w : ℕ) (s : List ℕ) (i : ℕ) → i + 1 ≡ length s → eqb (getD s i 0) 0 ≡ false → unpadded (padded w s) ≡ s
 filled-value w s i h e = unpadded-padded w s ∙ whole s i h e
+
+-- bytes copied by sixteens, from their start and up to their end
+module _ {first : List ℕ} (s : List ℕ) (least : 16 ≤ length s) (from-start : first ≡ take 16 s) where
+  abbrev tail : ℕ
+  tail = length s - 16
+
+  abbrev halfway : List ℕ
+  halfway = first ++ zeros 18
+
+  first-long : length first ≡ 16
+  first-long = ap length from-start ∙ length-take-le 16 s least
+
+  pub halfway-long : length halfway ≡ 34
+  halfway-long = length-append first (zeros 18) ∙ ap (λ (n : ℕ). n + 18) first-long
+
+  front : length s ≤ 32 → take tail halfway ≡ take tail s
+  front most =
+      take-append-le tail first (zeros 18) (let e = first-long in omega arith)
+      ∙ ap (take tail) from-start
+      ∙ take-take tail 16 s (omega arith)
+
+  back : length s ≤ 32 → drop (length s - tail) (drop tail halfway) ≡ zeros (34 - length s)
+  back most =
+      drop-drop (length s - tail) tail halfway
+      ∙ (let e : tail + (length s - tail) ≡ 16 + tail = omega arith in ap (λ (k : ℕ). drop k halfway) e)
+      ∙ sym (drop-drop tail 16 halfway)
+      ∙ ap (drop tail) (drop-at first (zeros 18) 16 first-long)
+      ∙ drop-zeros 18 tail
+      ∙ (let e : 18 - tail ≡ 34 - length s = omega arith in ap zeros e)
+
+  pub ends-filled : {last : List ℕ} → length s ≤ 32 → last ≡ take (length s - tail) (drop tail s)
+      → take tail halfway ++ (last ++ drop (length s - tail) (drop tail halfway)) ≡ padded 34 s
+  ends-filled {last} most to-its-end =
+      let e : last ≡ drop tail s = to-its-end ∙ take-all (length s - tail) (drop tail s) (let l = length-drop tail s in omega arith) in
+      ap₂ (λ (a b : List ℕ). a ++ (last ++ b)) (front most) (back most)
+      ∙ ap (λ (b : List ℕ). take tail s ++ (b ++ zeros (34 - length s))) e
+      ∙ sym (append-assoc (take tail s) (drop tail s) (zeros (34 - length s)))
+      ∙ ap (λ (u : List ℕ). u ++ zeros (34 - length s)) (take-append-drop tail s)

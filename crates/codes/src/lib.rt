@@ -3,8 +3,9 @@
 // check of a TxId as it stands in a ticket, padded with zero bytes; that of an IBAN is in `iban`.
 use classes::Class;
 ghost use mathlib.Core.Path.{_≡_};
+ghost use Prim.Native.Nat.{_≤_};
 ghost use lib.ListN.{length};
-ghost use Rattle.fields.specs.Text.{unpadded};
+ghost use Rattle.fields.specs.Text.{unpadded, padded};
 ghost use Rattle.classes.specs.Answer.{answer};
 ghost use Rattle.iban.specs.Iban.{isIban};
 ghost use Rattle.codes.specs.Bic.{isBic};
@@ -24,6 +25,44 @@ pub extern "C" fn zolfigar_bic_ok(s: &[u8]) -> u8
     (letters & area & place & branch) as u8
 }
 
+// Bytes with zeroes behind them.
+fn copied(s: &[u8]) -> [u8; 34]
+    requires { ⌜ length (now s) ≤ 34 ⌝ }
+    ensures { λ r. ⌜ r ≡ padded 34 (now (s .entry)) ⌝ }
+{
+    let n = s.len();
+    let mut field = [0u8; 34];
+    fields::copy(s, &mut field[0..n]);
+    field
+}
+
+// The same by sixteens, from their start and up to their end, which takes the machine two stores. The two parts may overlap.
+fn copied_from_ends(s: &[u8]) -> [u8; 34]
+    requires { ⌜ (16 ≤ length (now s)) × (length (now s) ≤ 32) ⌝ }
+    ensures { λ r. ⌜ r ≡ padded 34 (now (s .entry)) ⌝ }
+{
+    let n = s.len();
+    let tail = n - 16;
+    let mut field = [0u8; 34];
+    fields::copy(&s[0..16], &mut field[0..16]);
+    fields::copy(&s[tail..n], &mut field[tail..n]);
+    field
+}
+
+// Most IBANs have 16 to 32 characters.
+fn field_of(s: &[u8]) -> [u8; 34]
+    requires { ⌜ length (now s) ≤ 34 ⌝ }
+    ensures { λ r. ⌜ r ≡ padded 34 (now (s .entry)) ⌝ }
+{
+    if s.len() < 16 {
+        return copied(s);
+    }
+    if 32 < s.len() {
+        return copied(s);
+    }
+    copied_from_ends(s)
+}
+
 // Padded and then checked as in a ticket. Bytes that end in a zero are turned away before: their padded field would have another
 // value.
 #[no_mangle]
@@ -31,7 +70,7 @@ pub extern "C" fn zolfigar_iban_ok(s: &[u8]) -> u8
     ensures { λ r. ⌜ r ≡ answer (isIban (now (s .entry))) ⌝ }
 {
     let n = s.len();
-    if n < 1 {
+    if n < 5 {
         return 0;
     }
     if 34 < n {
@@ -40,8 +79,7 @@ pub extern "C" fn zolfigar_iban_ok(s: &[u8]) -> u8
     if s[n - 1] == 0 {
         return 0;
     }
-    let mut field = [0u8; 34];
-    fields::copy(s, &mut field[0..n]);
+    let field = field_of(s);
     iban::iban_ok(&field) as u8
 }
 
