@@ -1,4 +1,0 @@
-pub mod Cases
-pub mod Meaning
-pub mod Fitting
-pub mod Moving
