@@ -6,6 +6,7 @@ pub mod Tick
 pub mod Find
 pub mod Terms
 pub mod Refusal
+pub mod Checks
 pub mod Cut
 pub mod Decision
 pub mod Step

@@ -1,10 +1,12 @@
-// The types of the book, and of what is found, asked and decided when a ticket is handed in. There is no code here: specs/ says what
-// every ticket does to a book.
+// The types of the book, and of what is found, asked, checked and decided when a ticket is handed in. There is no code here: specs/ says
+// what every ticket does to a book.
+pub mod checks;
 pub mod constants;
 pub mod decision;
 pub mod finding;
 pub mod refusal;
 pub mod terms;
+pub mod verdict;
 
 use dayfile::roster::Roster;
 

@@ -1,0 +1,206 @@
+// Checks 12 to 22, a function each. Each equals a definition of `rules`, in Checks.antt.
+use dayfile::route::Followed;
+use fields::Found;
+use orders::status;
+use rules::Status;
+use rules::checks::Confirming;
+use rules::checks::Cutting;
+use rules::checks::Funds;
+use rules::checks::Held;
+use rules::checks::Limit;
+use rules::checks::Party;
+use rules::checks::Payee;
+use rules::checks::Sender;
+use rules::checks::Space;
+use rules::checks::Standing;
+use rules::checks::Sum;
+use rules::checks::Txid;
+use rules::decision::Move;
+ghost use Prim.Native.Nat.{_≤_};
+ghost use mathlib.Core.Path.{_≡_};
+ghost use Rattle.dayfile.specs.Route.{reached};
+ghost use Rattle.rules.specs.Cover.{mostTotal};
+ghost use Rattle.rules.specs.Checks.{senderCheck, newCheck, payeeCheck, spaceCheck, heldCheck, partyCheck, standing, waitingCheck, unmarkedCheck, askedCheck, sumCheck, fundsCheck, cutCheck, confirmCheck, brings, limitCheck};
+
+const MOST_ORDERS: usize = 256;
+
+const MOST_TOTAL: u64 = 1_000_000_000_000_000_000;
+
+// 12. Sender no participant.
+pub fn sender_check(sender: Found) -> Sender
+    ensures { λ r. ⌜ r ≡ senderCheck sender ⌝ }
+{
+    match sender {
+        Found::At(p) => Sender::Is(p),
+        Found::Nothing => Sender::NoParticipant,
+    }
+}
+
+// 13. Order: TxId already held.
+pub fn new_check(order: Found) -> Txid
+    ensures { λ r. ⌜ r ≡ newCheck order ⌝ }
+{
+    match order {
+        Found::At(_) => Txid::AlreadyHeld,
+        Found::Nothing => Txid::New,
+    }
+}
+
+fn reached(way: Followed) -> usize
+    ensures { λ r. ⌜ r ≡ reached way ⌝ }
+{
+    match way {
+        Followed::At(p, _) => p,
+        Followed::Nowhere => 0,
+    }
+}
+
+// 14. Order: no route row with the payee BIC.
+pub fn payee_check(route: Found, way: Followed) -> Payee
+    ensures { λ r. ⌜ r ≡ payeeCheck route way ⌝ }
+{
+    match route {
+        Found::At(_) => Payee::Reached(reached(way)),
+        Found::Nothing => Payee::NoRoute,
+    }
+}
+
+// 15. Order: 256 held.
+pub fn space_check(count: usize) -> Space
+    ensures { λ r. ⌜ r ≡ spaceCheck count ⌝ }
+{
+    let full = MOST_ORDERS <= count;
+    if full {
+        return Space::Full;
+    }
+    Space::Left
+}
+
+// 16. Kinds 4 to 8: TxId not held.
+pub fn held_check(order: Found) -> Held
+    ensures { λ r. ⌜ r ≡ heldCheck order ⌝ }
+{
+    match order {
+        Found::At(i) => Held::Number(i),
+        Found::Nothing => Held::NotHeld,
+    }
+}
+
+// 17. Kinds 4 to 8: sender is the wrong party.
+pub fn party_check(sender: usize, answers: usize) -> Party
+    ensures { λ r. ⌜ r ≡ partyCheck sender answers ⌝ }
+{
+    let right = sender == answers;
+    if right {
+        return Party::Right;
+    }
+    Party::Wrong
+}
+
+fn standing(met: bool) -> Standing
+    ensures { λ r. ⌜ r ≡ standing met ⌝ }
+{
+    if met {
+        return Standing::AsNeeded;
+    }
+    Standing::NotAsNeeded
+}
+
+// 18. Kinds 4 to 7: status or mark not as the step needs. Yes and no to Waiting.
+pub fn waiting_check(s: Status) -> Standing
+    ensures { λ r. ⌜ r ≡ waitingCheck s ⌝ }
+{
+    standing(status::is_waiting(s))
+}
+
+// 18. Recall of Settled with mark none.
+pub fn unmarked_check(s: Status) -> Standing
+    ensures { λ r. ⌜ r ≡ unmarkedCheck s ⌝ }
+{
+    standing(status::is_unmarked(s))
+}
+
+// 18. Return and decline of Settled, asked.
+pub fn asked_check(s: Status) -> Standing
+    ensures { λ r. ⌜ r ≡ askedCheck s ⌝ }
+{
+    standing(status::is_asked(s))
+}
+
+// 19. Return: amount differs from the order's.
+pub fn sum_check(n: u64, amount: u64) -> Sum
+    ensures { λ r. ⌜ r ≡ sumCheck n amount ⌝ }
+{
+    let whole = n == amount;
+    if whole {
+        return Sum::Whole;
+    }
+    Sum::Differs
+}
+
+// 20. Kinds 2, 3, 6: available of payer or drawer (for 6 the payee) below the amount.
+pub fn funds_check(available: u64, n: u64) -> Funds
+    ensures { λ r. ⌜ r ≡ fundsCheck available n ⌝ }
+{
+    let short = available < n;
+    if short {
+        return Funds::TooLittle;
+    }
+    Funds::Enough
+}
+
+// 21. Cut with held or open debit anywhere.
+pub fn cut_check(unconfirmed: bool) -> Cutting
+    ensures { λ r. ⌜ r ≡ cutCheck unconfirmed ⌝ }
+{
+    if unconfirmed {
+        return Cutting::Unconfirmed;
+    }
+    Cutting::AllConfirmed
+}
+
+// 21. Confirm with neither, or an amount its rule excludes.
+pub fn confirm_check(held: u64, debit: u64, n: u64) -> Confirming
+    ensures { λ r. ⌜ r ≡ confirmCheck held debit n ⌝ }
+{
+    let nothing_held = held == 0;
+    let within_debit = (debit != 0) & (n <= debit);
+    let all_held = n == held;
+    if nothing_held {
+        if within_debit {
+            return Confirming::By(Move::Debit);
+        }
+        return Confirming::Excluded;
+    }
+    if all_held {
+        return Confirming::By(Move::Credit);
+    }
+    Confirming::Excluded
+}
+
+fn brings(how: Move) -> bool
+    ensures { λ r. ⌜ r ≡ brings how ⌝ }
+{
+    match how {
+        Move::Stay => false,
+        Move::Give => true,
+        Move::Draw => false,
+        Move::Reserve => false,
+        Move::Release => false,
+        Move::Spend => false,
+        Move::Credit => false,
+        Move::Debit => true,
+    }
+}
+
+// 22. Cover in or confirmed debit taking available + reserved + held of all above 10^18.
+pub fn limit_check(how: Move, total: u64, n: u64) -> Limit
+    requires { ⌜ total ≤ mostTotal ⌝ }
+    ensures { λ r. ⌜ r ≡ limitCheck how total n ⌝ }
+{
+    let above = brings(how) & (MOST_TOTAL - total < n);
+    if above {
+        return Limit::Above;
+    }
+    Limit::Within
+}

@@ -1,0 +1,75 @@
+// The answers of the checks 12 to 22, an enum for each. The case that passes carries what the checks behind it and the step take from it.
+// specs/Checks.antt says when each is given, and the refusal's number.
+use super::decision::Move;
+
+// 12: the participant's number.
+pub enum Sender {
+    Is(usize),
+    NoParticipant,
+}
+
+// 13
+pub enum Txid {
+    New,
+    AlreadyHeld,
+}
+
+// 14: the participant that the row leads to.
+pub enum Payee {
+    Reached(usize),
+    NoRoute,
+}
+
+// 15
+pub enum Space {
+    Left,
+    Full,
+}
+
+// 16: the order's number.
+pub enum Held {
+    Number(usize),
+    NotHeld,
+}
+
+// 17
+pub enum Party {
+    Right,
+    Wrong,
+}
+
+// 18
+pub enum Standing {
+    AsNeeded,
+    NotAsNeeded,
+}
+
+// 19
+pub enum Sum {
+    Whole,
+    Differs,
+}
+
+// 20
+pub enum Funds {
+    Enough,
+    TooLittle,
+}
+
+// 21, of a cut
+pub enum Cutting {
+    AllConfirmed,
+    Unconfirmed,
+}
+
+// 21, of a confirm: as a confirmed credit or debit.
+pub enum Confirming {
+    By(Move),
+    Excluded,
+}
+
+// 22
+pub enum Limit {
+    Within,
+    Above,
+}

@@ -1,0 +1,4 @@
+pub mod Cases
+pub mod Meaning
+pub mod Fitting
+pub mod Moving
