@@ -1,2 +1,4 @@
 pub mod Index
 pub mod Turn
+pub mod Fitting
+pub mod Carrying

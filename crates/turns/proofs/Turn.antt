@@ -5,8 +5,8 @@
 --     Expired         the expiries of such a ticket are done, all of them
 --     expiries-done   the loop over orders has ended: at the last order, or at one that is young
 --     turn            its step, for any verdict that is the one on what is sought
-use mathlib.Core.Path.{_≡_, sym, _∙_, ap, ap₂, subst}
-use mathlib.Core.Bool.{Bool, true, false}
+use mathlib.Core.Path.{_≡_, sym, _∙_, ap, subst}
+use mathlib.Core.Bool.{false}
 use mathlib.Core.List.{List, _++_}
 use mathlib.Core.Logic.{_⊎_}
 use Prim.Native.Nat.{ℕ, _+_, _-_, _*_, _≤_, _<_}
