@@ -3,7 +3,7 @@
 --     reportsOf    what is told
 --     Fits         what the code needs of a verdict, so that no index, sum or difference of it leaves its range
 --     fits         the verdict on what is sought has it
-use mathlib.Core.Path.{_≡_, refl, sym, _∙_, ap, subst}
+use mathlib.Core.Path.{_≡_, refl, sym, _∙_, ap, ap₂, subst}
 use mathlib.Core.List.{List}
 use Prim.Native.Nat.{ℕ, _-_, _≤_, _<_}
 use native.Mathlib.Omega.{arith}
@@ -89,15 +89,17 @@ module _ {b : Book} {t : List ℕ} {e : Entry} {n₀ : ℕ} {text₀ : List ℕ}
         count = let l = s .orders .count in omega arith;
       }))
 
-  -- both moves
+  -- the covers after the first move, and after both, whatever becomes of the order
   pub first-moved : movedBy (v .first) (v .amount) (c .covers) ≡ transferred (transferBy (v .first) (v .amount)) (c .covers)
   first-moved = sym (transferred-by (v .first) (v .amount) (c .covers) (put .first))
 
-  pub both-moved : movedBy (v .second) (v .amount) (movedBy (v .first) (v .amount) (c .covers))
-      ≡ transferred (transferBy (v .second) (v .amount)) (transferred (transferBy (v .first) (v .amount)) (c .covers))
-  both-moved =
+  pub both-moved : (d : Does)
+      → movedBy (v .second) (v .amount) (movedBy (v .first) (v .amount) (c .covers))
+      ≡ transferred (decidedBy d (sought c e t) v .second) (transferred (decidedBy d (sought c e t) v .first) (c .covers))
+  both-moved d =
       sym (transferred-by (v .second) (v .amount) (movedBy (v .first) (v .amount) (c .covers)) (put .second))
       ∙ ap (transferred (transferBy (v .second) (v .amount))) first-moved
+      ∙ ap₂ (λ (y z : Transfer). transferred z (transferred y (c .covers))) (sym (first-as d (sought c e t) v)) (sym (second-as d (sought c e t) v))
 
   pub fits : Fits c v
   fits =
