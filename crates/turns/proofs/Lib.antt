@@ -1,5 +1,6 @@
 pub mod Index
 pub mod Turn
+pub mod Facts
 pub mod Fitting
 pub mod Carrying
 pub mod Ending

@@ -5,7 +5,7 @@
 --     Expired         the expiries of such a ticket are done, all of them
 --     expiries-done   the loop over orders has ended: at the last order, or at one that is young
 --     turn            its step, for any verdict that is the one on what is sought
-use mathlib.Core.Path.{_≡_, sym, _∙_, ap, subst}
+use mathlib.Core.Path.{_≡_, refl, sym, _∙_, ap, subst}
 use mathlib.Core.Bool.{false}
 use mathlib.Core.List.{List, _++_}
 use mathlib.Core.Logic.{_⊎_}
@@ -19,6 +19,7 @@ use Rattle.ticket.specs.Reading.{reading}
 use Rattle.ticket.specs.declared.Fields.{Fields}
 use Rattle.ticket.specs.declared.Reading.{Reading}
 use Rattle.ticket.specs.declared.Reading.the-variants.{Read, Refused}
+use Rattle.ticket.specs.declared.kinds.Kind.{Kind}
 use Rattle.report.specs.Layout.{reportsBytes}
 use Rattle.rules.specs.Book.{orderOf}
 use Rattle.rules.specs.Cover.{mostTotal}
@@ -43,7 +44,7 @@ use Rattle.intake.specs.declared.Entry.{Entry}
 use Rattle.intake.specs.declared.Judged.{Judged}
 use Rattle.intake.proofs.Taking.{step-taken}
 use Rattle.intake.proofs.Turning as turning
-use Rattle.intake.proofs.Looping.{Sweeping, all-swept}
+use Rattle.intake.proofs.Looping.{Sweeping, begun, all-swept}
 use Rattle.intake.proofs.Seeking.{swept-txid}
 use Rattle.intake.proofs.Fitting.{Entered, entered, judged-applicable}
 use Rattle.intake.proofs.Summing.{allOf, all-total, swept-all}
@@ -72,6 +73,13 @@ pub record Taken (b : Book) (t : List ℕ) (e : Entry) : Type 0 where
   pub is : e ≡ entryOf (b .clock) t
   pub passes : e .refusal ≡ 0
 
+-- from what is seen of it, field by field
+pub taken-as : {b : Book} {t : List ℕ} {kind : Kind} {time amount : ℕ} → Sound b → entryOf (b .clock) t .refusal ≡ 0
+    → kind ≡ entryOf (b .clock) t .kind → time ≡ entryOf (b .clock) t .time → amount ≡ entryOf (b .clock) t .amount
+    → Taken b t (record { refusal = 0; kind = kind; time = time; amount = amount })
+taken-as s refusal is-kind is-time is-amount =
+    record { sound = s; is = λ i. record { refusal = sym refusal i; kind = is-kind i; time = is-time i; amount = is-amount i }; passes = refl }
+
 module _ {b : Book} {t : List ℕ} {e : Entry} (h : Taken b t e) where
   -- the clock does not fall
   pub clock-rises : b .clock ≤ e .time
@@ -80,9 +88,12 @@ module _ {b : Book} {t : List ℕ} {e : Entry} (h : Taken b t e) where
   pub start-sound : Sound (atTime b (e .time))
   start-sound = subst (λ (x : Entry). Sound (atTime b (x .time))) (sym (h .is)) (turning.start-sound b (h .sound) t)
 
-  -- in the loop over orders, and behind it
-  pub loop-count : {n₀ : ℕ} {text₀ : List ℕ} {c : Book} {m n : ℕ} {text : List ℕ} → Sweeping (atTime b (e .time)) n₀ text₀ c m n text → m ≤ b .count
-      → c .count ≡ b .count
+  -- the loop over orders begins at the mark; in it and behind it no order comes or goes
+  pub loop-begun : {n : ℕ} {text : List ℕ} {m : ℕ} → Passed m b → Sweeping (atTime b (e .time)) n text (atTime b (e .time)) m n text
+  loop-begun {n} {text} {m} p = begun (atTime b (e .time)) start-sound n text m (record { none = λ i l. p .none i l })
+
+  pub loop-count : {n₀ : ℕ} {text₀ : List ℕ} {c : Book} {m n : ℕ} {text : List ℕ} → Sweeping (atTime b (e .time)) n₀ text₀ c m n text
+      → m ≤ b .count → c .count ≡ b .count
   loop-count {m = m} w few = ap (λ (d : Book). d .count) (w .book) ∙ swept (atTime b (e .time)) start-sound m few .count
 
 -- the expiries are done: c is the book, m the mark, n reports stand in the text then, n₀ before them
@@ -93,15 +104,17 @@ pub record Expired (b : Book) (t : List ℕ) (e : Entry) (n₀ : ℕ) (text₀ :
   pub all : sweepTo (atTime b (e .time)) m ≡ sweepTo (atTime b (e .time)) (b .count)
 
 -- no order is left to be looked at, or the next one is young
-pub expiries-done : {b : Book} {t : List ℕ} {e : Entry} {n₀ : ℕ} {text₀ : List ℕ} {c : Book} {m₀ m n : ℕ} {text : List ℕ} → Taken b t e → Passed m₀ b
-    → Sweeping (atTime b (e .time)) n₀ text₀ c m n text → m₀ ≤ m → m ≤ b .count
-    → (b .count ≤ m) ⊎ (c .clock - orderOf (c .orders) m .time < 20) → Expired b t e n₀ text₀ c m n text
-expiries-done {b} {t} {e} {n₀} {text₀} h first w low high stops =
+pub expiries-done : {b : Book} {t : List ℕ} {e : Entry} {n₀ : ℕ} {text₀ : List ℕ} {c : Book} {m₀ m n : ℕ} {text : List ℕ} → Taken b t e
+    → Passed m₀ b → Sweeping (atTime b (e .time)) n₀ text₀ c m n text → m₀ ≤ m → m ≤ b .count
+    → (c .count ≤ m) ⊎ (c .clock - orderOf (c .orders) m .time < 20) → Expired b t e n₀ text₀ c m n text
+expiries-done {b} {t} {e} {n₀} {text₀} {c} {m₀} {m} h first w low high stops =
     record {
       taken = h;
       sweeping = w;
       few = high;
-      all = all-swept (atTime b (e .time)) (start-sound h) n₀ text₀ 0 w (record { none = λ i l. first .none i l }) low high stops (omega arith);
+      all =
+          all-swept (atTime b (e .time)) (start-sound h) n₀ text₀ 0 w (record { none = λ i l. first .none i l }) low high
+          (subst (λ (x : ℕ). (x ≤ m) ⊎ (c .clock - orderOf (c .orders) m .time < 20)) (loop-count h w high) stops) (omega arith);
     }
 
 module _ {b : Book} {t : List ℕ} {e : Entry} {n₀ : ℕ} {text₀ : List ℕ} {c : Book} {m n : ℕ} {text : List ℕ}
