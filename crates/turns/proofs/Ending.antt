@@ -1,18 +1,13 @@
--- The end of a turn: what the code has then is what the step of the rules gives, a law for each way it ends. Assumes nothing.
---     Done           one turn was one step of the rules
---     turned-down    refused by 7 to 11
+-- The ends of a turn: from what the code has then to what the step of the rules gives, a law for each way it ends. Assumes nothing.
 --     did-nothing    no order and no book changes but by the moves
 --     opened         a new order
 --     changed        the order that the ticket is about has another status
 --     cut            all covers are cut
---     answer-is      the answer is that of the step
 use mathlib.Core.Path.{_≡_, refl, sym, _∙_, ap, ap₂, subst}
-use mathlib.Core.Bool.{false}
 use mathlib.Core.List.{List, [], _++_}
-use Prim.Native.Nat.{ℕ, _+_, _-_, _*_, _≤_, _<_}
-use native.Mathlib.Nat.{add-zero, add-assoc}
+use Prim.Native.Nat.{ℕ, _+_, _-_, _*_, _<_}
+use native.Mathlib.Nat.{add-assoc}
 use native.Mathlib.Omega.{arith}
-use lib.Dec.{eqb}
 use lib.ListN.{length, getD, set, length-append}
 use lib.Seq.{sets, set-getD}
 use Rattle.fields.specs.Search.{numberOf}
@@ -21,15 +16,13 @@ use Rattle.dayfile.specs.Route.{rowsFollowed}
 use Rattle.dayfile.specs.declared.roster.Roster.{Roster}
 use Rattle.report.specs.Layout.{reportsBytes}
 use Rattle.report.specs.declared.Report.{Report}
-use Rattle.report.specs.declared.answer.Answer.{Answer}
 use Rattle.report.proofs.Laws.{put-further}
 use Rattle.rules.specs.Book.{noOrder, orderOf, withCovers}
 use Rattle.rules.specs.Status.{withStatus}
 use Rattle.rules.specs.Tick.{Step}
 use Rattle.rules.specs.Cut.{cutTo, cutReportsTo}
 use Rattle.rules.specs.Decision.{newOrder, applied, toldBy}
-use Rattle.rules.specs.Step.{untouched, stepOf}
-use Rattle.rules.specs.Taken.{answerOf}
+use Rattle.rules.specs.Step.{stepOf}
 use Rattle.rules.specs.Sound.{Sound}
 use Rattle.rules.specs.declared.decision.Decision.{Decision}
 use Rattle.rules.specs.declared.verdict.Does.{Does}
@@ -43,7 +36,6 @@ use Rattle.rules.proofs.Reporting.{step-few}
 use Rattle.rules.proofs.Stepping.{step-sound}
 use Rattle.index.specs.Chains.{buckets}
 use Rattle.intake.specs.Room.{Applicable}
-use Rattle.intake.specs.Entry.{entryOf}
 use Rattle.intake.specs.Expiry.{Passed}
 use Rattle.intake.specs.Seeking.{soughtOrder, sought}
 use Rattle.intake.specs.declared.Entry.{Entry}
@@ -53,60 +45,10 @@ use Rattle.intake.proofs.Naming.{KeepsName, other-txid, written-txid, kept-txid
 use Rattle.verdict.specs.Judgement.{verdictOf}
 use Rattle.verdict.specs.Meaning.{factsOf, decidedBy}
 use Rattle.turns.proofs.Index.{TxidIndex, same-index, more-index}
-use Rattle.turns.proofs.Turn.{Expired, refused-turn, done, told-is, text-is, after-sound, after-count, after-roster, after-index, turn, applicable}
-use Rattle.turns.proofs.Fitting.{reportsOf, Fits, fits, both-moved}
+use Rattle.turns.proofs.Turn.{Expired, done, told-is, text-is, after-sound, after-count, after-roster, after-index, turn, applicable}
+use Rattle.turns.proofs.Fitting.{reportsOf, fits, both-moved}
+use Rattle.turns.proofs.Done.{Done}
 use Rattle.turns.proofs.Carrying.{Carried, cut-silent, covers-same}
-
--- of ticket t in book b, n₀ reports standing in the text before it; afterwards the book, the refusal, the rows followed, n reports in the text,
--- the mark, the index and all cover together
-pub record Done (wordsOf : List ℕ → List ℕ) (bucketOf : List ℕ → ℕ) (b : Book) (t : List ℕ) (n₀ : ℕ) (text₀ : List ℕ) (b′ : Book) (r k n : ℕ)
-    (text : List ℕ) (m : ℕ) (txids heads links : List ℕ) (all : ℕ) : Type 0 where
-  pub book : b′ ≡ stepOf b t .book
-  pub sound : Sound b′
-  pub roster : b′ .roster ≡ b .roster
-  pub refusal : r ≡ stepOf b t .refusal
-  pub rows : k ≡ stepOf b t .rows
-  pub fewRows : k < 256
-  pub told : n ≡ n₀ + length (stepOf b t .reports)
-  pub fewTold : length (stepOf b t .reports) ≤ 544
-  pub reports : text ≡ sets text₀ (12 * n₀) (reportsBytes (stepOf b t .reports))
-  -- no order below the mark waits for a bank
-  pub passed : Passed m b′
-  pub few : m ≤ b′ .count
-  pub index : TxidIndex wordsOf bucketOf b′ txids heads links
-  pub sum : all ≡ allOf (b′ .covers)
-
--- the answer
-pub answer-is : {wordsOf : List ℕ → List ℕ} {bucketOf : List ℕ → ℕ} {b : Book} {t : List ℕ} {n₀ : ℕ} {text₀ : List ℕ} {b′ : Book} {r k n : ℕ}
-    {text : List ℕ} {m : ℕ} {txids heads links : List ℕ} {all : ℕ} → Done wordsOf bucketOf b t n₀ text₀ b′ r k n text m txids heads links all
-    → _≡_ {A = Answer} (record { refusal = r; reports = n - n₀; rows = k }) (answerOf (stepOf b t))
-answer-is {b = b} {t} {n₀} {n = n} h =
-    let e = h .told in
-    let count : n - n₀ ≡ length (stepOf b t .reports) = omega arith in
-    λ i. record { refusal = h .refusal i; reports = count i; rows = h .rows i }
-
--- refused by 7 to 11, all stays as it is
-pub turned-down : {wordsOf : List ℕ → List ℕ} {bucketOf : List ℕ → ℕ} {b : Book} {t : List ℕ} {r n₀ : ℕ} {text₀ : List ℕ} {m : ℕ}
-    {txids heads links : List ℕ} {all : ℕ} → Sound b → entryOf (b .clock) t .refusal ≡ r → eqb r 0 ≡ false → Passed m b → m ≤ b .count
-    → TxidIndex wordsOf bucketOf b txids heads links → all ≡ allOf (b .covers)
-    → Done wordsOf bucketOf b t n₀ text₀ b r 0 n₀ text₀ m txids heads links all
-turned-down {b = b} {t} {r} {n₀} {text₀} s refusal refused passed few index sum =
-    let step = refused-turn b t r refusal refused in
-    record {
-      book = ap (λ (x : Step). x .book) (sym step);
-      sound = s;
-      roster = refl;
-      refusal = ap (λ (x : Step). x .refusal) (sym step);
-      rows = ap (λ (x : Step). x .rows) (sym step);
-      fewRows = omega arith;
-      told = sym (add-zero n₀) ∙ ap (λ (x : Step). n₀ + length (x .reports)) (sym step);
-      fewTold = step-few b s t .few;
-      reports = ap (λ (x : Step). sets text₀ (12 * n₀) (reportsBytes (x .reports))) (sym step);
-      passed = passed;
-      few = few;
-      index = index;
-      sum = sum;
-    }
 
 module _ {wordsOf : List ℕ → List ℕ} {bucketOf : List ℕ → ℕ} {b : Book} {t : List ℕ} {e : Entry} {n₀ : ℕ} {text₀ : List ℕ} {c : Book} {m n : ℕ}
     {text : List ℕ} (w : Expired b t e n₀ text₀ c m n text) {v : Verdict} (is : v ≡ verdictOf (factsOf (sought c e t))) {cs : List Cover} {all n₂ : ℕ}

@@ -23,10 +23,9 @@ use Rattle.dayfile.specs.declared.roster.Roster.{Roster}
 use Rattle.dayfile.specs.declared.route.Followed.{Followed}
 use Rattle.rules.specs.Book.{mostOrders, orderOf, coverOf, isBank}
 use Rattle.rules.specs.Cover.{mostTotal}
-use Rattle.rules.specs.Find.{orderIn, routeIn, isOpen, anyOpen}
+use Rattle.rules.specs.Find.{orderIn, routeIn, isOpen}
 use Rattle.rules.specs.Terms.{termsOf, opensOrder}
 use Rattle.rules.specs.Decision.{newOrder}
-use Rattle.rules.specs.declared.finding.Finding.{Finding}
 use Rattle.rules.specs.declared.verdict.Facts.{Facts}
 use Rattle.rules.specs.declared.Status.the-variants.{Waiting}
 use Rattle.rules.specs.declared.Order.{Order}

@@ -2,6 +2,7 @@
 -- changes, and gets one row where an order is opened. How words are made of a TxId, and which bucket they are in, is left open. Assumes
 -- nothing.
 --     TxidIndex     rows and chains are those of the TxIds of the orders in use
+--     row-chained   the chains by the words of the rows themselves
 --     same-index    orders with the same TxIds have the same index
 --     more-index    one order more, in a row and a chain of its own
 use mathlib.Core.Path.{_≡_, sym, _∙_, ap, subst, subst₂}
@@ -10,6 +11,7 @@ use Prim.Native.Nat.{ℕ, _+_, _*_, _<_}
 use native.Mathlib.Omega.{arith}
 use lib.ListN.{length, getD, set, length-set}
 use lib.Seq.{sets, length-sets}
+use Rattle.fields.specs.Number.{part}
 use Rattle.fields.specs.Rows.{Indexed}
 use Rattle.fields.proofs.Indexing.{put-indexed}
 use Rattle.rules.specs.Book.{mostOrders, orderOf}
@@ -23,6 +25,10 @@ pub record TxidIndex (wordsOf : List ℕ → List ℕ) (bucketOf : List ℕ → 
   pub chained : Chained (λ i. bucketOf (wordsOf (orderOf (b .orders) i .txid))) (b .count) heads links
   pub headed : length heads ≡ buckets
   pub linked : length links ≡ 256
+
+pub row-chained : {wordsOf : List ℕ → List ℕ} {bucketOf : List ℕ → ℕ} {b : Book} {rows heads links : List ℕ}
+    → TxidIndex wordsOf bucketOf b rows heads links → Chained (λ i. bucketOf (part 5 (5 * i) rows)) (b .count) heads links
+row-chained {bucketOf = bucketOf} f = same-chained (f .chained) (λ i l. ap bucketOf (sym (f .txids .row i l)))
 
 module _ {wordsOf : List ℕ → List ℕ} {bucketOf : List ℕ → ℕ} {b c : Book} {rows heads links : List ℕ}
     (f : TxidIndex wordsOf bucketOf b rows heads links) where
