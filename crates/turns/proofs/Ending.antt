@@ -1,5 +1,5 @@
 -- The ends of a turn: from what the code has then to what the step of the rules gives, a law for each way it ends. Assumes nothing.
---     did-nothing    no order and no book changes but by the moves
+--     did-nothing    no order changes
 --     opened         a new order
 --     changed        the order that the ticket is about has another status
 --     cut            all covers are cut

@@ -3,7 +3,8 @@
 --     sender-same, order-same, route-same    what is found before the expiries is what is found after them
 --     Searched                               what was found before them, and the numbers of sender and order
 --     sender-in, order-in, payee-in          those numbers are in range
---     facts-are                              the facts
+--     total-few                              all cover together is within the limit
+--     facts-are                              the facts; way-is, number-is: the way and the order's number
 --     new-order                              the order that a ticket opens
 use mathlib.Core.Path.{_≡_, refl, sym, _∙_, ap, ap₂, subst}
 use mathlib.Core.Bool.{Bool, false, cond}
@@ -23,8 +24,8 @@ use Rattle.dayfile.specs.declared.roster.Roster.{Roster}
 use Rattle.dayfile.specs.declared.route.Followed.{Followed}
 use Rattle.rules.specs.Book.{mostOrders, orderOf, coverOf, isBank}
 use Rattle.rules.specs.Cover.{mostTotal}
-use Rattle.rules.specs.Find.{orderIn, routeIn, isOpen}
-use Rattle.rules.specs.Terms.{termsOf, opensOrder}
+use Rattle.rules.specs.Find.{senderIn, orderIn, routeIn, isOpen}
+use Rattle.rules.specs.Terms.{termsOf, namesSender, opensOrder}
 use Rattle.rules.specs.Decision.{newOrder}
 use Rattle.rules.specs.declared.verdict.Facts.{Facts}
 use Rattle.rules.specs.declared.Status.the-variants.{Waiting}
@@ -59,14 +60,10 @@ searched-as {b} {t} {e} {sender} {order} {route} {p} {i} h f = subst (λ (x : En
 module _ {b : Book} {t : List ℕ} {e : Entry} {n₀ : ℕ} {text₀ : List ℕ} {c : Book} {m n : ℕ} {text : List ℕ}
     (w : Expired b t e n₀ text₀ c m n text) where
   pub sender-same : soughtSender b e t ≡ soughtSender c e t
-  sender-same =
-      ap (λ (r : Roster). soughtSender (record { clock = b .clock; covers = b .covers; orders = b .orders; count = b .count; roster = r }) e t)
-      (sym (after-roster w))
+  sender-same = ap (λ (r : Roster). cond (namesSender (termsOf (e .kind) .subject)) (senderIn r t) found.Nothing) (sym (after-roster w))
 
   pub route-same : soughtRoute b e t ≡ soughtRoute c e t
-  route-same =
-      ap (λ (r : Roster). soughtRoute (record { clock = b .clock; covers = b .covers; orders = b .orders; count = b .count; roster = r }) e t)
-      (sym (after-roster w))
+  route-same = ap (λ (r : Roster). cond (opensOrder (termsOf (e .kind) .subject)) (routeIn r t) found.Nothing) (sym (after-roster w))
 
   -- all cover together, as it was before the expiries
   all-is : {all : ℕ} → all ≡ allOf (b .covers) → all ≡ sought c e t .total
