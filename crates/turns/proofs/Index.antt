@@ -1,0 +1,67 @@
+-- The index of the TxIds of the orders in use: rows of five words for each, and chains through them. It stays as it is where no TxId
+-- changes, and gets one row where an order is opened. How words are made of a TxId, and which bucket they are in, is left open. Assumes
+-- nothing.
+--     TxidIndex     rows and chains are those of the TxIds of the orders in use
+--     row-chained   the chains by the words of the rows themselves
+--     same-index    orders with the same TxIds have the same index
+--     more-index    one order more, in a row and a chain of its own
+use mathlib.Core.Path.{_≡_, sym, _∙_, ap, subst, subst₂}
+use mathlib.Core.List.{List}
+use Prim.Native.Nat.{ℕ, _+_, _*_, _<_}
+use native.Mathlib.Omega.{arith}
+use lib.ListN.{length, getD, set, length-set}
+use lib.Seq.{sets, length-sets}
+use Rattle.fields.specs.Number.{part}
+use Rattle.fields.specs.Rows.{Indexed}
+use Rattle.fields.proofs.Indexing.{put-indexed}
+use Rattle.rules.specs.Book.{mostOrders, orderOf}
+use Rattle.rules.specs.declared.Book.{Book}
+use Rattle.index.specs.Chains.{buckets, Chained}
+use Rattle.index.proofs.Chaining.{same-chained, enchained}
+
+pub record TxidIndex (wordsOf : List ℕ → List ℕ) (bucketOf : List ℕ → ℕ) (b : Book) (rows heads links : List ℕ) : Type 0 where
+  pub txids : Indexed 5 (λ i. wordsOf (orderOf (b .orders) i .txid)) (b .count) rows
+  pub long : length rows ≡ 1280
+  pub chained : Chained (λ i. bucketOf (wordsOf (orderOf (b .orders) i .txid))) (b .count) heads links
+  pub headed : length heads ≡ buckets
+  pub linked : length links ≡ 256
+
+pub row-chained : {wordsOf : List ℕ → List ℕ} {bucketOf : List ℕ → ℕ} {b : Book} {rows heads links : List ℕ}
+    → TxidIndex wordsOf bucketOf b rows heads links → Chained (λ i. bucketOf (part 5 (5 * i) rows)) (b .count) heads links
+row-chained {bucketOf = bucketOf} f = same-chained (f .chained) (λ i l. ap bucketOf (sym (f .txids .row i l)))
+
+module _ {wordsOf : List ℕ → List ℕ} {bucketOf : List ℕ → ℕ} {b c : Book} {rows heads links : List ℕ}
+    (f : TxidIndex wordsOf bucketOf b rows heads links) where
+  pub same-index : c .count ≡ b .count → ((i : ℕ) → orderOf (c .orders) i .txid ≡ orderOf (b .orders) i .txid)
+      → TxidIndex wordsOf bucketOf c rows heads links
+  same-index count same =
+      record {
+        txids = record { row = λ i l. f .txids .row i (omega arith) ∙ ap wordsOf (sym (same i)) };
+        long = f .long;
+        chained =
+            subst (λ (n : ℕ). Chained (λ i. bucketOf (wordsOf (orderOf (c .orders) i .txid))) n heads links) (sym count)
+            (same-chained (f .chained) (λ i l. ap (λ (s : List ℕ). bucketOf (wordsOf s)) (sym (same i))));
+        headed = f .headed;
+        linked = f .linked;
+      }
+
+  -- a new order behind the others; k is the bucket of its TxId s
+  pub more-index : {rows′ heads′ links′ : List ℕ} {k : ℕ} {s : List ℕ} → b .count < mostOrders → c .count ≡ b .count + 1
+      → ((i : ℕ) → i < b .count → orderOf (c .orders) i .txid ≡ orderOf (b .orders) i .txid) → orderOf (c .orders) (b .count) .txid ≡ s
+      → length (wordsOf s) ≡ 5 → k ≡ bucketOf (wordsOf s) → k < buckets
+      → heads′ ≡ set heads k (b .count + 1) → links′ ≡ set links (b .count) (getD heads k 0) → rows′ ≡ sets rows (5 * b .count) (wordsOf s)
+      → TxidIndex wordsOf bucketOf c rows′ heads′ links′
+  more-index {rows′} {heads′} {links′} {k} {s} few count before new wide is inside new-heads new-links new-rows =
+      record {
+        txids =
+            subst₂ (Indexed 5 (λ i. wordsOf (orderOf (c .orders) i .txid))) (sym count) (sym new-rows)
+            (put-indexed (f .txids) (wordsOf s) wide (let l = f .long in omega arith) (λ i. wordsOf (orderOf (c .orders) i .txid))
+            (λ i l. ap wordsOf (before i l)) (ap wordsOf new));
+        long = (simp length-sets at (ap length new-rows)) ∙ f .long;
+        chained =
+            subst (λ (n : ℕ). Chained (λ i. bucketOf (wordsOf (orderOf (c .orders) i .txid))) n heads′ links′) (sym count)
+            (enchained (same-chained (f .chained) (λ i l. ap (λ (x : List ℕ). bucketOf (wordsOf x)) (sym (before i l)))) (f .headed)
+            (let l = f .linked in omega arith) (is ∙ ap (λ (x : List ℕ). bucketOf (wordsOf x)) (sym new)) inside new-heads new-links);
+        headed = (simp length-set at (ap length new-heads)) ∙ f .headed;
+        linked = (simp length-set at (ap length new-links)) ∙ f .linked;
+      }

@@ -1,0 +1,7 @@
+pub mod Index
+pub mod Turn
+pub mod Facts
+pub mod Fitting
+pub mod Carrying
+pub mod Done
+pub mod Ending
