@@ -1,1 +1,3 @@
 pub mod Sight
+pub mod Subject
+pub mod Value
