@@ -22,17 +22,22 @@ use Rattle.rules.specs.declared.terms.Subject.{Subject}
 use Rattle.intake.specs.Entry.{readEntry, entryOf}
 use Rattle.intake.specs.Seeking.{if, seeksOrder}
 use Rattle.sight.specs.Sight.{seenAs, sightAs, sightOf}
-use Rattle.sight.specs.Subject.{TicketNaming}
-use Rattle.sight.specs.Value.{amountsOf, valueSight}
+use Rattle.shapes.specs.Amounts.{amountsOf}
+use Rattle.shapes.specs.Subject.{TicketNaming}
+use Rattle.sight.specs.Value.{valueSight}
 use Rattle.sight.specs.declared.Seen.{Seen}
 use Rattle.sight.specs.declared.Sight.{Sight}
 use Rattle.sight.specs.declared.Sight.the-variants.{Read, Refused}
-use Rattle.sight.proofs.Forms.{formed-kind, no-account}
+use Rattle.shapes.proofs.Forms.{formed-kind, no-account}
 
 module _ (clock : ℕ) (t : List ℕ) (sender order route : Found) where
   -- of what was read
   abbrev sight-read : Reading → Sight
   sight-read r = sightAs (readEntry clock r) sender order route
+
+  -- with what its kind asks for, by what that names
+  abbrev pub asked : Kind → Subject → Sight
+  asked k s = valueSight clock t k (if (namesSender s) sender) (if (seeksOrder s) order) (if (opensOrder s) route)
 
   -- 7
   pub sight-malformed : shapeOf t ≡ Malformed → sightOf clock t sender order route ≡ Refused 7
@@ -44,15 +49,14 @@ module _ (clock : ℕ) (t : List ℕ) (sender order route : Found) where
 
   -- 9 to 11, and what is seen where none applies
   pub sight-named : (k : Kind) → shapeOf t ≡ Formed k → accountOf (formOf k) t ≡ Named
-      → sightOf clock t sender order route
-      ≡ valueSight clock t k (if (namesSender (termsOf k .subject)) sender) (if (seeksOrder (termsOf k .subject)) order) (if (opensOrder (termsOf k .subject)) route)
+      → sightOf clock t sender order route ≡ asked k (termsOf k .subject)
   unfolding amountsOf
   sight-named k e n =
-      ap sight-read (read-named t k e n) ∙ go (ltb (amountOf t) (formOf k .least)) refl (ltb (formOf k .most) (amountOf t)) refl (ltb (timeOf t) clock) refl
+      ap sight-read (read-named t k e n)
+      ∙ go (ltb (amountOf t) (formOf k .least)) refl (ltb (formOf k .most) (amountOf t)) refl (ltb (timeOf t) clock) refl
     where
       go : (a : Bool) → ltb (amountOf t) (formOf k .least) ≡ a → (b : Bool) → ltb (formOf k .most) (amountOf t) ≡ b → (c : Bool) → ltb (timeOf t) clock ≡ c
-          → sight-read (readStated k t (statedIn (formOf k) t))
-          ≡ valueSight clock t k (if (namesSender (termsOf k .subject)) sender) (if (seeksOrder (termsOf k .subject)) order) (if (opensOrder (termsOf k .subject)) route)
+          → sight-read (readStated k t (statedIn (formOf k) t)) ≡ asked k (termsOf k .subject)
       go true a b x c y = simp a
       go false a true b c y = simp (a, b)
       go false a false b true c = simp (a, b, c)
@@ -60,10 +64,10 @@ module _ (clock : ℕ) (t : List ℕ) (sender order route : Found) where
 
   -- the same where no account is asked for
   pub sight-formed : (s : Subject) (k : Kind) → TicketNaming s k t → opensOrder s ≡ false → (j : Kind) → shapeOf t ≡ Formed j
-      → sightOf clock t sender order route ≡ valueSight clock t k (if (namesSender s) sender) (if (seeksOrder s) order) (if (opensOrder s) route)
+      → sightOf clock t sender order route ≡ asked k s
   sight-formed s k n opens j e =
       sight-named k (formed-kind s k t n j e) (no-account k t (ap opensOrder (n .names) ∙ opens))
-      ∙ ap (λ (x : Subject). valueSight clock t k (if (namesSender x) sender) (if (seeksOrder x) order) (if (opensOrder x) route)) (n .names)
+      ∙ ap (asked k) (n .names)
 
 -- what it tells of the entry
 pub record Saw (clock : ℕ) (t : List ℕ) (sender order route : Found) (seen : Seen) : Type 0 where

@@ -1,3 +1,2 @@
 pub mod Sight
-pub mod Subject
 pub mod Value

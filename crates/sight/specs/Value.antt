@@ -1,5 +1,4 @@
 -- Refusals 9 to 11: amount and time, the same for every kind.
---     amountsOf       the amounts that a kind takes
 --     statedBy        9: the amount, or Zero
 --     amountIn        the amount that was found
 --     limitBy         10: Within, or Above
@@ -12,7 +11,6 @@ use mathlib.Core.List.{List}
 use lib.Dec.{ltb}
 use Rattle.fields.specs.declared.search.Found.{Found}
 use Rattle.ticket.specs.Layout.{amountOf, timeOf}
-use Rattle.ticket.specs.Form.{formOf}
 use Rattle.ticket.specs.Refusal.{statedRefusal, limitRefusal}
 use Rattle.ticket.specs.declared.kinds.Kind.{Kind}
 use Rattle.ticket.specs.declared.amounts.Stated.{Stated}
@@ -20,12 +18,10 @@ use Rattle.ticket.specs.declared.amounts.Stated.the-variants.{Amount, Zero}
 use Rattle.ticket.specs.declared.amounts.Limit.{Limit}
 use Rattle.ticket.specs.declared.amounts.Limit.the-variants.{Within, Above}
 use Rattle.rules.specs.Refusal.{firstOf, timingOf, timingRefusal}
+use Rattle.shapes.specs.Amounts.{amountsOf}
+use Rattle.shapes.specs.declared.amounts.Amounts.{Amounts}
 use Rattle.sight.specs.Sight.{sightBy}
-use Rattle.sight.specs.declared.values.Amounts.{Amounts}
 use Rattle.sight.specs.declared.Sight.{Sight}
-
-unfoldable pub amountsOf : Kind → Amounts
-amountsOf kind = record { least = formOf kind .least; most = formOf kind .most }
 
 -- 9. Amount zero for kinds 1, 2, 3, 6: those whose least amount is 1
 abbrev pub statedBy : Amounts → List ℕ → Stated

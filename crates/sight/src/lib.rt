@@ -1,7 +1,4 @@
 // What is seen of a ticket before the clock moves: refusals 7 to 11, and what its kind asks for of sender, order and route.
-mod blanks;
-mod known;
-mod shapes;
 pub mod subjects;
 pub mod values;
 

@@ -1,6 +1,5 @@
 // What is seen of a ticket, by what its kind names. What a kind does not ask for, the other findings, may be anything.
 use super::Sight;
-use super::shapes;
 use super::values;
 use fields::Found;
 use rules::terms::Subject;
@@ -11,7 +10,7 @@ ghost use mathlib.Core.Path.{_≡_};
 ghost use Rattle.ticket.specs.Layout.{senderOf, payeeOf, txidField};
 ghost use Rattle.rules.specs.Terms.{termsOf};
 ghost use Rattle.sight.specs.Sight.{sightOf};
-ghost use Rattle.sight.specs.Subject.{TicketNaming, KnownBic, KnownTxid};
+ghost use Rattle.shapes.specs.Subject.{TicketNaming, KnownBic, KnownTxid};
 
 pub fn subject_of(kind: Kind) -> Subject
     ensures { λ r. ⌜ r ≡ termsOf kind .subject ⌝ }

@@ -3,6 +3,8 @@ use super::Seen;
 use super::Sight;
 use fields::Found;
 use rules::refusal::Timing;
+use shapes::amounts;
+use shapes::amounts::Amounts;
 use ticket::amounts::Limit;
 use ticket::amounts::Stated;
 use ticket::kinds::Kind;
@@ -11,52 +13,7 @@ ghost use mathlib.Core.Path.{_≡_};
 ghost use lib.ListN.{length};
 ghost use Rattle.ticket.specs.Layout.{ticketLength};
 ghost use Rattle.rules.specs.Refusal.{timingOf};
-ghost use Rattle.sight.specs.Value.{amountsOf, statedBy, limitBy, valueSight};
-
-// 01: cover tickets and confirms, 10^18; orders and returns, 99,999,999,999
-const MOST_COVER: u64 = 1_000_000_000_000_000_000;
-
-const MOST_ORDER: u64 = 99_999_999_999;
-
-// Most is 0 where a kind lists no amount.
-pub struct Amounts {
-    pub least: u64,
-    pub most: u64,
-}
-
-pub fn amounts_of(kind: Kind) -> Amounts
-    ensures { λ r. ⌜ r ≡ amountsOf kind ⌝ }
-{
-    match kind {
-        Kind::CoverIn => Amounts {
-            least: 1,
-            most: MOST_COVER,
-        },
-        Kind::CoverOut => Amounts {
-            least: 1,
-            most: MOST_COVER,
-        },
-        Kind::Order => Amounts {
-            least: 1,
-            most: MOST_ORDER,
-        },
-        Kind::Yes => Amounts { least: 0, most: 0 },
-        Kind::No => Amounts { least: 0, most: 0 },
-        Kind::Recall => Amounts { least: 0, most: 0 },
-        Kind::Return => Amounts {
-            least: 1,
-            most: MOST_ORDER,
-        },
-        Kind::Decline => Amounts { least: 0, most: 0 },
-        Kind::Inquiry => Amounts { least: 0, most: 0 },
-        Kind::Cut => Amounts { least: 0, most: 0 },
-        Kind::Confirm => Amounts {
-            least: 0,
-            most: MOST_COVER,
-        },
-        Kind::Tick => Amounts { least: 0, most: 0 },
-    }
-}
+ghost use Rattle.sight.specs.Value.{statedBy, limitBy, valueSight};
 
 // 9. Amount zero.
 fn stated(amounts: Amounts, t: &[u8]) -> Stated
@@ -98,7 +55,7 @@ pub fn valued(clock: u32, t: &[u8], kind: Kind, sender: Found, order: Found, rou
     requires { ⌜ length (now t) ≡ ticketLength ⌝ }
     ensures { λ r. ⌜ r ≡ valueSight clock (now (t .entry)) kind sender order route ⌝ }
 {
-    let amounts = amounts_of(kind);
+    let amounts = amounts::amounts_of(kind);
     let Stated::Amount(amount) = stated(amounts, t) else {
         return Sight::Refused(9);
     };

@@ -1,6 +1,6 @@
 // Reading a ticket of 108 bytes: refusals 7 to 10 in the paper's order, or the fields. Any bytes of any length may be handed in.
 pub mod amounts;
-pub mod forms;
+mod forms;
 pub mod kinds;
 pub mod layout;
 pub mod shapes;

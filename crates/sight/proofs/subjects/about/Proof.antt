@@ -24,5 +24,6 @@ about-spec =
     let shape = c .before .before .before in
     let s = shape .before .before in
     let a = s .args in
-    c .valued .ensures
-    ∙ sym (sight-formed (a .clock) (now (a .t)) (a .sender) (a .order) route HeldOrder (a .kind) (s .pre .0) refl _ (sym (shape .about .ensures) ∙ c .before .enum-told .given .1))))
+    rw (c .valued .ensures)
+    (sym (sight-formed (a .clock) (now (a .t)) (a .sender) (a .order) route HeldOrder (a .kind) (s .pre .0) refl _
+    (sym (shape .about .ensures) ∙ c .before .enum-told .given .1)))))

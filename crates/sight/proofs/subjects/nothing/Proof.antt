@@ -24,5 +24,6 @@ nothing-spec =
     let shape = c .before .before .before in
     let s = shape .before .before in
     let a = s .args in
-    c .valued .ensures
-    ∙ sym (sight-formed (a .clock) (now (a .t)) sender order route Nothing (a .kind) (s .pre) refl _ (sym (shape .nothing .ensures) ∙ c .before .enum-told .given .1))))
+    rw (c .valued .ensures)
+    (sym (sight-formed (a .clock) (now (a .t)) sender order route Nothing (a .kind) (s .pre) refl _
+    (sym (shape .nothing .ensures) ∙ c .before .enum-told .given .1)))))

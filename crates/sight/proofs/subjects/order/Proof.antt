@@ -5,7 +5,7 @@ use Rattle.ticket.specs.Shape.{shapeOf}
 use Rattle.ticket.specs.declared.kinds.Kind.the-variants.{Order}
 use Rattle.ticket.specs.declared.shapes.Shape.the-variants.{Formed}
 use Rattle.rules.specs.declared.terms.Subject.the-variants.{NewOrder}
-use Rattle.sight.proofs.Forms.{formed-kind}
+use Rattle.shapes.proofs.Forms.{formed-kind}
 use Rattle.sight.proofs.Seeing.{sight-malformed, sight-wrong, sight-named}
 use borrow.Author.Needs.{needs}
 use Rattle.sight.proofs.subjects.order.Statement.{statement}
@@ -36,11 +36,13 @@ order-spec =
     (λ c.
     let account = c .before .before in
     let a = account .before .before .before .before .before .args in
-    sym (sight-wrong (a .clock) (now (a .t)) (a .sender) (a .order) (a .route) Order (formed (account .before)) (sym (account .account .ensures) ∙ c .enum-told4 .given .1)))
+    sym (sight-wrong (a .clock) (now (a .t)) (a .sender) (a .order) (a .route) Order (formed (account .before))
+    (sym (account .account .ensures) ∙ c .enum-told4 .given .1)))
     (λ c κs. search needs)
     -- 9 to 11, or what is seen
     (λ c.
     let account = c .before .before .before in
     let a = account .before .before .before .before .before .args in
-    c .valued .ensures
-    ∙ sym (sight-named (a .clock) (now (a .t)) (a .sender) (a .order) (a .route) Order (formed (account .before)) (sym (account .account .ensures) ∙ c .before .enum-told3 .given .1))))
+    rw (c .valued .ensures)
+    (sym (sight-named (a .clock) (now (a .t)) (a .sender) (a .order) (a .route) Order (formed (account .before))
+    (sym (account .account .ensures) ∙ c .before .enum-told3 .given .1)))))

@@ -1,5 +1,4 @@
 -- `sight::values::limit` meets its contract. Assumes nothing.
-use borrow.Author.Needs.{needs}
 use Rattle.sight.proofs.values.limit.Statement.{statement}
 use Rattle.sight.proofs.values.limit.Tie as tie
 
@@ -7,7 +6,7 @@ pub limit-spec : {M : Type 1} → statement M
 limit-spec =
     tie.close
     (tie.spec
-    -- Need-returns
+    -- 10
     (λ c. simp (c .if1 .taken))
-    -- Need-returns-2
+    -- within it
     (λ c. simp (c .if1 .left)))

@@ -8,7 +8,7 @@ stated-spec =
     tie.close
     (tie.spec
     (λ c κs. search needs)
-    -- Need-returns
+    -- 9
     (λ c. simp (c .if1 .taken, ← c .before .before .u64-at .ensures))
-    -- Need-returns-2
+    -- the amount
     (λ c. simp (c .if1 .left, ← c .before .before .u64-at .ensures)))

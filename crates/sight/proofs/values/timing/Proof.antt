@@ -1,5 +1,4 @@
 -- `sight::values::timing` meets its contract. Assumes nothing.
-use borrow.Author.Needs.{needs}
 use Rattle.sight.proofs.values.timing.Statement.{statement}
 use Rattle.sight.proofs.values.timing.Tie as tie
 
@@ -7,7 +6,7 @@ pub timing-spec : {M : Type 1} → statement M
 timing-spec =
     tie.close
     (tie.spec
-    -- Need-returns
+    -- 11
     (λ c. simp (c .if1 .taken))
-    -- Need-returns-2
+    -- in time
     (λ c. simp (c .if1 .left)))

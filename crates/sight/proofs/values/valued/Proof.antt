@@ -11,18 +11,55 @@ valued-spec =
     (λ c κs. search needs)
     (λ c. search needs)
     (λ c. search needs)
-    -- Need-returns
-    (λ c. simp (c .enum-told .given .1, ← c .before .before .stated .ensures, ← c .before .before .before .amounts-of .ensures))
+    -- 9
+    (λ c.
+    let stated = c .before .before in
+    simp (c .enum-told .given .1, ← stated .stated .ensures, ← stated .before .amounts-of .ensures))
     (λ c κs. search needs)
     (λ c. search needs)
     (λ c. search needs)
-    -- Need-returns-2
-    (λ c. simp (c .enum-told3 .given .1, ← c .before .before .limit .ensures, c .before .before .before .before .amount .given .1, ← c .before .before .before .before .before .before .stated .ensures, ← c .before .before .before .before .before .before .before .amounts-of .ensures))
+    -- 10
+    (λ c.
+    let limit = c .before .before in
+    let stated = limit .before .before .before .before in
+    simp (
+      c .enum-told3 .given .1,
+      ← limit .limit .ensures,
+      limit .before .before .amount .given .1,
+      ← stated .stated .ensures,
+      ← stated .before .amounts-of .ensures,
+    ))
     (λ c κs. search needs)
     (λ c κs. search needs)
     (λ c. search needs)
     (λ c. search needs)
-    -- Need-returns-3
-    (λ c. simp (c .enum-told5 .given .1, ← c .before .before .timing .ensures, ← c .before .before .before .u32-at .ensures, c .before .before .before .before .enum-told2 .given .1, ← c .before .before .before .before .before .before .limit .ensures, c .before .before .before .before .before .before .before .before .amount .given .1, ← c .before .before .before .before .before .before .before .before .before .before .stated .ensures, ← c .before .before .before .before .before .before .before .before .before .before .before .amounts-of .ensures))
-    -- Need-returns-4
-    (λ c. simp (c .enum-told4 .given .1, ← c .before .before .timing .ensures, ← c .before .before .before .u32-at .ensures, c .before .before .before .before .enum-told2 .given .1, ← c .before .before .before .before .before .before .limit .ensures, c .before .before .before .before .before .before .before .before .amount .given .1, ← c .before .before .before .before .before .before .before .before .before .before .stated .ensures, ← c .before .before .before .before .before .before .before .before .before .before .before .amounts-of .ensures)))
+    -- 11
+    (λ c.
+    let timing = c .before .before in
+    let limit = timing .before .before .before .before in
+    let stated = limit .before .before .before .before in
+    simp (
+      c .enum-told5 .given .1,
+      ← timing .timing .ensures,
+      ← timing .before .u32-at .ensures,
+      timing .before .before .enum-told2 .given .1,
+      ← limit .limit .ensures,
+      limit .before .before .amount .given .1,
+      ← stated .stated .ensures,
+      ← stated .before .amounts-of .ensures,
+    ))
+    -- none applies
+    (λ c.
+    let timing = c .before .before in
+    let limit = timing .before .before .before .before in
+    let stated = limit .before .before .before .before in
+    simp (
+      c .enum-told4 .given .1,
+      ← timing .timing .ensures,
+      ← timing .before .u32-at .ensures,
+      timing .before .before .enum-told2 .given .1,
+      ← limit .limit .ensures,
+      limit .before .before .amount .given .1,
+      ← stated .stated .ensures,
+      ← stated .before .amounts-of .ensures,
+    )))
