@@ -1,1 +1,2 @@
+pub mod Knowing
 pub mod Seeing

@@ -7,16 +7,19 @@ use native.Mathlib.Omega.{arith}
 use borrow.Author.Tests.{eqb-true, eqb-false}
 use lib.Dec.{ltb, eqb}
 use Rattle.fields.specs.declared.search.Found.{Found}
-use Rattle.ticket.specs.Layout.{amountOf, timeOf}
+use Rattle.ticket.specs.Layout.{kindByte, flagByte, amountOf, timeOf}
+use Rattle.ticket.specs.Kind.{kinded}
 use Rattle.ticket.specs.Form.{formOf}
 use Rattle.ticket.specs.Shape.{shapeOf, accountOf}
 use Rattle.ticket.specs.Amount.{statedIn}
 use Rattle.ticket.specs.Reading.{reading, readShape, readAccount, readStated}
 use Rattle.ticket.specs.declared.Reading.{Reading}
 use Rattle.ticket.specs.declared.kinds.Kind.{Kind}
+use Rattle.ticket.specs.declared.kinds.Kinded.the-variants.{Unknown}
 use Rattle.ticket.specs.declared.shapes.Shape.the-variants.{Formed, Malformed}
 use Rattle.ticket.specs.declared.shapes.Account.the-variants.{Named, Wrong}
 use Rattle.ticket.proofs.Laws.{read-malformed, read-formed, read-named}
+use Rattle.ticket.proofs.Refusals.{unknown-refused}
 use Rattle.rules.specs.Terms.{termsOf, namesSender, opensOrder}
 use Rattle.rules.specs.declared.terms.Subject.{Subject}
 use Rattle.intake.specs.Entry.{readEntry, entryOf}
@@ -38,6 +41,10 @@ module _ (clock : ℕ) (t : List ℕ) (sender order route : Found) where
   -- with what its kind asks for, by what that names
   abbrev pub asked : Kind → Subject → Sight
   asked k s = valueSight clock t k (if (namesSender s) sender) (if (seeksOrder s) order) (if (opensOrder s) route)
+
+  -- 7: an unknown kind or flag
+  pub sight-unknown : kinded (kindByte t) (flagByte t) ≡ Unknown → sightOf clock t sender order route ≡ Refused 7
+  sight-unknown e = ap sight-read (unknown-refused t e)
 
   -- 7
   pub sight-malformed : shapeOf t ≡ Malformed → sightOf clock t sender order route ≡ Refused 7
