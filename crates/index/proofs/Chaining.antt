@@ -21,7 +21,7 @@ use Rattle.fields.proofs.Same.{same-true, same-refl}
 use Rattle.rules.proofs.Same.{same-or-not}
 use Rattle.index.specs.Chains.{buckets, lastTo, lastFound, Chained, Distinct, Searchable}
 
-never : {A : Type 0} → _≡_ {A = Bool} true false → A
+pub never : {A : Type 0} → _≡_ {A = Bool} true false → A
 never e = let z : _≡_ {A = ℕ} 0 1 = cc in absurd (omega arith)
 
 -- the last that passes

@@ -1,8 +1,8 @@
--- Rows found by chains: a row is in one of 509 buckets by its bytes, and the rows of a bucket are chained, the last first. The head of a
+-- Rows found by chains: a row is in one of 509 buckets by its words, and the rows of a bucket are chained, the last first. The head of a
 -- bucket is its last row, the link of a row is the row before it in its bucket; both are one more than the row's number, 0 for none.
 --     added        a sum, above 64 bits left off
---     bicBucket    the bucket of a BIC: what the sum of its first eight bytes and its last three, each as a number, leaves by 509
---     txidBucket   the bucket of a padded TxId: likewise, of four times eight bytes and the last three
+--     addedTo      words added to a number, one after the other
+--     rowBucket    the bucket of a row of words: what their sum leaves by 509
 --     lastTo       one more than the last number below n that passes a test, 0 where none does
 --     lastFound    that, as what a search finds
 --     Chained      heads and links are those of the first n rows
@@ -12,10 +12,10 @@
 use Prim.Native.Nat.{ℕ, zero, suc, _+_, _*_, _%_, _^_, _≤_, _<_}
 use mathlib.Core.Path.{_≡_}
 use mathlib.Core.Bool.{Bool, true, false, cond}
-use mathlib.Core.List.{List}
+use mathlib.Core.List.{List, [], _∷_}
 use lib.Dec.{eqb}
 use lib.ListN.{length, getD}
-use Rattle.fields.specs.Number.{part, numberAt}
+use Rattle.fields.specs.Number.{part}
 use Rattle.fields.specs.Text.{same}
 use Rattle.fields.specs.declared.search.Found.{Found}
 use Rattle.fields.specs.declared.search.Found.the-variants.{At, Nothing}
@@ -26,12 +26,13 @@ buckets = 509
 abbrev pub added : ℕ → ℕ → ℕ
 added m n = (m + n) % 2 ^ 64
 
-abbrev pub bicBucket : List ℕ → ℕ
-bicBucket s = added (numberAt 8 0 s) (numberAt 3 8 s) % buckets
+abbrev pub addedTo : ℕ → List ℕ → ℕ
+addedTo n [] = n
+addedTo n (w ∷ ws) = addedTo (added n w) ws
 
-abbrev pub txidBucket : List ℕ → ℕ
-txidBucket s =
-    added (added (added (added (numberAt 8 0 s) (numberAt 8 8 s)) (numberAt 8 16 s)) (numberAt 8 24 s)) (numberAt 3 32 s) % buckets
+abbrev pub rowBucket : List ℕ → ℕ
+rowBucket [] = 0
+rowBucket (w ∷ ws) = addedTo w ws % buckets
 
 abbrev pub lastTo : (ℕ → Bool) → ℕ → ℕ
 lastTo test zero = 0

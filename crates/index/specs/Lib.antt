@@ -1,1 +1,3 @@
 pub mod Chains
+pub mod Lent
+pub mod Words

@@ -1,36 +1,36 @@
-// Chains of rows: the bucket of a BIC and of a TxId, a row put into its bucket's chain, and the row that holds a field. What stands
+// Chains of rows: the bucket of a row of words, a row put into its bucket's chain, and the row that holds a field's words. What stands
 // behind the rows in use is left open: no search looks at it.
+use crate::row;
 use fields::Found;
 use std::num;
 ghost use mathlib.Core.Path.{_≡_};
+ghost use mathlib.Core.List.{[], _∷_};
 ghost use Prim.Native.Nat.{ℕ, _+_, _*_, _≤_, _<_};
 ghost use lib.ListN.{length, getD, set};
 ghost use Rattle.fields.specs.Number.{part};
 ghost use Rattle.fields.specs.Rows.{firstRow};
-ghost use Rattle.index.specs.Chains.{buckets, bicBucket, txidBucket, Chained, Searchable};
+ghost use Rattle.index.specs.Chains.{buckets, rowBucket, Chained, Searchable};
 
 pub struct Chains {
     pub heads: [u16; 509],
     pub links: [u16; 256],
 }
 
-pub fn bic_bucket(bic: &[u8]) -> usize
-    requires { ⌜ length (now bic) ≡ 11 ⌝ }
-    ensures { λ r. ⌜ (r ≡ bicBucket (now (bic .entry))) × (r < buckets) ⌝ }
+// The bucket of a BIC's words.
+pub fn bic_bucket(a: u64, b: u64) -> usize
+    ensures { λ r. ⌜ (r ≡ rowBucket (a ∷ b ∷ [])) × (r < buckets) ⌝ }
 {
-    let sum = num::wrapping_add_u64(fields::u64_at(bic, 0), fields::u24_at(bic, 8) as u64);
-    (sum % 509) as usize
+    (num::wrapping_add_u64(a, b) % 509) as usize
 }
 
-pub fn txid_bucket(txid: &[u8]) -> usize
-    requires { ⌜ length (now txid) ≡ 35 ⌝ }
-    ensures { λ r. ⌜ (r ≡ txidBucket (now (txid .entry))) × (r < buckets) ⌝ }
+// The bucket of a TxId's words.
+pub fn txid_bucket(a: u64, b: u64, c: u64, d: u64, e: u64) -> usize
+    ensures { λ r. ⌜ (r ≡ rowBucket (a ∷ b ∷ c ∷ d ∷ e ∷ [])) × (r < buckets) ⌝ }
 {
-    let two = num::wrapping_add_u64(fields::u64_at(txid, 0), fields::u64_at(txid, 8));
-    let three = num::wrapping_add_u64(two, fields::u64_at(txid, 16));
-    let four = num::wrapping_add_u64(three, fields::u64_at(txid, 24));
-    let sum = num::wrapping_add_u64(four, fields::u24_at(txid, 32) as u64);
-    (sum % 509) as usize
+    let two = num::wrapping_add_u64(a, b);
+    let three = num::wrapping_add_u64(two, c);
+    let four = num::wrapping_add_u64(three, d);
+    (num::wrapping_add_u64(four, e) % 509) as usize
 }
 
 // Row i becomes the head of its bucket.
@@ -47,20 +47,20 @@ pub fn enchain(heads: &mut [u16], links: &mut [u16], i: usize, bucket: usize)
 }
 
 // The chains of n BICs.
-pub fn bic_chains(bics: &[u8], n: usize) -> Chains
-    requires { ⌜ (n ≤ 256) × (11 * n ≤ length (now bics)) ⌝ }
+pub fn bic_chains(rows: &[u64], n: usize) -> Chains
+    requires { ⌜ (n ≤ 256) × (2 * n ≤ length (now rows)) ⌝ }
     ensures { λ r.
         ⌜
         (length (r .heads) ≡ buckets) × (length (r .links) ≡ 256)
-        × Chained (λ i. bicBucket (part 11 (11 * i) (now (bics .entry)))) n (r .heads) (r .links)
+        × Chained (λ i. rowBucket (part 2 (2 * i) (now (rows .entry)))) n (r .heads) (r .links)
         ⌝ }
 {
     let mut heads = [0u16; 509];
     let mut links = [0u16; 256];
     let mut i = 0;
     while i < n {
-        let at = 11 * i;
-        let bucket = bic_bucket(&bics[at..at + 11]);
+        let at = 2 * i;
+        let bucket = bic_bucket(rows[at], rows[at + 1]);
         enchain(&mut heads, &mut links, i, bucket);
         i += 1;
     }
@@ -68,44 +68,76 @@ pub fn bic_chains(bics: &[u8], n: usize) -> Chains
 }
 
 // The chains of n TxIds.
-pub fn txid_chains(txids: &[u8], n: usize) -> Chains
-    requires { ⌜ (n ≤ 256) × (35 * n ≤ length (now txids)) ⌝ }
+pub fn txid_chains(rows: &[u64], n: usize) -> Chains
+    requires { ⌜ (n ≤ 256) × (5 * n ≤ length (now rows)) ⌝ }
     ensures { λ r.
         ⌜
         (length (r .heads) ≡ buckets) × (length (r .links) ≡ 256)
-        × Chained (λ i. txidBucket (part 35 (35 * i) (now (txids .entry)))) n (r .heads) (r .links)
+        × Chained (λ i. rowBucket (part 5 (5 * i) (now (rows .entry)))) n (r .heads) (r .links)
         ⌝ }
 {
     let mut heads = [0u16; 509];
     let mut links = [0u16; 256];
     let mut i = 0;
     while i < n {
-        let at = 35 * i;
-        let bucket = txid_bucket(&txids[at..at + 35]);
+        let at = 5 * i;
+        let bucket = txid_bucket(
+            rows[at],
+            rows[at + 1],
+            rows[at + 2],
+            rows[at + 3],
+            rows[at + 4],
+        );
         enchain(&mut heads, &mut links, i, bucket);
         i += 1;
     }
     Chains { heads, links }
 }
 
-// The row with the field, which is in the bucket if it is anywhere.
-pub fn find_chained(
+// The row with two words, which is in the bucket if it is anywhere.
+pub fn find_two(
     heads: &[u16],
     links: &[u16],
-    rows: &[u8],
-    width: usize,
+    rows: &[u64],
     n: usize,
     bucket: usize,
-    field: &[u8],
+    a: u64,
+    b: u64,
 ) -> Found
-    requires { ⌜ Searchable width n bucket (now heads) (now links) (now rows) (now field) ⌝ }
-    ensures { λ r. ⌜ r ≡ firstRow width n (now (field .entry)) (now (rows .entry)) ⌝ }
+    requires { ⌜ Searchable 2 n bucket (now heads) (now links) (now rows) (a ∷ b ∷ []) ⌝ }
+    ensures { λ r. ⌜ r ≡ firstRow 2 n (a ∷ b ∷ []) (now (rows .entry)) ⌝ }
 {
     let mut at = wide(heads[bucket]);
     while 0 < at {
         let i = at - 1;
-        let from = width * i;
-        if fields::same_bytes(&rows[from..from + width], field) {
+        if row::holds_two(rows, 2 * i, a, b) {
+            return Found::At(i);
+        }
+        at = wide(links[i]);
+    }
+    Found::Nothing
+}
+
+// The row with five words, which is in the bucket if it is anywhere.
+pub fn find_five(
+    heads: &[u16],
+    links: &[u16],
+    rows: &[u64],
+    n: usize,
+    bucket: usize,
+    a: u64,
+    b: u64,
+    c: u64,
+    d: u64,
+    e: u64,
+) -> Found
+    requires { ⌜ Searchable 5 n bucket (now heads) (now links) (now rows) (a ∷ b ∷ c ∷ d ∷ e ∷ []) ⌝ }
+    ensures { λ r. ⌜ r ≡ firstRow 5 n (a ∷ b ∷ c ∷ d ∷ e ∷ []) (now (rows .entry)) ⌝ }
+{
+    let mut at = wide(heads[bucket]);
+    while 0 < at {
+        let i = at - 1;
+        if row::holds_five(rows, 5 * i, a, b, c, d, e) {
             return Found::At(i);
         }
         at = wide(links[i]);

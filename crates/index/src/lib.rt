@@ -1,136 +1,120 @@
-// The participants' and the route rows' BICs and the orders' TxIds, each as rows one after the other with chains through them: what a
-// search is lent. Rows and links behind those in use are left open: no search looks at them.
+// The participants' and the route rows' BICs and the orders' TxIds, each as rows of words one after the other with chains through them:
+// what a search is lent. Rows and links behind those in use are left open: no search looks at them.
 pub mod chains;
 pub mod row;
+pub mod words;
 
 use dayfile::roster::Participant;
 use dayfile::roster::Route;
 use fields::Found;
 use rules::Order;
 ghost use mathlib.Core.Path.{_≡_};
-ghost use mathlib.Core.Bool.{cond};
 ghost use Prim.Native.Nat.{ℕ, _+_, _*_, _≤_, _<_};
 ghost use lib.ListN.{length, getD, set};
 ghost use lib.Seq.{sets};
-ghost use Rattle.fields.specs.Number.{part};
 ghost use Rattle.fields.specs.Rows.{firstRow, Indexed};
 ghost use Rattle.dayfile.specs.Roster.{participantIn, rowOf};
 ghost use Rattle.rules.specs.Book.{orderOf};
-ghost use Rattle.index.specs.Chains.{buckets, bicBucket, txidBucket, Chained, Distinct};
+ghost use Rattle.index.specs.Chains.{buckets, rowBucket};
+ghost use Rattle.index.specs.Lent.{BicRows, TxidRows};
+ghost use Rattle.index.specs.Words.{bicWords, txidWords};
 
-pub fn bics_of(participants: [Participant; 32], size: usize) -> [u8; 352]
+pub fn bics_of(participants: [Participant; 32], size: usize) -> [u64; 64]
     requires { ⌜ (size ≤ 32) × ((p : ℕ) → p < size → length (participantIn participants p .bic) ≡ 11) ⌝ }
-    ensures { λ r. ⌜ (length r ≡ 352) × Indexed 11 (λ p. participantIn participants p .bic) size r ⌝ }
+    ensures { λ r. ⌜ (length r ≡ 64) × Indexed 2 (λ p. bicWords (participantIn participants p .bic)) size r ⌝ }
 {
-    let mut bics = [0u8; 352];
+    let mut bics = [0u64; 64];
     let mut p = 0;
     while p < size {
         let participant = participants[p];
         let bic = participant.bic;
-        row::put_row(&mut bics, 11, p, &bic);
+        row::put_bic(&mut bics, p, &bic);
         p += 1;
     }
     bics
 }
 
-pub fn route_bics_of(routes: [Route; 64], rows: usize) -> [u8; 704]
+pub fn route_bics_of(routes: [Route; 64], rows: usize) -> [u64; 128]
     requires { ⌜ (rows ≤ 64) × ((i : ℕ) → i < rows → length (rowOf routes i .bic) ≡ 11) ⌝ }
-    ensures { λ r. ⌜ (length r ≡ 704) × Indexed 11 (λ i. rowOf routes i .bic) rows r ⌝ }
+    ensures { λ r. ⌜ (length r ≡ 128) × Indexed 2 (λ i. bicWords (rowOf routes i .bic)) rows r ⌝ }
 {
-    let mut bics = [0u8; 704];
+    let mut bics = [0u64; 128];
     let mut i = 0;
     while i < rows {
         let route = routes[i];
         let bic = route.bic;
-        row::put_row(&mut bics, 11, i, &bic);
+        row::put_bic(&mut bics, i, &bic);
         i += 1;
     }
     bics
 }
 
-pub fn txids_of(orders: [Order; 256], count: usize) -> [u8; 8960]
+pub fn txids_of(orders: [Order; 256], count: usize) -> [u64; 1280]
     requires { ⌜ (count ≤ 256) × ((i : ℕ) → i < count → length (orderOf orders i .txid) ≡ 35) ⌝ }
-    ensures { λ r. ⌜ (length r ≡ 8960) × Indexed 35 (λ i. orderOf orders i .txid) count r ⌝ }
+    ensures { λ r. ⌜ (length r ≡ 1280) × Indexed 5 (λ i. txidWords (orderOf orders i .txid)) count r ⌝ }
 {
-    let mut txids = [0u8; 8960];
+    let mut txids = [0u64; 1280];
     let mut i = 0;
     while i < count {
         let order = orders[i];
         let txid = order.txid;
-        row::put_row(&mut txids, 35, i, &txid);
+        row::put_txid(&mut txids, i, &txid);
         i += 1;
     }
     txids
 }
 
-// The row of n with a BIC, if it is sought.
-pub fn find_bic(
-    sought: bool,
-    heads: &[u16],
-    links: &[u16],
-    bics: &[u8],
-    n: usize,
-    bic: &[u8],
-) -> Found
-    requires { ⌜
-        (length (now heads) ≡ buckets) × (n ≤ length (now links)) × (11 * n ≤ length (now bics)) × (length (now bic) ≡ 11)
-        × Chained (λ i. bicBucket (part 11 (11 * i) (now bics))) n (now heads) (now links) × Distinct 11 n (now bics)
-        ⌝ }
-    ensures { λ r. ⌜ r ≡ cond sought (firstRow 11 n (now (bic .entry)) (now (bics .entry))) Found.Nothing ⌝ }
+// The row of n with a BIC.
+pub fn find_bic(heads: &[u16], links: &[u16], rows: &[u64], n: usize, bic: &[u8]) -> Found
+    requires { ⌜ BicRows n (now rows) (now heads) (now links) × (length (now bic) ≡ 11) ⌝ }
+    ensures { λ r. ⌜ r ≡ firstRow 2 n (bicWords (now (bic .entry))) (now (rows .entry)) ⌝ }
 {
-    if sought {
-        chains::find_chained(heads, links, bics, 11, n, chains::bic_bucket(bic), bic)
-    } else {
-        Found::Nothing
-    }
+    let a = words::word_at(bic, 0);
+    let b = words::word24_at(bic, 8);
+    chains::find_two(heads, links, rows, n, chains::bic_bucket(a, b), a, b)
 }
 
-// The row of n with a TxId, whose bucket is known, if it is sought.
-pub fn find_txid(
-    sought: bool,
-    heads: &[u16],
-    links: &[u16],
-    txids: &[u8],
-    n: usize,
-    bucket: usize,
-    txid: &[u8],
-) -> Found
-    requires { ⌜
-        (length (now heads) ≡ buckets) × (n ≤ length (now links)) × (35 * n ≤ length (now txids)) × (bucket ≡ txidBucket (now txid))
-        × (bucket < buckets) × Chained (λ i. txidBucket (part 35 (35 * i) (now txids))) n (now heads) (now links) × Distinct 35 n (now txids)
-        ⌝ }
-    ensures { λ r. ⌜ r ≡ cond sought (firstRow 35 n (now (txid .entry)) (now (txids .entry))) Found.Nothing ⌝ }
+// The row of n with a TxId.
+pub fn find_txid(heads: &[u16], links: &[u16], rows: &[u64], n: usize, txid: &[u8]) -> Found
+    requires { ⌜ TxidRows n (now rows) (now heads) (now links) × (length (now txid) ≡ 35) ⌝ }
+    ensures { λ r. ⌜ r ≡ firstRow 5 n (txidWords (now (txid .entry))) (now (rows .entry)) ⌝ }
 {
-    if sought {
-        chains::find_chained(heads, links, txids, 35, n, bucket, txid)
-    } else {
-        Found::Nothing
-    }
+    let a = words::word_at(txid, 0);
+    let b = words::word_at(txid, 8);
+    let c = words::word_at(txid, 16);
+    let d = words::word_at(txid, 24);
+    let e = words::word24_at(txid, 32);
+    chains::find_five(
+        heads,
+        links,
+        rows,
+        n,
+        chains::txid_bucket(a, b, c, d, e),
+        a,
+        b,
+        c,
+        d,
+        e,
+    )
 }
 
-// The TxId of a new order i, in its bucket's chain; nothing where the order is not new.
-pub fn put_txid(
-    opened: bool,
-    heads: &mut [u16],
-    links: &mut [u16],
-    txids: &mut [u8],
-    i: usize,
-    bucket: usize,
-    txid: &[u8],
-)
+// The TxId of a new order i, in its bucket's chain.
+pub fn put_txid(heads: &mut [u16], links: &mut [u16], rows: &mut [u64], i: usize, txid: &[u8])
     requires { ⌜
-        (bucket < length (now heads)) × (i < length (now links)) × (i < 65535) × (35 * i + 35 ≤ length (now txids)) × (length (now txid) ≡ 35)
+        (length (now heads) ≡ buckets) × (i < length (now links)) × (i < 65535) × (5 * i + 5 ≤ length (now rows)) × (length (now txid) ≡ 35)
         ⌝ }
     ensures { λ _.
         ⌜
-        (now (heads .exit) ≡ cond opened (set (now (heads .entry)) bucket (i + 1)) (now (heads .entry)))
-        × (now (links .exit) ≡ cond opened (set (now (links .entry)) i (getD (now (heads .entry)) bucket 0)) (now (links .entry)))
-        × (now (txids .exit) ≡ cond opened (sets (now (txids .entry)) (35 * i) (now (txid .entry))) (now (txids .entry)))
+        (now (heads .exit) ≡ set (now (heads .entry)) (rowBucket (txidWords (now (txid .entry)))) (i + 1))
+        × (now (links .exit) ≡ set (now (links .entry)) i (getD (now (heads .entry)) (rowBucket (txidWords (now (txid .entry)))) 0))
+        × (now (rows .exit) ≡ sets (now (rows .entry)) (5 * i) (txidWords (now (txid .entry))))
         ⌝ }
 {
-    if opened {
-        chains::enchain(heads, links, i, bucket);
-        row::put_row(txids, 35, i, txid);
-        return;
-    }
+    let a = words::word_at(txid, 0);
+    let b = words::word_at(txid, 8);
+    let c = words::word_at(txid, 16);
+    let d = words::word_at(txid, 24);
+    let e = words::word24_at(txid, 32);
+    chains::enchain(heads, links, i, chains::txid_bucket(a, b, c, d, e));
+    row::put_five(rows, 5 * i, a, b, c, d, e);
 }

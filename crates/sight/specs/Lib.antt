@@ -1,1 +1,2 @@
 pub mod Sight
+pub mod Value

@@ -1,6 +1,20 @@
 // What is seen of a ticket before the clock moves: refusals 7 to 11, and what its kind asks for of sender, order and route.
+pub mod subjects;
+pub mod values;
+
 use fields::Found;
+use rules::terms::Subject;
+use ticket::kinds;
 use ticket::kinds::Kind;
+use ticket::kinds::Kinded;
+use ticket::layout;
+ghost use mathlib.Core.Path.{_≡_};
+ghost use lib.ListN.{length};
+ghost use Rattle.fields.specs.Rows.{firstRow};
+ghost use Rattle.ticket.specs.Layout.{ticketLength, senderOf, payeeOf, txidField};
+ghost use Rattle.index.specs.Lent.{BicRows, TxidRows};
+ghost use Rattle.index.specs.Words.{bicWords, txidWords};
+ghost use Rattle.sight.specs.Sight.{sightOf, sightRefusal};
 
 // A ticket that 7 to 11 do not refuse. What its kind does not ask for is nothing.
 pub struct Seen {
@@ -15,4 +29,104 @@ pub struct Seen {
 pub enum Sight {
     Read(Seen),
     Refused(u8),
+}
+
+// A ticket of 108 bytes, with the chains and rows of size participants, of count orders and of so many route rows. Sender, order and route
+// are searched for before any code's form is looked at: one that is found is well formed.
+pub fn see(
+    clock: u32,
+    t: &[u8],
+    bic_heads: &[u16],
+    bic_links: &[u16],
+    bics: &[u64],
+    size: usize,
+    txid_heads: &[u16],
+    txid_links: &[u16],
+    txids: &[u64],
+    count: usize,
+    route_heads: &[u16],
+    route_links: &[u16],
+    routes: &[u64],
+    rows: usize,
+) -> Sight
+    requires { ⌜
+        (length (now t) ≡ ticketLength) × BicRows size (now bics) (now «bic_heads») (now «bic_links»)
+        × TxidRows count (now txids) (now «txid_heads») (now «txid_links») × BicRows rows (now routes) (now «route_heads») (now «route_links»)
+        ⌝ }
+    ensures { λ r.
+        ⌜
+        r ≡ sightOf clock (now (t .entry))
+        (firstRow 2 size (bicWords (senderOf (now (t .entry)))) (now (bics .entry)))
+        (firstRow 5 count (txidWords (txidField (now (t .entry)))) (now (txids .entry)))
+        (firstRow 2 rows (bicWords (payeeOf (now (t .entry)))) (now (routes .entry)))
+        ⌝ }
+{
+    let Kinded::As(kind) = kinds::kind_of(t[layout::KIND], t[layout::FLAG]) else {
+        return Sight::Refused(7);
+    };
+    let subject = subjects::subject_of(kind);
+    match subject {
+        Subject::Nothing => subjects::nothing(clock, t, kind),
+        Subject::Sender => {
+            let sender = index::find_bic(
+                bic_heads,
+                bic_links,
+                bics,
+                size,
+                &t[layout::SENDER..layout::PAYEE],
+            );
+            subjects::cover(clock, t, kind, sender)
+        }
+        Subject::NewOrder => {
+            let sender = index::find_bic(
+                bic_heads,
+                bic_links,
+                bics,
+                size,
+                &t[layout::SENDER..layout::PAYEE],
+            );
+            let order = index::find_txid(
+                txid_heads,
+                txid_links,
+                txids,
+                count,
+                &t[layout::TXID..layout::IBAN],
+            );
+            let route = index::find_bic(
+                route_heads,
+                route_links,
+                routes,
+                rows,
+                &t[layout::PAYEE..layout::TXID],
+            );
+            subjects::order(clock, t, sender, order, route)
+        }
+        Subject::HeldOrder => {
+            let sender = index::find_bic(
+                bic_heads,
+                bic_links,
+                bics,
+                size,
+                &t[layout::SENDER..layout::PAYEE],
+            );
+            let order = index::find_txid(
+                txid_heads,
+                txid_links,
+                txids,
+                count,
+                &t[layout::TXID..layout::IBAN],
+            );
+            subjects::about(clock, t, kind, sender, order)
+        }
+    }
+}
+
+// The refusal, 0 where the ticket passes.
+pub fn refusal_of(sight: Sight) -> u8
+    ensures { λ r. ⌜ r ≡ sightRefusal sight ⌝ }
+{
+    match sight {
+        Sight::Read(_) => 0,
+        Sight::Refused(n) => n,
+    }
 }

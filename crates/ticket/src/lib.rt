@@ -1,9 +1,9 @@
 // Reading a ticket of 108 bytes: refusals 7 to 10 in the paper's order, or the fields. Any bytes of any length may be handed in.
-mod amounts;
+pub mod amounts;
 mod forms;
 pub mod kinds;
 pub mod layout;
-mod shapes;
+pub mod shapes;
 
 use amounts::Limit;
 use amounts::Stated;

@@ -1,6 +1,12 @@
--- `index::find_txid` meets its contract: a row that holds the TxId is in its bucket. Assumes nothing.
-use Rattle.index.specs.Chains.{txidBucket}
+-- `index::find_txid` meets its contract: a row that holds the words is in their bucket. Assumes nothing.
+use mathlib.Core.Path.{_∙_, ap}
+use mathlib.Core.List.{List}
+use Prim.Native.Nat.{ℕ}
+use denote.Ref.{now}
+use Rattle.fields.specs.Rows.{firstRow}
+use Rattle.index.specs.Chains.{rowBucket}
 use Rattle.index.proofs.Chaining.{searchable}
+use Rattle.index.proofs.LittleEndian.{five-words}
 use borrow.Author.Needs.{needs}
 use Rattle.index.proofs.find_txid.Statement.{statement}
 use Rattle.index.proofs.find_txid.Tie as tie
@@ -9,8 +15,21 @@ pub find-txid-spec : {M : Type 1} → statement M
 find-txid-spec =
     tie.close
     (tie.spec
+    (λ c κs. search needs)
+    (λ c κs. search needs)
+    (λ c κs. search needs)
+    (λ c κs. search needs)
+    (λ c κs. search needs)
+    (λ c κs. search needs)
     (λ c κs.
-    let p = c .before .before .before .before .before .pre in
-    searchable txidBucket (p .5) (p .0) (p .1) (p .2) (p .6) _ _ (p .3) (p .4))
-    (λ c. rw (c .before .if1 .taken) (c .find-chained .ensures))
-    (λ c. search needs))
+    let lent = c .before .before .before .before .before .before .before .before .before .before .pre .0 in
+    searchable rowBucket (lent .chained) (lent .headed) (lent .linked) (lent .long) (lent .distinct) _ _ (c .txid-bucket .ensures .0)
+    (c .txid-bucket .ensures .1))
+    (λ c.
+    let fifth = c .before .before in
+    let first = fifth .before .before .before .before in
+    let a = first .before .before .before .before .before .args in
+    c .find-five .ensures
+    ∙ ap (λ (ws : List ℕ). firstRow 5 (a .n) ws (now (a .rows)))
+    (five-words (first .word-at .ensures) (fifth .before .before .before .word-at2 .ensures) (fifth .before .before .word-at3 .ensures)
+    (fifth .before .word-at4 .ensures) (fifth .word24-at .ensures))))

@@ -1,23 +1,24 @@
--- `index::txids_of` meets its contract. The loop's invariant: the first i rows are written. Assumes nothing.
-use mathlib.Core.Path.{_≡_, refl, sym, _∙_, subst}
-use mathlib.Core.List.{List}
-use Prim.Native.Nat.{ℕ, _+_, _≤_, _-_}
-use native.Mathlib.Nat.{not-suc-le-zero}
+-- `index::txids_of` meets its contract. The loop's invariant: the first i rows are made. Assumes nothing.
+use mathlib.Core.Path.{_≡_, refl}
+use Prim.Native.Nat.{_-_}
 use native.Mathlib.Omega.{arith}
 use lib.ListN.{length}
-use Rattle.fields.specs.Rows.{Indexed}
-use Rattle.fields.proofs.Indexing.{put-indexed}
 use Rattle.rules.specs.Book.{orderOf}
+use Rattle.index.specs.Words.{txidWords}
+use Rattle.index.proofs.Filling.{Made, none-made, one-made, all-made}
 use borrow.Author.Needs.{needs}
 use Rattle.index.proofs.txids_of.Statement.{statement}
 use Rattle.index.proofs.txids_of.Tie as tie
 
 abbrev Inv-loop : tie.InvT-loop
-Inv-loop count orders txids₀ i₀ txids i =
-    (i ≤ count) × (length txids ≡ 8960) × Indexed 35 (λ k. orderOf orders k .txid) i txids
+Inv-loop count orders txids₀ i₀ txids i = Made 5 1280 count (λ k. txidWords (orderOf orders k .txid)) i txids
 
 abbrev μ-loop : tie.MeasureT-loop
 μ-loop count orders txids₀ i₀ txids i = count - i
+
+-- a field is as wide as its row wants
+wide-field : (c : tie.In-loop Inv-loop μ-loop) → length (orderOf (c .before .before .args .t1) (c .before .loop .i) .txid) ≡ 35
+wide-field c = c .before .before .pre .1 (c .before .loop .i) (c .loop-test .taken)
 
 pub txids-of-spec : {M : Type 1} → statement M
 txids-of-spec =
@@ -25,32 +26,19 @@ txids-of-spec =
     (tie.spec
     Inv-loop
     μ-loop
-    (λ c. (search needs, refl, record { row = λ k l. absurd (not-suc-le-zero l) }))
+    (λ c. none-made _ refl)
     (λ c. search needs)
     (λ c. search needs)
-    (λ c. search needs)
-    (λ c.
-    let in-loop = c .before .before .before .before in
-    let wide = in-loop .before .before .pre .1 (in-loop .before .loop .i) (in-loop .loop-test .taken) in
-    search needs)
+    (λ c. let long = c .before .before .before .before .loop .inv .long in search needs)
+    (λ c. let wide = wide-field (c .before .before .before .before) in search needs)
     (λ c κs.
-    let in-loop = c .before .before .before .before in
-    let wide = in-loop .before .before .pre .1 (in-loop .before .loop .i) (in-loop .loop-test .taken) in
-    (wide, search needs))
+    let l = c .before .before .before .before .before in
+    let long = l .loop .inv .long in
+    (search needs, wide-field (c .before .before .before .before)))
     (λ c. search needs)
     (λ c. search needs)
     (λ c.
     let put = c .before in
     let in-loop = put .before .before .before .before .before in
-    let l = in-loop .before in
-    let wide = l .before .pre .1 (l .loop .i) (in-loop .loop-test .taken) in
-    let field : ℕ → List ℕ = λ k. orderOf (l .before .args .t1) k .txid in (
-      search needs,
-      put .put-row .kept .0 ∙ l .loop .inv .1,
-      subst (Indexed 35 field (l .loop .i + 1)) (sym (put .put-row .ensures))
-          (put-indexed (l .loop .inv .2) (field (l .loop .i)) wide (search needs) field (λ k h. refl) refl),
-    ))
-    (λ c.
-    let l = c .before in
-    let end : l .loop .i ≡ l .before .args .count = omega arith in
-    (l .loop .inv .1, rw end at (l .loop .inv .2))))
+    one-made (in-loop .before .loop .inv) (in-loop .loop-test .taken) (search needs) refl (put .put-txid .ensures))
+    (λ c. all-made (c .before .loop .inv) (c .loop-test .left)))

@@ -1,5 +1,5 @@
 -- `index::chains::txid_bucket` meets its contract. Assumes nothing.
-use mathlib.Core.Path.{_∙_, ap, ap₂}
+use mathlib.Core.Path.{_∙_, ap}
 use Prim.Native.Nat.{ℕ, _%_}
 use native.Mathlib.Nat.{mod-lt}
 use native.Mathlib.Omega.{arith}
@@ -16,24 +16,14 @@ txid-bucket-spec =
     (λ c κs. search needs)
     (λ c κs. search needs)
     (λ c κs. search needs)
-    (λ c κs. search needs)
-    (λ c κs. search needs)
-    (λ c κs. search needs)
-    (λ c κs. search needs)
-    (λ c. search needs)
-    (λ c κs. search needs)
     (λ c.
-    let to-four = c .before .before in
-    let to-three = to-four .before .before in
-    let to-two = to-three .before .before in (
+    let four = c .before in
+    let three = four .before in
+    let a = three .before .before .args in (
       ap (λ (n : ℕ). n % buckets)
           (c .wrapping-add-u644 .ensures
-          ∙ ap₂ added (to-four .wrapping-add-u643 .ensures
-          ∙ ap₂ added (to-three .wrapping-add-u642 .ensures
-          ∙ ap₂ added (to-two .wrapping-add-u64 .ensures
-          ∙ ap₂ added (to-two .before .before .u64-at .ensures) (to-two .before .u64-at2 .ensures))
-          (to-three .before .u64-at3 .ensures))
-          (to-four .before .u64-at4 .ensures))
-          (c .before .u24-at .ensures)),
+          ∙ ap (λ (n : ℕ). added n (a .e)) (four .wrapping-add-u643 .ensures
+          ∙ ap (λ (n : ℕ). added n (a .d)) (three .wrapping-add-u642 .ensures
+          ∙ ap (λ (n : ℕ). added n (a .c)) (three .before .wrapping-add-u64 .ensures)))),
       omega arith,
     )))

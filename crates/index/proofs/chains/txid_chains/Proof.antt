@@ -1,24 +1,23 @@
 -- `index::chains::txid_chains` meets its contract. The loop's invariant: the first i rows are chained. Assumes nothing.
-use mathlib.Core.Path.{_≡_, refl, _∙_, ap}
-use Prim.Native.Nat.{ℕ, _+_, _*_, _≤_, _-_}
-use native.Mathlib.Nat.{add-sub-cancel-left}
+use mathlib.Core.Path.{_≡_, refl, sym, _∙_, ap}
+use Prim.Native.Nat.{_*_, _≤_, _-_}
 use native.Mathlib.Omega.{arith}
 use denote.Ref.{now}
-use lib.ListN.{length, take, drop}
+use lib.ListN.{length}
 use Rattle.fields.specs.Number.{part}
-use Rattle.fields.proofs.Stores.{length-part}
-use Rattle.index.specs.Chains.{buckets, txidBucket, Chained}
+use Rattle.index.specs.Chains.{buckets, rowBucket, Chained}
 use Rattle.index.proofs.Chaining.{none-chained, enchained}
+use Rattle.index.proofs.LittleEndian.{part-five}
 use borrow.Author.Needs.{needs}
 use Rattle.index.proofs.chains.txid_chains.Statement.{statement}
 use Rattle.index.proofs.chains.txid_chains.Tie as tie
 
 abbrev Inv-loop : tie.InvT-loop
-Inv-loop txids n heads₀ links₀ i₀ heads links i =
-    (i ≤ n) × (length heads ≡ buckets) × (length links ≡ 256) × Chained (λ k. txidBucket (part 35 (35 * k) txids)) i heads links
+Inv-loop rows n heads₀ links₀ i₀ heads links i =
+    (i ≤ n) × (length heads ≡ buckets) × (length links ≡ 256) × Chained (λ k. rowBucket (part 5 (5 * k) rows)) i heads links
 
 abbrev μ-loop : tie.MeasureT-loop
-μ-loop txids n heads₀ links₀ i₀ heads links i = n - i
+μ-loop rows n heads₀ links₀ i₀ heads links i = n - i
 
 pub txid-chains-spec : {M : Type 1} → statement M
 txid-chains-spec =
@@ -32,24 +31,33 @@ txid-chains-spec =
     (λ c. search needs)
     (λ c. search needs)
     (λ c. search needs)
-    (λ c κs. rw add-sub-cancel-left (length-part 35 (35 * c .before .before .loop .i) _ (omega arith)))
     (λ c. search needs)
     (λ c. search needs)
-    (λ c κs. let b = c .before .before .txid-bucket .ensures .1 in let l = c .before .before .before .before .before .loop .inv in (omega arith, omega arith, omega arith))
+    (λ c. search needs)
+    (λ c. search needs)
+    (λ c. search needs)
+    (λ c. search needs)
+    (λ c. search needs)
+    (λ c. search needs)
+    (λ c. search needs)
+    (λ c. search needs)
+    (λ c κs. search needs)
+    (λ c. search needs)
+    (λ c. search needs)
+    (λ c κs. let b = c .before .before .txid-bucket .ensures .1 in let l = c .before .before .before .before .before .before .before .before .before .loop .inv in (omega arith, omega arith, omega arith))
     (λ c. search needs)
     (λ c. search needs)
     (λ c.
     let put = c .before .before in
     let told = put .before .before .before in
-    let l = told .before .before .before in
-    let txids = now (l .before .before .args .txids) in
-    let i = l .loop .i in
-    let few = told .before .before .loop-test .taken in (
+    let in-loop = told .before .before .before .before .before .before in
+    let l = in-loop .before in
+    let few = in-loop .loop-test .taken in (
       search needs,
       put .enchain .kept .0 ∙ l .loop .inv .1,
       put .enchain .kept .1 .0 ∙ l .loop .inv .2,
       enchained (l .loop .inv .3) (l .loop .inv .1) (let h = l .loop .inv .2 in omega arith)
-          (told .txid-bucket .ensures .0 ∙ ap (λ (v : ℕ). txidBucket (take v (drop (35 * i) txids))) (add-sub-cancel-left (35 * i) 35))
+          (told .txid-bucket .ensures .0 ∙ ap rowBucket (sym (part-five (5 * l .loop .i) (now (l .before .before .args .rows)) (omega arith))))
           (told .txid-bucket .ensures .1) (put .enchain .ensures .0) (put .enchain .ensures .1),
     ))
     (λ c.

@@ -1,0 +1,51 @@
+-- `shapes::about` meets its contract. Assumes nothing.
+use mathlib.Core.Path.{sym, ap}
+use denote.Ref.{now}
+use Rattle.rules.specs.declared.terms.Subject.the-variants.{HeldOrder}
+use Rattle.shapes.specs.declared.amounts.Amounts.{Amounts}
+use Rattle.shapes.specs.Amounts.{amountsOf}
+use Rattle.shapes.proofs.Forms.{about-formed, shape-is}
+use borrow.Author.Needs.{needs}
+use Rattle.shapes.proofs.about.Statement.{statement}
+use Rattle.shapes.proofs.about.Tie as tie
+
+pub about-spec : {M : Type 1} → statement M
+unfolding amountsOf
+about-spec =
+    tie.close
+    (tie.spec
+    (λ c κs. search needs)
+    (λ c κs. search needs)
+    (λ c κs. search needs)
+    (λ c κs. search needs)
+    (λ c κs. search needs)
+    (λ c. search needs)
+    (λ c. search needs)
+    (λ c. search needs)
+    (λ c κs. search needs)
+    (λ c. search needs)
+    (λ c. search needs)
+    (λ c. search needs)
+    (λ c κs. search needs)
+    (λ c κs. search needs)
+    (λ c.
+    let txid = c .before in
+    let sender = txid .before .before in
+    let amount = sender .before .before in
+    let amounts = amount .before .before in
+    let rest = amounts .before in
+    let payee = rest .before in
+    let spare = payee .before in
+    let a = spare .before .before in
+    let t = now (a .args .t) in
+    simp (
+      c .shape .ensures,
+      spare .zero-u16-at .ensures,
+      ap (λ (x : Amounts). x .most) (amounts .amounts-of .ensures),
+      amount .zero-u64-at .ensures,
+      sender .bic .ensures,
+      payee .payee .ensures,
+      txid .txid .ensures,
+      rest .from-iban .ensures,
+    )
+    (sym (shape-is HeldOrder (a .args .kind) t (a .pre .0) _ (about-formed (a .args .kind) t (a .pre .0 .names))))))

@@ -1,0 +1,54 @@
+-- Refusals 9 to 11: amount and time, the same for every kind.
+--     statedBy        9: the amount, or Zero
+--     amountIn        the amount that was found
+--     limitBy         10: Within, or Above
+--     valueRefusal    the first of 9 to 11 that applies, 0 if none does
+--     valueSight      refused by that, or what is seen
+-- Assumes nothing.
+use Prim.Native.Nat.{ℕ}
+use mathlib.Core.Bool.{cond}
+use mathlib.Core.List.{List}
+use lib.Dec.{ltb}
+use Rattle.fields.specs.declared.search.Found.{Found}
+use Rattle.ticket.specs.Layout.{amountOf, timeOf}
+use Rattle.ticket.specs.Refusal.{statedRefusal, limitRefusal}
+use Rattle.ticket.specs.declared.kinds.Kind.{Kind}
+use Rattle.ticket.specs.declared.amounts.Stated.{Stated}
+use Rattle.ticket.specs.declared.amounts.Stated.the-variants.{Amount, Zero}
+use Rattle.ticket.specs.declared.amounts.Limit.{Limit}
+use Rattle.ticket.specs.declared.amounts.Limit.the-variants.{Within, Above}
+use Rattle.rules.specs.Refusal.{firstOf, timingOf, timingRefusal}
+use Rattle.shapes.specs.Amounts.{amountsOf}
+use Rattle.shapes.specs.declared.amounts.Amounts.{Amounts}
+use Rattle.sight.specs.Sight.{sightBy}
+use Rattle.sight.specs.declared.Sight.{Sight}
+
+-- 9. Amount zero for kinds 1, 2, 3, 6: those whose least amount is 1
+abbrev pub statedBy : Amounts → List ℕ → Stated
+statedBy amounts t = cond (ltb (amountOf t) (amounts .least)) Zero (Amount (amountOf t))
+
+abbrev pub amountIn : Stated → ℕ
+amountIn (Amount n) = n
+amountIn Zero = 0
+
+-- 10. Amount above its kind's limit
+abbrev pub limitBy : Amounts → ℕ → Limit
+limitBy amounts n = cond (ltb (amounts .most) n) Above Within
+
+abbrev pub valueRefusal : ℕ → List ℕ → Amounts → ℕ
+valueRefusal clock t amounts =
+    firstOf (statedRefusal (statedBy amounts t))
+    (firstOf (limitRefusal (limitBy amounts (amountIn (statedBy amounts t))))
+    (timingRefusal (timingOf clock (timeOf t))))
+
+abbrev pub valueSight : ℕ → List ℕ → Kind → Found → Found → Found → Sight
+valueSight clock t kind sender order route =
+    sightBy (valueRefusal clock t (amountsOf kind))
+    (record {
+      kind = kind;
+      time = timeOf t;
+      amount = amountIn (statedBy (amountsOf kind) t);
+      sender = sender;
+      order = order;
+      route = route;
+    })
