@@ -1,5 +1,5 @@
 // Handing in one ticket of any bytes and length, with a report buffer of any bytes and length lent for it.
-use judging::refusal;
+use orders::room;
 use report::answer;
 use rules::Book;
 use rules::refusal::Buffer;
@@ -32,7 +32,7 @@ pub fn hand_in(b: Book, ticket: &[u8], buffer: &mut [u8]) -> Handed
     requires { ⌜ Sound b ⌝ }
     ensures { λ r. ⌜ Hands b (now (ticket .entry)) (now (buffer .entry)) r (now (buffer .exit)) ⌝ }
 {
-    let Buffer::Enough = refusal::buffer_of(buffer.len()) else {
+    let Buffer::Enough = room::buffer_of(buffer.len()) else {
         return turned_back(b, 6);
     };
     if ticket.len() != layout::LENGTH {

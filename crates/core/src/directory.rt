@@ -19,7 +19,7 @@ pub struct Directory {
 
 pub fn directory_of(roster: Roster) -> Directory
     requires { ⌜ Guaranteed roster ⌝ }
-    ensures { λ r. ⌜ Directs roster (r .bics) (r .bic_heads) (r .bic_links) (r .routes) (r .route_heads) (r .route_links) (r .kinds) (r .numbers) ⌝ }
+    ensures { λ r. ⌜ Directs roster (r .bics) (r .«bic_heads») (r .«bic_links») (r .routes) (r .«route_heads») (r .«route_links») (r .kinds) (r .numbers) ⌝ }
 {
     let participants = roster.participants;
     let bics = index::bics_of(participants, roster.size);
@@ -28,14 +28,20 @@ pub fn directory_of(roster: Roster) -> Directory
     let route_bics = index::route_bics_of(routes, roster.rows);
     let route_chains = chains::bic_chains(&route_bics, roster.rows);
     let targets = routes::targets_of(routes);
+    let bic_heads = bic_chains.heads;
+    let bic_links = bic_chains.links;
+    let route_heads = route_chains.heads;
+    let route_links = route_chains.links;
+    let kinds = targets.kinds;
+    let numbers = targets.numbers;
     Directory {
         bics,
-        bic_heads: bic_chains.heads,
-        bic_links: bic_chains.links,
+        bic_heads,
+        bic_links,
         routes: route_bics,
-        route_heads: route_chains.heads,
-        route_links: route_chains.links,
-        kinds: targets.kinds,
-        numbers: targets.numbers,
+        route_heads,
+        route_links,
+        kinds,
+        numbers,
     }
 }

@@ -1,6 +1,7 @@
 // The core: a book is kept over many tickets and changed in place.
+
 mod directory;
-mod turns;
+mod taking;
 
 use rules::Book;
 ghost use Rattle.rules.specs.Sound.{Sound};
@@ -23,7 +24,7 @@ pub fn run(b: Book, tickets: &[u8], answers: &mut [u8], reports: &mut [u8]) -> B
 {
     let roster = b.roster;
     let d = directory::directory_of(roster);
-    turns::take(
+    taking::take(
         b,
         tickets,
         answers,

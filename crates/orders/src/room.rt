@@ -1,10 +1,12 @@
-// How far the core goes: over tickets, and over orders.
+// Whether there is room for a ticket's reports, and for one ticket more.
 use report::answer;
 use rules::constants;
+use rules::refusal::Buffer;
 use ticket::layout;
 ghost use mathlib.Core.Path.{_≡_};
 ghost use mathlib.Core.Bool.{cond};
-ghost use lib.Dec.{eqb};
+ghost use lib.Dec.{ltb};
+ghost use Rattle.rules.specs.Refusal.{leastBuffer};
 ghost use Rattle.intake.specs.Running.{roomLeft};
 
 // Whether one ticket more is taken, by the bytes that are left of tickets, answers and reports.
@@ -14,9 +16,13 @@ pub fn room_left(tickets: usize, answers: usize, reports: usize) -> bool
     (layout::LENGTH <= tickets) & (answer::LENGTH <= answers) & (constants::LEAST_BUFFER <= reports)
 }
 
-// Up to which order expiries are looked for: at a ticket that was refused, none.
-pub fn sweep_end(refusal: u8, mark: usize, count: usize) -> usize
-    ensures { λ r. ⌜ r ≡ cond (eqb refusal 0) count mark ⌝ }
+// Refusal 6, of a report buffer's length.
+pub fn buffer_of(length: usize) -> Buffer
+    ensures { λ r. ⌜ r ≡ cond (ltb length leastBuffer) Buffer.Short Buffer.Enough ⌝ }
 {
-    if refusal == 0 { count } else { mark }
+    if length < constants::LEAST_BUFFER {
+        Buffer::Short
+    } else {
+        Buffer::Enough
+    }
 }

@@ -1,0 +1,124 @@
+-- The end of a turn, whatever becomes of the order: nothing, opened, another status, a cut. It was one step of the rules. Assumes nothing.
+use mathlib.Core.Path.{_≡_, refl, sym, _∙_, ap}
+use mathlib.Core.List.{List}
+use mathlib.Core.Logic.{⊎-elim}
+use Prim.Native.Nat.{ℕ, _+_, _*_, _≤_, _<_}
+use native.Mathlib.Omega.{arith}
+use lib.ListN.{length, set}
+use Rattle.dayfile.specs.Route.{rowsFollowed}
+use Rattle.dayfile.specs.declared.roster.Roster.{Roster}
+use Rattle.rules.specs.Book.{coverOf}
+use Rattle.rules.specs.Cover.{whole, mostTotal}
+use Rattle.rules.specs.declared.Order.{Order}
+use Rattle.rules.specs.declared.Status.the-variants.{Waiting}
+use Rattle.rules.specs.declared.Book.{Book}
+use Rattle.index.specs.Words.{txidWords}
+use Rattle.index.specs.Chains.{rowBucket}
+use Rattle.index.proofs.Lending.{bucket-inside}
+use Rattle.ticket.specs.Layout.{txidField}
+use Rattle.turns.proofs.Facts.{Searched, number-is, way-is, new-order}
+use Rattle.turns.proofs.Carrying.{cut-size, cut-room, cut-whole}
+use Rattle.turns.proofs.Done.{Done}
+use Rattle.turns.proofs.Ending.{did-nothing, changed, opened, cut}
+use Rattle.core.proofs.Keeping.{done-as}
+use Rattle.core.proofs.taking.take.Proof.Loop.{start, b, long-reports, ticket, room}
+use Rattle.core.proofs.taking.take.Proof.Expiring.{saw, seen-at, hd, swept-book, expired}
+use Rattle.core.proofs.taking.take.Proof.Judging.{follows, searched, v, verdict-is, suits}
+use Rattle.core.proofs.taking.take.Proof.Carrying.{judged-at, left-at, both, carried-out}
+use Rattle.core.proofs.taking.take.Proof.Places as at
+
+-- a cut: there is room for its reports, and no cover is above the limit
+module _ (c : at.After-put-cut-arg) where
+  abbrev told-c : at.After-slice-known5
+  told-c = at.carried-from-After-put-cut-arg c
+
+  abbrev j-c : at.After-judge
+  j-c = judged-at told-c
+
+  abbrev h-c : at.At-loop
+  h-c = hd (left-at told-c)
+
+  abbrev r-c : Roster
+  r-c = start h-c .args .t1 .roster
+
+  pub few-participants : r-c .size ≤ 32
+  few-participants =
+      cut-size (expired (left-at told-c)) (suits j-c) (carried-out told-c) (at.cuts-from-After-put-cut-arg c .enum-told4 .given .1) (sym (h-c .loop .inv .roster))
+
+  pub cut-fits : 12 * at.told-from-After-put-cut-arg c .put-notices .result + 12 * r-c .size ≤ length (at.told-from-After-put-cut-arg c .put-notices .last .0)
+  cut-fits =
+      let has = room (at.room-from-After-put-cut-arg c) .report in
+      let long = long-reports h-c in
+      cut-room (expired (left-at told-c)) (suits j-c) (carried-out told-c) (at.cuts-from-After-put-cut-arg c .enum-told4 .given .1) (sym (h-c .loop .inv .roster))
+      (omega arith)
+
+  pub uncut-whole : (p : ℕ) → p < r-c .size → whole (coverOf (both told-c) p) ≤ mostTotal
+  uncut-whole =
+      cut-whole (expired (left-at told-c)) (suits j-c) (carried-out told-c) (at.cuts-from-After-put-cut-arg c .enum-told4 .given .1) (sym (h-c .loop .inv .roster))
+
+module _ (c : at.At-match2-came) where
+  abbrev told-at : at.After-slice-known5
+  told-at = at.carried-from-At-match2-came c
+
+  abbrev left : at.Left-loop2
+  left = left-at told-at
+
+  abbrev pub hh : at.At-loop
+  hh = hd left
+
+  abbrev j : at.After-judge
+  j = judged-at told-at
+
+  abbrev book : Book
+  book = swept-book left
+
+  abbrev numbers : at.After-number-of2
+  numbers = at.numbers-from-At-match2-came c
+
+  -- the new order, as the code makes it
+  abbrev newly : List ℕ → ℕ → Order
+  newly txid payee =
+      record {
+        txid = txid;
+        payer = numbers .before .number-of .result;
+        payee = payee;
+        amount = saw (seen-at left) .amount;
+        time = book .clock;
+        status = Waiting;
+      }
+
+  abbrev with-order : ℕ → ℕ → Order → Book
+  with-order i count o =
+      record { clock = book .clock; covers = both told-at; orders = set (book .orders) i o; count = count; roster = book .roster }
+
+  pub done : Done txidWords rowBucket (b hh) (ticket hh) (hh .loop .n) (hh .loop .reports) (c .match2 .b) (v j .refusal) (c .match2 .followed) (c .match2 .n)
+      (c .match2 .reports) (left .before .loop2 .next) (c .match2 .txids) (c .match2 .heads) (c .match2 .links)
+      (at.total-from-At-match2-came c .total-with2 .result)
+  done =
+      let w = expired left in
+      let is = verdict-is j in
+      let k = carried-out told-at in
+      let index = hh .loop .inv .index in
+      let ours = sym (hh .loop .inv .roster) in
+      let found = searched numbers in
+      let way = follows (at.way-from-At-match2-came c) in
+      ⊎-elim
+      (λ x. done-as (did-nothing w is k index (x .1 .given .1) (x .3)) (x .2) (x .4) (x .5) (x .6) (x .7) (x .8))
+      (⊎-elim
+      (λ x.
+      done-as
+      (opened w is k index (x .1 .given .1)
+      (ap (newly _) (x .6 .ensures) ∙ new-order w found ours way (x .4 .ensures))
+      (x .17) (x .15 .ensures ∙ ap rowsFollowed (way-is w found ours way)) (λ s long. refl) refl (bucket-inside (txidWords (txidField (ticket hh))))
+      (x .11 .ensures .0) (x .11 .ensures .1) (x .11 .ensures .2))
+      (x .16) (x .18) (x .19) (x .20) (x .21) (x .22))
+      (⊎-elim
+      (λ x.
+      done-as
+      (changed w is k index (x .1 .given .1) (number-is w found)
+      (x .5 ∙ ap (with-order (numbers .number-of2 .result) (book .count)) (x .3 .ensures)))
+      (x .4) (x .6) (x .7) (x .8) (x .9) (x .10))
+      (λ x.
+      done-as (cut w is k index (x .1 .given .1) ours (x .7 .ensures) (x .9) (x .4 .ensures .1) (x .4 .ensures .0))
+      (x .8) (x .10) (x .11) (x .12) (x .13) (x .14))))
+      (c .match2 .came)

@@ -1,0 +1,260 @@
+// Tickets one after the other, each in a turn: it is seen, orders expire, it is judged, and what was judged is carried out.
+use super::Batch;
+use index::chains;
+use moves::cover;
+use moves::cut;
+use moves::find;
+use moves::sums;
+use moves::told;
+use orders::room;
+use orders::status;
+use orders::tick;
+use report::answer;
+use report::answer::Answer;
+use rules::Book;
+use rules::Order;
+use rules::Status;
+use rules::verdict::About;
+use rules::verdict::Does;
+use rules::verdict::Facts;
+use sight::Sight;
+use ticket::kinds::Kind;
+use ticket::layout;
+ghost use mathlib.Core.Path.{_≡_};
+ghost use Rattle.rules.specs.Terms.{termsOf};
+ghost use Rattle.rules.specs.Sound.{Sound};
+ghost use Rattle.intake.specs.Seeking.{seeksOpen};
+ghost use Rattle.intake.specs.Running.{Ran};
+ghost use Rattle.core.specs.Directory.{Directs};
+
+// Whether a kind looks for held and open debit anywhere.
+fn is_cut(kind: Kind) -> bool
+    ensures { λ r. ⌜ r ≡ seeksOpen (termsOf kind .flow) ⌝ }
+{
+    match kind {
+        Kind::CoverIn => false,
+        Kind::CoverOut => false,
+        Kind::Order => false,
+        Kind::Yes => false,
+        Kind::No => false,
+        Kind::Recall => false,
+        Kind::Return => false,
+        Kind::Decline => false,
+        Kind::Inquiry => false,
+        Kind::Cut => true,
+        Kind::Confirm => false,
+        Kind::Tick => false,
+    }
+}
+
+pub fn take<'a>(
+    mut b: Book,
+    tickets: &[u8],
+    answers: &mut [u8],
+    reports: &mut [u8],
+    bics: &'a [u64],
+    bic_heads: &'a [u16],
+    bic_links: &'a [u16],
+    routes: &'a [u64],
+    route_heads: &'a [u16],
+    route_links: &'a [u16],
+    kinds: &'a [u8; 64],
+    numbers: &'a [usize; 64],
+) -> Batch
+    requires { ⌜
+        Sound b
+        × Directs (b .roster) (now bics) (now «bic_heads») (now «bic_links») (now routes) (now «route_heads»)
+        (now «route_links») (now kinds) (now numbers)
+        ⌝ }
+    ensures { λ r.
+        ⌜
+        Ran b (now (tickets .entry)) (now (answers .entry)) (now (reports .entry)) (r .book) (r .taken) (now (answers .exit))
+        (now (reports .exit))
+        ⌝ }
+{
+    let roster = b.roster;
+    let size = roster.size;
+    let rows = roster.rows;
+    let orders = b.orders;
+    let mut txids = index::txids_of(orders, b.count);
+    let made = chains::txid_chains(&txids, b.count);
+    let mut heads = made.heads;
+    let mut links = made.links;
+    // all cover together
+    let covers = b.covers;
+    let mut total = sums::total_of(covers, size);
+    // no order before it waits for a bank
+    let mut next = 0;
+    let mut taken = 0;
+    let mut n = 0;
+    while room::room_left(
+        tickets.len() - layout::LENGTH * taken,
+        answers.len() - answer::LENGTH * taken,
+        reports.len() - report::LENGTH * n,
+    ) {
+        let at = layout::LENGTH * taken;
+        let t = &tickets[at..at + layout::LENGTH];
+
+        // it is seen
+        let sight = sight::see(
+            b.clock,
+            t,
+            bic_heads,
+            bic_links,
+            bics,
+            size,
+            &heads,
+            &links,
+            &txids,
+            b.count,
+            route_heads,
+            route_links,
+            routes,
+            rows,
+        );
+        let Sight::Read(s) = sight else {
+            answer::put_answer(
+                answers,
+                taken,
+                Answer {
+                    refusal: sight::refusal_of(sight),
+                    reports: 0,
+                    rows: 0,
+                },
+            );
+            taken += 1;
+            continue;
+        };
+        b.clock = s.time;
+        let before = n;
+
+        // orders expire, in arrival order, up to the first that is younger than 20 seconds
+        while next < b.count {
+            let o = b.orders[next];
+            if tick::is_young(b.clock, o.time) {
+                break;
+            }
+            let payee = o.payee;
+            let bank = find::is_bank(roster.participants[payee]);
+            let lapse = tick::expire(b.clock, next, o, bank);
+            let order = lapse.order;
+            b.orders[next] = order;
+            let freed = lapse.freed;
+            let how = freed.how;
+            let who = freed.who;
+            b.covers[who] = cover::moved(how, freed.amount, b.covers[who]);
+            let told = lapse.told;
+            n = told::put_told(reports, n, told);
+            next += 1;
+        }
+
+        // it is judged
+        let kind = s.kind;
+        let sender = s.sender;
+        let order = s.order;
+        let route = s.route;
+        let way = routes::end_of(kinds, numbers, route);
+        let mut unconfirmed = false;
+        if is_cut(kind) {
+            let covers = b.covers;
+            unconfirmed = sums::any_open(covers, size);
+        }
+        let p = fields::number_of(sender);
+        let i = fields::number_of(order);
+        let cover = b.covers[p];
+        let o = b.orders[i];
+        let status = o.status;
+        let payee = o.payee;
+        let v = judge::judge(Facts {
+            kind,
+            amount: s.amount,
+            sender,
+            cover,
+            order,
+            about: About {
+                payer: o.payer,
+                payee,
+                amount: o.amount,
+                status,
+            },
+            bank: find::is_bank(roster.participants[payee]),
+            route,
+            way,
+            count: b.count,
+            unconfirmed,
+            total,
+        });
+
+        // covers move
+        let first = v.first;
+        let how = first.how;
+        let who = first.who;
+        let old = b.covers[who];
+        let new = cover::moved(how, v.amount, old);
+        total = sums::total_with(total, old, new);
+        b.covers[who] = new;
+        let second = v.second;
+        let how = second.how;
+        let who = second.who;
+        let old = b.covers[who];
+        let new = cover::moved(how, v.amount, old);
+        total = sums::total_with(total, old, new);
+        b.covers[who] = new;
+
+        // banks are told
+        let told = v.told;
+        let also = v.also;
+        n = told::put_notices(reports, n, told, also, v.number, v.amount);
+
+        // the order changes, or all covers are cut
+        let mut followed = 0;
+        let does = v.does;
+        match does {
+            Does::Nothing => {}
+            Does::Opens => {
+                let k = b.count;
+                let mut txid = [0u8; 35];
+                fields::copy(&t[layout::TXID..layout::IBAN], &mut txid);
+                b.orders[k] = Order {
+                    txid,
+                    payer: p,
+                    payee: routes::reached(way),
+                    amount: s.amount,
+                    time: b.clock,
+                    status: Status::Waiting,
+                };
+                index::put_txid(
+                    &mut heads,
+                    &mut links,
+                    &mut txids,
+                    k,
+                    &t[layout::TXID..layout::IBAN],
+                );
+                b.count = k + 1;
+                followed = routes::rows_followed(way);
+            }
+            Does::Becomes(s) => {
+                b.orders[i] = status::with_status(o, s);
+            }
+            Does::Cuts => {
+                let covers = b.covers;
+                n = cut::put_cut(reports, n, roster, covers);
+                let after = cut::cut_covers(roster, covers);
+                b.covers = after;
+            }
+        }
+
+        // the answer
+        answer::put_answer(
+            answers,
+            taken,
+            Answer {
+                refusal: v.refusal,
+                reports: (n - before) as u16,
+                rows: followed as u8,
+            },
+        );
+        taken += 1;
+    }
+    Batch { book: b, taken }
+}
