@@ -2,9 +2,11 @@
 use mathlib.Core.Path.{_≡_, refl, sym, _∙_, ap, ap₂, subst}
 use mathlib.Core.Bool.{Bool, true, false, _&&_, and-assoc}
 use mathlib.Core.List.{List, [], _∷_}
-use Prim.Native.Nat.{ℕ, zero, suc, _+_, _-_, _*_, _≤_, _<_}
+use Prim.Native.Nat.{ℕ, zero, suc, _+_, _-_, _≤_, _<_}
 use native.Mathlib.Omega.{arith}
 use borrow.Author.Tests.{ltb-true, ltb-false, eq-eqb, ne-eqb}
+use mir.Syntax.{w8}
+use mir.Val.{Fits}
 use lib.Dec.{eqb, ltb, lit<, lit≤}
 use lib.ListN.{length, getD, take, drop, length-take, length-drop, drop-of-length-le, List·getD-eq-default}
 use lib.Seq.{getD-drop, getD-take, drop-drop}
@@ -14,6 +16,10 @@ use Rattle.fields.proofs.Same.{same-true, same-refl}
 use Rattle.fields.proofs.Stores.{length-part}
 use Rattle.index.specs.Words.{Bytes, word, bicWords, txidWords}
 use Rattle.index.proofs.Chaining.{never}
+
+-- what a function is told of a slice of bytes
+pub slice-bytes : (s : List ℕ) → ((i : ℕ) → Fits w8 (getD s i 0)) → Bytes s
+slice-bytes s known = record { below = λ i. known i .fits }
 
 -- the bytes behind the first, and those of a part
 pub rest-bytes : {b : ℕ} {s : List ℕ} → Bytes (b ∷ s) → Bytes s

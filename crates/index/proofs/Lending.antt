@@ -1,11 +1,12 @@
 -- Rows of words that hold the fields of a table: what a search among them finds, one row more, and that they may be lent to a search.
 -- Assumes nothing.
-use mathlib.Core.Path.{_≡_, refl, sym, _∙_, ap, subst}
+use mathlib.Core.Path.{_≡_, refl, sym, _∙_, ap}
 use mathlib.Core.Bool.{Bool, true, false}
-use mathlib.Core.List.{List}
+use mathlib.Core.List.{List, [], _∷_}
 use Prim.Native.Nat.{ℕ, _+_, _*_, _≤_, _<_}
-use native.Mathlib.Nat.{lt-trans}
-use lib.ListN.{length}
+use native.Mathlib.Nat.{lt-trans, mod-lt}
+use lib.Dec.{lit<}
+use lib.ListN.{length, getD, set}
 use lib.Seq.{sets}
 use Rattle.fields.specs.Number.{part}
 use Rattle.fields.specs.Text.{same, unpadded}
@@ -18,9 +19,9 @@ use Rattle.codes.specs.Bic.{isBic}
 use Rattle.codes.specs.Txid.{isTxid}
 use Rattle.codes.proofs.Whole.{bic-length}
 use Rattle.index.specs.Words.{Bytes, bicWords, txidWords}
-use Rattle.index.specs.Chains.{buckets, rowBucket, Chained, Distinct}
+use Rattle.index.specs.Chains.{buckets, addedTo, rowBucket, Chained, Distinct}
 use Rattle.index.specs.Lent.{BicRows, TxidRows}
-use Rattle.index.proofs.Chaining.{same-chained, distinct-rows}
+use Rattle.index.proofs.Chaining.{same-chained, enchained, distinct-rows}
 use Rattle.index.proofs.Comparing.{same-bics, same-txids}
 use Rattle.index.proofs.Coded.{bic-bytes, txid-bytes}
 
@@ -37,7 +38,7 @@ module _ (words : List ℕ → List ℕ) (wide : ℕ)
     (tells : (a b : List ℕ) → length a ≡ wide → length b ≡ wide → Bytes a → Bytes b → same (words a) (words b) ≡ same a b)
     (field : ℕ → List ℕ) {width n : ℕ} {rows : List ℕ} (held : Indexed width (λ i. words (field i)) n rows)
     (long : (i : ℕ) → i < n → length (field i) ≡ wide) (bytes : (i : ℕ) → i < n → Bytes (field i)) where
-  found-by-words : (s : List ℕ) → length s ≡ wide → Bytes s → firstRow width n (words s) rows ≡ firstTo (λ i. same (field i) s) n
+  pub found-by-words : (s : List ℕ) → length s ≡ wide → Bytes s → firstRow width n (words s) rows ≡ firstTo (λ i. same (field i) s) n
   found-by-words s as-long of-bytes =
       found-indexed held (words s)
       ∙ first-same (λ i. same (words (field i)) (words s)) (λ i. same (field i) s) n (λ i l. tells (field i) s (long i l) as-long (bytes i l) of-bytes)
@@ -101,9 +102,21 @@ module _ (txid : ℕ → List ℕ) {n : ℕ} {rows : List ℕ} (held : Indexed 5
         formed = formed-by-words txidWords 35 same-txids txid held wide bytes-of-txid (λ s. isTxid (unpadded s)) formed;
       }
 
--- one TxId more
-pub txid-put : (txid txid′ : ℕ → List ℕ) {n : ℕ} {rows : List ℕ} → Indexed 5 (λ i. txidWords (txid i)) n rows → (s : List ℕ)
-    → 5 * n + 5 ≤ length rows → ((i : ℕ) → i < n → txid′ i ≡ txid i) → txid′ n ≡ s
-    → Indexed 5 (λ i. txidWords (txid′ i)) (n + 1) (sets rows (5 * n) (txidWords s))
-txid-put txid txid′ held s fits kept new =
-    put-indexed held (txidWords s) refl fits (λ i. txidWords (txid′ i)) (λ i l. ap txidWords (kept i l)) (ap txidWords new)
+-- a row's bucket is one of them
+pub bucket-inside : (ws : List ℕ) → rowBucket ws < buckets
+bucket-inside [] = lit< tt
+bucket-inside (w ∷ ws) = mod-lt (addedTo w ws) (lit< tt)
+
+-- one TxId more, as the code leaves rows, heads and links
+module _ (txid txid′ : ℕ → List ℕ) {n : ℕ} (kept : (i : ℕ) → i < n → txid′ i ≡ txid i) (s : List ℕ) (new : txid′ n ≡ s) where
+  pub txid-put : {rows : List ℕ} → Indexed 5 (λ i. txidWords (txid i)) n rows → 5 * n + 5 ≤ length rows
+      → Indexed 5 (λ i. txidWords (txid′ i)) (n + 1) (sets rows (5 * n) (txidWords s))
+  txid-put held fits =
+      put-indexed held (txidWords s) refl fits (λ i. txidWords (txid′ i)) (λ i l. ap txidWords (kept i l)) (ap txidWords new)
+
+  pub txid-chained : {heads links heads′ links′ : List ℕ} → Chained (λ i. rowBucket (txidWords (txid i))) n heads links → length heads ≡ buckets
+      → n < length links → heads′ ≡ set heads (rowBucket (txidWords s)) (n + 1)
+      → links′ ≡ set links n (getD heads (rowBucket (txidWords s)) 0) → Chained (λ i. rowBucket (txidWords (txid′ i))) (n + 1) heads′ links′
+  txid-chained chained headed linked new-heads new-links =
+      enchained (same-chained chained (λ i l. ap (λ (t : List ℕ). rowBucket (txidWords t)) (sym (kept i l)))) headed linked
+      (ap (λ (t : List ℕ). rowBucket (txidWords t)) (sym new)) (bucket-inside (txidWords s)) new-heads new-links

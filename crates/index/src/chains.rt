@@ -5,7 +5,7 @@ use fields::Found;
 use std::num;
 ghost use mathlib.Core.Path.{_≡_};
 ghost use mathlib.Core.List.{[], _∷_};
-ghost use Prim.Native.Nat.{ℕ, _+_, _*_, _≤_, _<_};
+ghost use Prim.Native.Nat.{_+_, _*_, _≤_, _<_};
 ghost use lib.ListN.{length, getD, set};
 ghost use Rattle.fields.specs.Number.{part};
 ghost use Rattle.fields.specs.Rows.{firstRow};

@@ -1,7 +1,6 @@
 -- `index::txids_of` meets its contract. The loop's invariant: the first i rows are made. Assumes nothing.
 use mathlib.Core.Path.{_≡_, refl}
 use Prim.Native.Nat.{_-_}
-use native.Mathlib.Omega.{arith}
 use lib.ListN.{length}
 use Rattle.rules.specs.Book.{orderOf}
 use Rattle.index.specs.Words.{txidWords}

@@ -13,7 +13,8 @@ use Rattle.index.proofs.chains.find_five.Tie as tie
 
 abbrev Inv-loop : tie.InvT-loop
 Inv-loop heads links rows n bucket a b c d e at₀ at =
-    (s : Searchable 5 n bucket heads links rows (a ∷ b ∷ c ∷ d ∷ e ∷ [])) × LeftBelow 5 n bucket heads links rows (a ∷ b ∷ c ∷ d ∷ e ∷ []) s at
+    (s : Searchable 5 n bucket heads links rows (a ∷ b ∷ c ∷ d ∷ e ∷ []))
+    × LeftBelow 5 n bucket heads links rows (a ∷ b ∷ c ∷ d ∷ e ∷ []) s at
 
 abbrev μ-loop : tie.MeasureT-loop
 μ-loop heads links rows n bucket a b c d e at₀ at = at
@@ -27,7 +28,10 @@ module _ (c : tie.In-loop Inv-loop μ-loop) where
   i = l .loop .at - 1
 
   here : LeftBelow _ _ _ _ _ _ _ (l .loop .inv .0) (i + 1)
-  here = let t = c .loop-test .taken in let e : l .loop .at ≡ i + 1 = omega arith in subst (LeftBelow _ _ _ _ _ _ _ (l .loop .inv .0)) e (l .loop .inv .1)
+  here =
+      let t = c .loop-test .taken in
+      let e : l .loop .at ≡ i + 1 = omega arith in
+      subst (LeftBelow _ _ _ _ _ _ _ (l .loop .inv .0)) e (l .loop .inv .1)
 
   below : i < l .before .before .before .before .before .before .args .n
   below = let h = here .few in omega arith
@@ -44,7 +48,9 @@ find-five-spec =
     (λ c. search needs)
     (λ c. let s = c .before .before .before .before .pre in let l = s .inside in let h = s .headed in omega arith)
     (λ c κs. search needs)
-    (λ c. let s = c .before .before .before .before .before .pre in (s, subst (LeftBelow _ _ _ _ _ _ _ s) (sym (c .wide .ensures)) (left-at-head _ _ _ _ _ _ _ s)))
+    (λ c.
+    let s = c .before .before .before .before .before .pre in
+    (s, subst (LeftBelow _ _ _ _ _ _ _ s) (sym (c .wide .ensures)) (left-at-head _ _ _ _ _ _ _ s)))
     (λ c. search needs)
     (λ c. let e = row-ends c in search needs)
     (λ c κs. row-ends c)

@@ -1,7 +1,6 @@
 -- `index::chains::txid_bucket` meets its contract. Assumes nothing.
 use mathlib.Core.Path.{_∙_, ap}
 use Prim.Native.Nat.{ℕ, _%_}
-use native.Mathlib.Nat.{mod-lt}
 use native.Mathlib.Omega.{arith}
 use Rattle.index.specs.Chains.{buckets, added}
 use borrow.Author.Needs.{needs}

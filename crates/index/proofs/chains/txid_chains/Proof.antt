@@ -44,7 +44,10 @@ txid-chains-spec =
     (λ c κs. search needs)
     (λ c. search needs)
     (λ c. search needs)
-    (λ c κs. let b = c .before .before .txid-bucket .ensures .1 in let l = c .before .before .before .before .before .before .before .before .before .loop .inv in (omega arith, omega arith, omega arith))
+    (λ c κs.
+    let b = c .before .before .txid-bucket .ensures .1 in
+    let l = c .before .before .before .before .before .before .before .before .before .loop .inv in
+    (omega arith, omega arith, omega arith))
     (λ c. search needs)
     (λ c. search needs)
     (λ c.
