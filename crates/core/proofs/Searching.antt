@@ -51,6 +51,13 @@ module _ {r : Roster} {bics bicHeads bicLinks routes routeHeads routeLinks kinds
       (part-bytes bytes 11 27)
       ∙ ap (firstTo (hasBic (r .routes) (payeeOf t))) (sym (rows-in r (g .rows)))
 
+  order-found : {b : Book} {txids heads links : List ℕ} → Sound b → TxidIndex txidWords rowBucket b txids heads links
+      → firstRow 5 (b .count) (txidWords (txidField t)) txids ≡ orderIn (b .orders) (b .count) t
+  unfolding orderIn
+  order-found {b} s f =
+      txid-found (λ i. orderOf (b .orders) i .txid) (f .txids) (s .orders .padded) (s .orders .txid) (txidField t)
+      (length-part 35 38 t (rw whole (omega arith))) (part-bytes bytes 35 38)
+
   pub all-found : {b : Book} {txids heads links : List ℕ} → Sound b → TxidIndex txidWords rowBucket b txids heads links → b .roster ≡ r
       → sightOf (b .clock) t (firstRow 2 (r .size) (bicWords (senderOf t)) bics) (firstRow 5 (b .count) (txidWords (txidField t)) txids)
       (firstRow 2 (r .rows) (bicWords (payeeOf t)) routes)
@@ -58,10 +65,3 @@ module _ {r : Roster} {bics bicHeads bicLinks routes routeHeads routeLinks kinds
   all-found {b} s f ours =
       λ i. sightOf (b .clock) t ((sender-found ∙ ap (λ (x : Roster). senderIn x t) (sym ours)) i) (order-found s f i)
       ((route-found ∙ ap (λ (x : Roster). routeIn x t) (sym ours)) i)
-    where
-      order-found : {b : Book} {txids heads links : List ℕ} → Sound b → TxidIndex txidWords rowBucket b txids heads links
-          → firstRow 5 (b .count) (txidWords (txidField t)) txids ≡ orderIn (b .orders) (b .count) t
-      unfolding orderIn
-      order-found {b} s f =
-          txid-found (λ i. orderOf (b .orders) i .txid) (f .txids) (s .orders .padded) (s .orders .txid) (txidField t)
-          (length-part 35 38 t (rw whole (omega arith))) (part-bytes bytes 35 38)

@@ -12,7 +12,7 @@ use Rattle.ticket.specs.Kind.{kinded}
 use Rattle.ticket.specs.Form.{formOf}
 use Rattle.ticket.specs.Shape.{shapeOf, accountOf}
 use Rattle.ticket.specs.Amount.{statedIn}
-use Rattle.ticket.specs.Reading.{reading, readShape, readAccount, readStated}
+use Rattle.ticket.specs.Reading.{readAccount, readStated}
 use Rattle.ticket.specs.declared.Reading.{Reading}
 use Rattle.ticket.specs.declared.kinds.Kind.{Kind}
 use Rattle.ticket.specs.declared.kinds.Kinded.the-variants.{Unknown}

@@ -7,8 +7,7 @@ use denote.Ref.{now}
 use lib.ListN.{length}
 use Rattle.fields.specs.Rows.{firstRow}
 use Rattle.fields.specs.declared.search.Found.{Found}
-use Rattle.ticket.specs.Layout.{ticketLength, kindByte, flagByte, senderOf, payeeOf, txidField}
-use Rattle.ticket.specs.Kind.{kinded}
+use Rattle.ticket.specs.Layout.{ticketLength, senderOf, payeeOf, txidField}
 use Rattle.ticket.specs.declared.kinds.Kind.{Kind}
 use Rattle.ticket.specs.declared.kinds.Kind.the-variants.{Order}
 use Rattle.ticket.specs.declared.kinds.Kinded.the-variants.{As}
@@ -18,6 +17,7 @@ use Rattle.shapes.specs.Subject.{TicketNaming}
 use Rattle.shapes.proofs.Forms.{only-order}
 use Rattle.index.specs.Words.{Bytes, bicWords, txidWords}
 use Rattle.sight.specs.Sight.{sightOf}
+use Rattle.sight.specs.declared.Sight.{Sight}
 use Rattle.sight.proofs.Knowing.{known-sender, known-payee, known-order}
 use Rattle.sight.proofs.Seeing.{sight-unknown}
 use borrow.Author.Needs.{needs}
@@ -71,10 +71,12 @@ module _ (c : tie.After-subject-of) where
       let n = naming NewOrder e in
       record { whole = whole start; kinds = n .kinds ∙ ap As (only-order kind (n .names)); names = refl }
 
-  sees : {s o r : Found} → s ≡ sender start → o ≡ order start → r ≡ route start
-      → sightOf (clock start) (t start) s o r ≡ sightOf (clock start) (t start) (sender start) (order start) (route start)
-  sees {s} {o} {r} e₁ e₂ e₃ =
-      ap (λ (f : Found). sightOf (clock start) (t start) f o r) e₁
+  -- what a class sees by what was found
+  sees : {s o r : Found} {x : Sight} → x ≡ sightOf (clock start) (t start) s o r → s ≡ sender start → o ≡ order start → r ≡ route start
+      → x ≡ sightOf (clock start) (t start) (sender start) (order start) (route start)
+  sees {s} {o} {r} e e₁ e₂ e₃ =
+      e
+      ∙ ap (λ (f : Found). sightOf (clock start) (t start) f o r) e₁
       ∙ ap (λ (f : Found). sightOf (clock start) (t start) (sender start) f r) e₂
       ∙ ap (λ (f : Found). sightOf (clock start) (t start) (sender start) (order start) f) e₃
 
@@ -125,8 +127,7 @@ see-spec =
     let bic = txid .before .before in
     let told = bic .before .before in
     let s = told .before .before in
-    let k = start s in
-    (
+    let k = start s in (
       naming-order s (told .enum-told4 .given .1),
       known-sender (t k) (whole k) (bytes k) (first k .before .pre .1) _ (bic .find-bic2 .ensures),
       known-order (t k) (whole k) (bytes k) (first k .before .pre .2) _ (txid .find-txid .ensures),
@@ -146,26 +147,26 @@ see-spec =
     let bic = c .before .before in
     let told = bic .before .before in
     let s = told .before .before in
-    let k = start s in
-    (
+    let k = start s in (
       naming s HeldOrder (told .enum-told5 .given .1),
       known-sender (t k) (whole k) (bytes k) (first k .before .pre .1) _ (bic .find-bic4 .ensures),
       known-order (t k) (whole k) (bytes k) (first k .before .pre .2) _ (c .find-txid2 .ensures),
     ))
+    -- what each class sees
     (λ c. let k = start (c .before .before .before) in c .nothing .ensures (sender k) (order k) (route k))
     (λ c.
     let bic = c .before in
     let s = bic .before .before .before .before in
     let k = start s in
-    c .cover .ensures (order k) (route k) ∙ sees s (bic .find-bic .ensures) refl refl)
+    sees s (c .cover .ensures (order k) (route k)) (bic .find-bic .ensures) refl refl)
     (λ c.
     let payee = c .before in
     let txid = payee .before .before in
     let bic = txid .before .before in
     let s = bic .before .before .before .before in
-    c .order .ensures ∙ sees s (bic .find-bic2 .ensures) (txid .find-txid .ensures) (payee .find-bic3 .ensures))
+    sees s (c .order .ensures) (bic .find-bic2 .ensures) (txid .find-txid .ensures) (payee .find-bic3 .ensures))
     (λ c.
     let txid = c .before in
     let bic = txid .before .before in
     let s = bic .before .before .before .before in
-    c .about .ensures (route (start s)) ∙ sees s (bic .find-bic4 .ensures) (txid .find-txid2 .ensures) refl))
+    sees s (c .about .ensures (route (start s))) (bic .find-bic4 .ensures) (txid .find-txid2 .ensures) refl))

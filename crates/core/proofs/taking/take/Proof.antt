@@ -3,37 +3,61 @@
 -- places by Inv-loop2 μ-loop2 Inv-loop μ-loop
 -- place start: Start
 -- place known: After-shared-slice-known
+-- place rows: After-txids-of
+-- place chains: After-txid-chains
 -- place head: At-loop
 -- place room: Then1
 -- place seen: After-see
--- place passed: After-known-told
 -- place refused: After-enum-told
+-- place number: After-refusal-of
+-- place answered: After-put-answer
+-- place passed: After-known-told
 -- place sweeping: In-loop2
+-- place young: After-is-young
+-- place old: Else2
 -- place lapse: After-expire
+-- place freed: After-moved
+-- place reported: After-put-told
 -- place swept: Left-loop2
--- place judged: After-judge
--- place numbers: After-number-of2
 -- place way: After-end-of
 -- place joined: Joined3
--- place cuts: After-enum-told4
+-- place numbers: After-number-of2
+-- place judged: After-judge
 -- place first: After-moved2
 -- place sum: After-total-with
 -- place second: After-moved3
 -- place total: After-total-with2
 -- place told: After-put-notices
 -- place carried: After-slice-known5
+-- place opens: After-enum-told3
+-- place cuts: After-enum-told4
+-- place cutting: After-put-cut-arg
 -- place done: At-match2-came
+-- place told-all: After-put-answer2
+use mathlib.Core.Path.{_≡_}
 use native.Mathlib.Omega.{arith}
 use borrow.Author.Needs.{needs}
+use Rattle.intake.proofs.Running.{ended}
+use Rattle.intake.proofs.Seeking.{total-sum}
+use Rattle.turns.proofs.Turn.{loop-begun}
+use Rattle.turns.proofs.Done.{answer-is}
+use Rattle.core.proofs.Keeping.{kept-on}
+use Rattle.core.proofs.Searching.{txids-lent}
 use Rattle.core.proofs.taking.take.Statement.{statement}
 use Rattle.core.proofs.taking.take.Tie as tie
 use Rattle.core.proofs.taking.take.Proof.Invariants.{Inv-loop2, μ-loop2, Inv-loop, μ-loop}
-use Rattle.core.proofs.taking.take.Proof.Loop.{start, b, tickets, answers₀, reports₀, sound, long-answers, long-reports, ticket, ticket-is, head, more, room, next-fits, whole-ticket, txid-long, last, none-more}
-use Rattle.core.proofs.taking.take.Proof.Seen.{top, seen-is, refused-done, refused-is}
+use Rattle.core.proofs.taking.take.Proof.Starting.{begun}
+use Rattle.core.proofs.taking.take.Proof.Loop.{start, tickets, answers₀, reports₀, sound, long-answers, long-reports, ticket-is, head, more, room, next-fits, whole-ticket, txid-long, last, none-more}
+use Rattle.core.proofs.taking.take.Proof.Seen.{refused-done, refused-is}
+use Rattle.core.proofs.taking.take.Proof.Expiring.{outer, taken, below, number-below, payer-below, payee-below, early, freeable, told-fits, one-expired}
+use Rattle.core.proofs.taking.take.Proof.Judging.{sender-number, order-number, payee-number, all-few, suits}
+use Rattle.core.proofs.taking.take.Proof.Carrying.{first-sum, second-has, second-sum, notices-fit}
+use Rattle.core.proofs.taking.take.Proof.Ending.{space, few-participants, cut-fits, uncut-whole, done}
 use Rattle.core.proofs.taking.take.Proof.Places as at
 
 pub mod Invariants
 pub mod Places
+pub mod Starting
 pub mod Loop
 pub mod Seen
 pub mod Expiring
@@ -49,112 +73,133 @@ take-spec =
     μ-loop2
     Inv-loop
     μ-loop
-    (λ c κs. ?txids-of-requires)
-    (λ c. ?slice-aggregate-txid-chains)
-    (λ c κs. ?txid-chains-requires)
-    (λ c κs. ?total-of-requires)
-    (λ c. ?loop-holds)
-    (λ c. ?mul-room-left)
-    (λ c. ?sub-room-left)
-    (λ c. ?mul-room-left-2)
-    (λ c. ?sub-room-left-2)
-    (λ c. ?mul-room-left-3)
-    (λ c. ?sub-room-left-3)
-    (λ c κs. ?room-left-requires)
-    (λ c. ?mul-at)
-    (λ c. ?add-t)
-    (λ c. ?sub-t)
-    (λ c. ?part-t-start)
-    (λ c. ?part-t-end)
-    (λ c. ?slice-aggregate-see)
-    (λ c. ?slice-aggregate-see-2)
-    (λ c. ?slice-aggregate-see-3)
-    (λ c κs. ?see-requires)
-    (λ c. ?enum-known-sight)
-    (λ c. ?enum-told)
-    (λ c κs. ?refusal-of-requires)
-    (λ c κs. ?put-answer-requires)
-    (λ c. ?add-taken)
-    (λ c. ?loop-less)
-    (λ c. ?loop-again)
-    (λ c. ?loop2-holds)
-    (λ c. ?mul-o)
-    (λ c. ?element-copy-out-o)
-    (λ c κs. ?is-young-requires)
-    (λ c. ?mul-is-bank)
-    (λ c. ?element-copy-out-is-bank)
-    (λ c κs. ?is-bank-requires)
-    (λ c κs. ?expire-requires)
-    (λ c. ?mul-order)
-    (λ c. ?element-set-from-order)
-    (λ c. ?mul-moved)
-    (λ c. ?element-copy-out-moved)
-    (λ c κs. ?moved-requires)
-    (λ c. ?mul-t119)
-    (λ c. ?element-set-from-b)
-    (λ c κs. ?put-told-requires)
-    (λ c. ?add-next)
-    (λ c. ?loop2-less)
-    (λ c. ?loop2-again)
-    (λ c κs. ?end-of-requires)
-    (λ c κs. ?is-cut-requires)
-    (λ c κs. ?any-open-requires)
-    (λ c κs. ?number-of-requires)
-    (λ c κs. ?number-of-requires-2)
-    (λ c. ?mul-cover)
-    (λ c. ?element-copy-out-cover)
-    (λ c. ?mul-o-2)
-    (λ c. ?element-copy-out-o-2)
-    (λ c. ?mul-is-bank-2)
-    (λ c. ?element-copy-out-is-bank-2)
-    (λ c κs. ?is-bank-requires-2)
-    (λ c κs. ?judge-requires)
-    (λ c. ?mul-old)
-    (λ c. ?element-copy-out-old)
-    (λ c κs. ?moved-requires-2)
-    (λ c κs. ?total-with-requires)
-    (λ c. ?mul-new)
-    (λ c. ?element-set-from-new)
-    (λ c. ?mul-old-2)
-    (λ c. ?element-copy-out-old-2)
-    (λ c κs. ?moved-requires-3)
-    (λ c κs. ?total-with-requires-2)
-    (λ c. ?mul-new-2)
-    (λ c. ?element-set-from-new-2)
-    (λ c κs. ?put-notices-requires)
-    (λ c. ?enum-told-2)
-    (λ c. ?enum-told-3)
-    (λ c. ?sub-copy)
-    (λ c. ?part-copy-start)
-    (λ c. ?part-copy-end)
-    (λ c. ?slice-aggregate-copy)
-    (λ c κs. ?copy-requires)
-    (λ c κs. ?reached-requires)
-    (λ c. ?mul-t158)
-    (λ c. ?element-set-from-b-2)
-    (λ c. ?slice-aggregate-put-txid)
-    (λ c. ?slice-aggregate-put-txid-2)
-    (λ c. ?slice-aggregate-put-txid-3)
-    (λ c. ?sub-put-txid)
-    (λ c. ?part-put-txid-start)
-    (λ c. ?part-put-txid-end)
-    (λ c κs. ?put-txid-requires)
-    (λ c. ?add-b)
-    (λ c κs. ?rows-followed-requires)
-    (λ c. ?enum-known-does)
-    (λ c κs. ?with-status-requires)
-    (λ c. ?mul-t171)
-    (λ c. ?element-set-from-b-3)
-    (λ c. ?enum-told-4)
-    (λ c κs. ?put-cut-requires)
-    (λ c κs. ?cut-covers-requires)
-    (λ c. ?sub-t83)
-    (λ c. ?cast-t180)
-    (λ c. ?cast-t181)
-    (λ c κs. ?put-answer-requires-2)
-    (λ c. ?add-taken-2)
-    (λ c. ?loop-less-2)
-    (λ c. ?loop-again-2)
-    (λ c. ?same-length)
-    (λ c. ?same-length-2)
-    (λ c. ?returns))
+    (λ c κs. let s = at.start-from-After-orders c .pre .0 .orders in (s .count, s .padded))
+    (λ c. let h = c .before .txids-of .ensures .0 in search needs)
+    (λ c κs. let few = at.start-from-After-txids c .pre .0 .orders .count in let h = c .before .txids-of .ensures .0 in (omega arith, omega arith))
+    (λ c κs. let s = at.start-from-After-covers c in (s .pre .0 .roster .size, rw (total-sum (s .args .t1)) (s .pre .0 .limited)))
+    (λ c. begun c)
+    (λ c. let g = start c .good in search needs)
+    (λ c. let g = start c .good in let h = c .loop .inv .going .ticketsLeft in search needs)
+    (λ c. let g = start c .good in search needs)
+    (λ c. let g = c .loop .inv .going .answersLeft in let e = long-answers c in omega arith)
+    (λ c. let g = start c .good in search needs)
+    (λ c. let g = c .loop .inv .going .reportsLeft in let e = long-reports c in omega arith)
+    (λ c κs. search needs)
+    (λ c. let h = room c .ticket in let g = start (head c) .good in search needs)
+    (λ c. let h = room c .ticket in let g = start (head c) .good in search needs)
+    (λ c. let h = room c .ticket in let g = start (head c) .good in search needs)
+    (λ c. let h = room c .ticket in let g = start (head c) .good in search needs)
+    (λ c. let h = room c .ticket in let g = start (head c) .good in search needs)
+    (λ c. let h = at.head-from-After-heads2 c .loop .inv .index .headed in search needs)
+    (λ c. let h = at.head-from-After-links2 c .loop .inv .index .linked in search needs)
+    (λ c. let h = at.head-from-After-txids2 c .loop .inv .index .long in search needs)
+    (λ c κs.
+    let h = at.head-from-After-txids2 c in
+    let d = start h .pre .1 in
+    (whole-ticket (at.room-from-After-txids2 c), d .senders, txids-lent (sound h) (h .loop .inv .index), d .payees))
+    (λ c. search needs)
+    (λ c. search needs)
+    (λ c κs. search needs)
+    (λ c κs. let h = room (at.room-from-After-refusal-of c) .answer in let e = long-answers (at.head-from-After-refusal-of c) in omega arith)
+    (λ c. let h = next-fits (at.room-from-After-slice-known3 c) in omega arith)
+    (λ c. let h = room (at.room-from-After-slice-known3 c) .ticket in omega arith)
+    (λ c.
+    let h = at.head-from-After-slice-known3 c in
+    kept-on (h .loop .inv) (more (at.room-from-After-slice-known3 c)) (ticket-is h) (refused-done (at.refused-from-After-slice-known3 c))
+    (refused-is (at.number-from-After-slice-known3 c)) (at.answered-from-After-slice-known3 c .put-answer .ensures))
+    (λ c.
+    let h = outer c in
+    (loop-begun (taken c) (h .loop .inv .passed), omega arith, h .loop .inv .few))
+    (λ c. let h = number-below c in search needs)
+    (λ c. number-below c)
+    (λ c κs. early (c .before))
+    (λ c. let h = payee-below (at.sweeping-from-Else2 c) in search needs)
+    (λ c. payee-below (at.sweeping-from-Else2 c))
+    (λ c κs. search needs)
+    (λ c κs.
+    let i = at.sweeping-from-After-is-bank c in
+    let h = payer-below i in
+    let k = payee-below i in
+    let m = number-below i in
+    (early i, omega arith, omega arith, omega arith))
+    (λ c. let h = number-below (at.sweeping-from-After-order c) in search needs)
+    (λ c. number-below (at.sweeping-from-After-order c))
+    (λ c. let h = freeable (at.lapse-from-After-freed c) .who in search needs)
+    (λ c. freeable (at.lapse-from-After-freed c) .who)
+    (λ c κs. freeable (at.lapse-from-After-moved-arg c) .fits)
+    (λ c. let h = freeable (at.lapse-from-After-moved c) .who in search needs)
+    (λ c. freeable (at.lapse-from-After-moved c) .who)
+    (λ c κs. told-fits (at.lapse-from-After-put-told-arg c))
+    (λ c. let h = number-below (at.sweeping-from-After-slice-known4 c) in search needs)
+    (λ c. let h = below (at.sweeping-from-After-slice-known4 c) in search needs)
+    (λ c. one-expired c)
+    (λ c κs. search needs)
+    (λ c κs. search needs)
+    (λ c κs. at.start-from-After-covers2 c .pre .0 .roster .size)
+    (λ c κs. search needs)
+    (λ c κs. search needs)
+    (λ c. let h = sender-number c in search needs)
+    (λ c. sender-number c)
+    (λ c. let h = order-number (c .before) in search needs)
+    (λ c. order-number (c .before))
+    (λ c. let h = payee-number (c .before .before) in search needs)
+    (λ c. payee-number (c .before .before))
+    (λ c κs. search needs)
+    (λ c κs. all-few c)
+    (λ c. let h = suits (at.judged-from-After-first c) .first in search needs)
+    (λ c. suits (at.judged-from-After-first c) .first)
+    (λ c κs. suits (at.judged-from-After-old c) .firstRoom)
+    (λ c κs. first-sum c)
+    (λ c. let h = suits (at.judged-from-After-total-with c) .first in search needs)
+    (λ c. suits (at.judged-from-After-total-with c) .first)
+    (λ c. let h = suits (at.judged-from-After-second c) .second in search needs)
+    (λ c. suits (at.judged-from-After-second c) .second)
+    (λ c κs. second-has c)
+    (λ c κs. second-sum c)
+    (λ c. let h = suits (at.judged-from-After-total-with2 c) .second in search needs)
+    (λ c. suits (at.judged-from-After-total-with2 c) .second)
+    (λ c κs. let f = suits (at.judged-from-After-put-notices-arg c) in (f .told, f .also, f .number, notices-fit c))
+    (λ c. search needs)
+    (λ c. search needs)
+    (λ c. search needs)
+    (λ c. search needs)
+    (λ c. let h = whole-ticket (at.room-from-After-enum-told3 c) in search needs)
+    (λ c. search needs)
+    (λ c κs. txid-long (at.room-from-After-txid c))
+    (λ c κs. search needs)
+    (λ c. let h = space (at.opens-from-After-reached c) in search needs)
+    (λ c. space (at.opens-from-After-reached c))
+    (λ c. let h = at.head-from-After-heads3 c .loop .inv .index .headed in search needs)
+    (λ c. let h = at.head-from-After-links3 c .loop .inv .index .linked in search needs)
+    (λ c. let h = at.head-from-After-txids3 c .loop .inv .index .long in search needs)
+    (λ c. search needs)
+    (λ c. search needs)
+    (λ c. let h = whole-ticket (at.room-from-After-txids3 c) in search needs)
+    (λ c κs.
+    let x = at.head-from-After-put-txid-arg c .loop .inv .index in
+    let few = space (at.opens-from-After-put-txid-arg c) in
+    let linked = x .linked in
+    let long = x .long in
+    (x .headed, omega arith, omega arith, omega arith, txid-long (at.room-from-After-put-txid-arg c)))
+    (λ c. let h = space (at.opens-from-After-txids4 c) in search needs)
+    (λ c κs. search needs)
+    (λ c. search needs)
+    (λ c κs. search needs)
+    (λ c. let h = order-number (at.numbers-from-After-with-status c) in search needs)
+    (λ c. order-number (at.numbers-from-After-with-status c))
+    (λ c. search needs)
+    (λ c κs. (few-participants c, cut-fits c))
+    (λ c κs. let p = at.cutting-from-After-slice-known6 c in (few-participants p, uncut-whole p))
+    (λ c. let h = done (at.done-from-After-row-known c) .told in omega arith)
+    (λ c. let d = done (at.done-from-After-row-known c) in let h = d .told in let few = d .fewTold in omega arith)
+    (λ c. let h = done (at.done-from-After-row-known2 c) .fewRows in omega arith)
+    (λ c κs. let h = room (at.room-from-After-row-known2 c) .answer in let e = long-answers (at.head-from-After-row-known2 c) in omega arith)
+    (λ c. let h = next-fits (at.room-from-After-slice-known7 c) in omega arith)
+    (λ c. let h = room (at.room-from-After-slice-known7 c) .ticket in omega arith)
+    (λ c.
+    let h = at.head-from-After-slice-known7 c in
+    let d = done (at.done-from-After-slice-known7 c) in
+    kept-on (h .loop .inv) (more (at.room-from-After-slice-known7 c)) (ticket-is h) d (answer-is d) (at.told-all-from-After-slice-known7 c .put-answer2 .ensures))
+    (λ c. long-answers (last c))
+    (λ c. long-reports (last c))
+    (λ c. let l = last c in ended (start l .args .t1) (tickets l) (answers₀ l) (reports₀ l) (l .loop .inv .going) (none-more c)))

@@ -27,6 +27,14 @@ use Rattle.core.proofs.taking.take.Proof.Judging.{follows, searched, v,
 use Rattle.core.proofs.taking.take.Proof.Carrying.{judged-at, left-at, both, carried-out}
 use Rattle.core.proofs.taking.take.Proof.Places as at
 
+-- an order is opened: there is space
+module _ (c : at.After-enum-told3) where
+  abbrev told-o : at.After-slice-known5
+  told-o = at.carried-from-After-enum-told3 c
+
+  pub space : swept-book (left-at told-o) .count < 256
+  space = suits (judged-at told-o) .opens (c .enum-told3 .given .1)
+
 -- a cut: there is room for its reports, and no cover is above the limit
 module _ (c : at.After-put-cut-arg) where
   abbrev told-c : at.After-slice-known5

@@ -27,6 +27,8 @@ use Rattle.turns.proofs.Turn.{Taken, start-sound, loop-count, Expired, expiries
 use Rattle.core.proofs.Seeing.{entryBy, Sighted, sight-read}
 use Rattle.core.proofs.taking.take.Proof.Loop.{start, b, reports₀, sound, long-reports, ticket, room}
 use Rattle.core.proofs.taking.take.Proof.Seen.{top, seen-is}
+use Rattle.core.proofs.taking.take.Tie as tie
+use Rattle.core.proofs.taking.take.Proof.Invariants.{Inv-loop2, μ-loop2, Inv-loop, μ-loop}
 use Rattle.core.proofs.taking.take.Proof.Places as at
 
 -- the ticket passes
@@ -128,6 +130,35 @@ module _ (c : at.After-expire) where
       let has = room (at.room-from-After-expire c) .report in
       let e = text-long in
       omega arith
+
+-- one order more
+pub one-expired : tie.Need-loop2-again Inv-loop2 μ-loop2 Inv-loop μ-loop
+one-expired c =
+    let x = at.lapse-from-After-slice-known4 c in
+    let l = in-loop x in
+    let p = passed l in
+    let moved = at.freed-from-After-slice-known4 c in
+    let put = at.reported-from-After-slice-known4 c in
+    let w = l .before .loop2 .inv in (
+      one-more (begins p) (begins-sound p) _ _ (w .0) (below l)
+          (ltb-false _ _ (sym (at.young-from-After-slice-known4 c .is-young .ensures) ∙ at.old-from-After-slice-known4 c .if2 .left)) _ _ _
+          (ap
+          (λ (z : Cover).
+          record {
+            clock = now-book l .clock;
+            covers = set (now-book l .covers) (x .expire .result .freed .who) z;
+            orders = set (now-book l .orders) (number l) (x .expire .result .order);
+            count = now-book l .count;
+            roster = now-book l .roster;
+          })
+          (moved .moved .ensures)
+          ∙ ap (lapsed (now-book l) (number l)) (lapse-is x))
+          (put .put-told .ensures .1 ∙ ap (λ (y : Expiry). l .before .loop2 .n + length (listed (y .told))) (lapse-is x))
+          (put .put-told .ensures .0
+          ∙ ap (λ (y : Expiry). sets (l .before .loop2 .reports) (12 * l .before .loop2 .n) (reportsBytes (listed (y .told)))) (lapse-is x)),
+      let h = w .1 in omega arith,
+      let h = below l in omega arith,
+    )
 
 -- the orders have been looked at
 module _ (c : at.Left-loop2) where

@@ -1,0 +1,27 @@
+-- What the loop over tickets keeps holds before the first. Assumes nothing.
+use mathlib.Core.Path.{refl, sym, _∙_}
+use native.Mathlib.Nat.{not-suc-le-zero}
+use native.Mathlib.Omega.{arith}
+use denote.Ref.{now}
+use Rattle.rules.specs.Book.{orderOf}
+use Rattle.intake.proofs.Running.{started}
+use Rattle.intake.proofs.Seeking.{total-sum}
+use Rattle.intake.proofs.Summing.{all-total}
+use Rattle.index.proofs.Lending.{chained-fields}
+use Rattle.core.proofs.taking.take.Tie as tie
+use Rattle.core.proofs.taking.take.Proof.Invariants.{Inv-loop2, μ-loop2, Inv-loop, μ-loop}
+use Rattle.core.proofs.taking.take.Proof.Places as at
+
+pub begun : tie.Need-loop-holds Inv-loop2 μ-loop2 Inv-loop μ-loop
+begun c =
+    let s = at.start-from-After-total-of c in
+    let rows = at.rows-from-After-total-of c .txids-of .ensures in
+    let chains = at.chains-from-After-total-of c .txid-chains .ensures in
+    record {
+      going = started (s .args .t1) (now (s .args .tickets)) (now (s .args .answers)) (now (s .args .reports)) (s .pre .0);
+      roster = refl;
+      passed = record { none = λ i l. absurd (not-suc-le-zero l) };
+      few = omega arith;
+      index = record { txids = rows .1; long = rows .0; chained = chained-fields (rows .1) (chains .2); headed = chains .0; linked = chains .1 };
+      sum = c .total-of .ensures ∙ total-sum (s .args .t1) ∙ sym (all-total (s .args .t1) (s .pre .0));
+    }
