@@ -1,4 +1,5 @@
-// Ranges of a ticket that a kind does not list, by whole words: whether all their bytes are zero.
+// Ranges of a ticket that a kind does not list: whether all their bytes are zero. By whole words; the longest, a tick's, by its bytes, of
+// which the machine takes sixteen at a time.
 use ticket::layout;
 ghost use mathlib.Core.Path.{_≡_};
 ghost use Prim.Native.Nat.{_+_, _≤_};
@@ -6,14 +7,6 @@ ghost use lib.ListN.{length};
 ghost use Rattle.fields.specs.Number.{part};
 ghost use Rattle.fields.specs.Text.{blank};
 ghost use Rattle.ticket.specs.Layout.{ticketLength};
-
-// Four bytes.
-fn zero_4(t: &[u8], at: usize) -> bool
-    requires { ⌜ at + 4 ≤ length (now t) ⌝ }
-    ensures { λ r. ⌜ r ≡ blank (part 4 at (now (t .entry))) ⌝ }
-{
-    fields::u32_at(t, at) == 0
-}
 
 // 32 bytes.
 fn zero_32(t: &[u8], at: usize) -> bool
@@ -31,7 +24,7 @@ pub fn from_amount(t: &[u8]) -> bool
     requires { ⌜ length (now t) ≡ ticketLength ⌝ }
     ensures { λ r. ⌜ r ≡ blank (part 100 8 (now (t .entry))) ⌝ }
 {
-    zero_32(t, 8) & zero_32(t, 40) & zero_32(t, 72) & zero_4(t, 104)
+    fields::blank(&t[layout::AMOUNT..layout::LENGTH])
 }
 
 // Payee and all behind it: bytes 27 to 107.

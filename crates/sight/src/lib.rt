@@ -1,6 +1,6 @@
 // What is seen of a ticket before the clock moves: refusals 7 to 11, and what its kind asks for of sender, order and route.
-pub mod subjects;
-pub mod values;
+mod subjects;
+mod values;
 
 use fields::Found;
 use rules::terms::Subject;
@@ -31,8 +31,8 @@ pub enum Sight {
     Refused(u8),
 }
 
-// A ticket of 108 bytes, with the chains and rows of size participants, of count orders and of so many route rows. Sender, order and route
-// are searched for before any code's form is looked at: one that is found is well formed.
+// Of a ticket of 108 bytes. Lent are the chains and rows of `size` participants, `count` orders and `rows` route rows. What the kind asks
+// for is searched for before any code's form is looked at: a code that is found is well formed.
 pub fn see(
     clock: u32,
     t: &[u8],
