@@ -1,4 +1,5 @@
 // Refusals 2 to 5, each by an enum.
+use super::chains;
 use super::rows;
 use dayfile::check::Enrolled;
 use dayfile::check::Placed;
@@ -10,7 +11,7 @@ use ticket::layout;
 ghost use mathlib.Core.Path.{_≡_};
 ghost use Prim.Native.Nat.{_+_, _*_, _≤_};
 ghost use lib.ListN.{length};
-ghost use Rattle.dayfile.specs.Limits.{participantLength, routeLength};
+ghost use Rattle.dayfile.specs.Limits.{mostParticipants, mostRoutes, participantLength, routeLength};
 ghost use Rattle.dayfile.specs.Check.{InRange, ranged, placed, enrolled, routed};
 
 pub fn check_counts(h: Header) -> Ranged
@@ -49,33 +50,35 @@ pub fn check_places(h: Header, length: usize) -> Placed
 }
 
 pub fn check_participants(start: usize, n: usize, f: &[u8]) -> Enrolled
-    requires { ⌜ start + participantLength * n ≤ length (now f) ⌝ }
+    requires { ⌜ (n ≤ mostParticipants) × (start + participantLength * n ≤ length (now f)) ⌝ }
     ensures { λ r. ⌜ r ≡ enrolled start n (now (f .entry)) ⌝ }
 {
     let mut ok = true;
     let mut i = 0;
     while i < n {
-        let at = start + limits::PARTICIPANT_LENGTH * i;
-        ok = ok
-            & (rows::participant_ok(f, at)
-                & !rows::bic_among(f, start, limits::PARTICIPANT_LENGTH, i, at));
+        ok = ok & rows::participant_ok(f, start + limits::PARTICIPANT_LENGTH * i);
         i += 1;
     }
-    if ok { Enrolled::Right } else { Enrolled::Wrong }
+    if ok & !chains::bic_repeats(f, start, limits::PARTICIPANT_LENGTH, n) {
+        Enrolled::Right
+    } else {
+        Enrolled::Wrong
+    }
 }
 
 pub fn check_routes(size: usize, start: usize, n: usize, f: &[u8]) -> Routed
-    requires { ⌜ start + routeLength * n ≤ length (now f) ⌝ }
+    requires { ⌜ (n ≤ mostRoutes) × (start + routeLength * n ≤ length (now f)) ⌝ }
     ensures { λ r. ⌜ r ≡ routed size start n (now (f .entry)) ⌝ }
 {
     let mut ok = true;
     let mut i = 0;
     while i < n {
-        let at = start + limits::ROUTE_LENGTH * i;
-        ok = ok
-            & (rows::route_ok(f, at, size, i)
-                & !rows::bic_among(f, start, limits::ROUTE_LENGTH, i, at));
+        ok = ok & rows::route_ok(f, start + limits::ROUTE_LENGTH * i, size, i);
         i += 1;
     }
-    if ok { Routed::Right } else { Routed::Wrong }
+    if ok & !chains::bic_repeats(f, start, limits::ROUTE_LENGTH, n) {
+        Routed::Right
+    } else {
+        Routed::Wrong
+    }
 }

@@ -1,12 +1,10 @@
-// Whether a participant row and a route row are right by themselves, and whether an earlier row has a BIC.
+// Whether a participant row and a route row are right by themselves.
 use dayfile::limits;
 ghost use mathlib.Core.Path.{_≡_};
-ghost use Prim.Native.Nat.{_+_, _*_, _≤_};
+ghost use Prim.Native.Nat.{_+_, _≤_};
 ghost use lib.ListN.{length};
-ghost use Rattle.fields.specs.Number.{part};
-ghost use Rattle.fields.specs.Text.{same};
 ghost use Rattle.dayfile.specs.Limits.{participantLength, routeLength};
-ghost use Rattle.dayfile.specs.Rows.{participantOk, boundOf, routeOk, bicAmong};
+ghost use Rattle.dayfile.specs.Rows.{participantOk, boundOf, routeOk};
 
 pub fn participant_ok(f: &[u8], at: usize) -> bool
     requires { ⌜ at + participantLength ≤ length (now f) ⌝ }
@@ -42,25 +40,4 @@ pub fn route_ok(f: &[u8], at: usize, size: usize, own: usize) -> bool
     let bound = bound_of(kind, size, own);
     let spare = fields::blank(&f[at + 14..at + 16]);
     bic & (kind <= 1) & (k < bound) & spare
-}
-
-fn same_bic(f: &[u8], a: usize, b: usize) -> bool
-    requires { ⌜ (a + 11 ≤ length (now f)) × (b + 11 ≤ length (now f)) ⌝ }
-    ensures { λ r. ⌜ r ≡ same (part 11 a (now (f .entry))) (part 11 b (now (f .entry))) ⌝ }
-{
-    fields::same_bytes(&f[a..a + 11], &f[b..b + 11])
-}
-
-// Whether one of the first n rows of a section has the BIC that stands at a place.
-pub fn bic_among(f: &[u8], start: usize, width: usize, n: usize, at: usize) -> bool
-    requires { ⌜ (11 ≤ width) × (start + width * n ≤ length (now f)) × (at + 11 ≤ length (now f)) ⌝ }
-    ensures { λ r. ⌜ r ≡ bicAmong start width n (part 11 at (now (f .entry))) (now (f .entry)) ⌝ }
-{
-    let mut found = false;
-    let mut j = 0;
-    while j < n {
-        found = found | same_bic(f, start + width * j, at);
-        j += 1;
-    }
-    found
 }

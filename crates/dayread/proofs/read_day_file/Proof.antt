@@ -103,7 +103,7 @@ read-day-file-spec =
     ∙ sym
     (file-ranged (given k) (header k) (head k) (range (p .before))
     ∙ ap (filePlaced (header k) (given k)) (sym (p .check-places .ensures) ∙ c .before .enum-told5 .given .1))))
-    (λ c κs. let p = placing (c .before .before) in omega arith)
+    (λ c κs. let p = placing (c .before .before) in (ranging (c .before .before) .participants, omega arith))
     (λ c. search needs)
     (λ c. search needs)
     (λ c κs. search needs)
@@ -111,7 +111,7 @@ read-day-file-spec =
     let p = c .before .before .before in
     let k = p .before .before .before .before .before .before .before .before in
     both _ _ (c .refused4 .ensures ∙ sym (from-participants p ∙ ap (fileEnrolled (header k) (given k)) (c .before .enum-told7 .given .1))))
-    (λ c κs. let p = placing (c .before .before .before .before .before) in omega arith)
+    (λ c κs. let e = c .before .before .before .before .before in let p = placing e in (ranging e .routes, omega arith))
     (λ c. search needs)
     (λ c. search needs)
     (λ c κs. search needs)
