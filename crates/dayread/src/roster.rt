@@ -12,7 +12,7 @@ ghost use Prim.Native.Nat.{_+_, _*_, _≤_};
 ghost use lib.ListN.{length};
 ghost use Rattle.fields.specs.Number.{part};
 ghost use Rattle.dayfile.specs.Limits.{mostParticipants, mostRoutes, participantLength, routeLength};
-ghost use Rattle.dayfile.specs.Roster.{kindOf, openingOf, targetOf, participantAt, routeAt, participantsTo, routesTo, RowsWithin, rosterOf, emptyRoster, noParticipant, noRoute};
+ghost use Rattle.dayfile.specs.Roster.{kindOf, openingOf, targetOf, participantAt, routeAt, participantsTo, routesTo, RowsWithin, rosterOf, noParticipant, noRoute};
 
 fn bic_at(f: &[u8], at: usize) -> [u8; 11]
     requires { ⌜ at + 11 ≤ length (now f) ⌝ }
@@ -134,18 +134,5 @@ pub fn read_roster(h: Header, f: &[u8]) -> Roster
         size: n.participants,
         routes: read_routes(at.routes, n.routes, f),
         rows: n.routes,
-    }
-}
-
-pub fn empty_roster() -> Roster
-    ensures { λ r. ⌜ r ≡ emptyRoster ⌝ }
-{
-    let participant = no_participant();
-    let route = no_route();
-    Roster {
-        participants: [participant; limits::MOST_PARTICIPANTS],
-        size: 0,
-        routes: [route; limits::MOST_ROUTES],
-        rows: 0,
     }
 }
