@@ -46,7 +46,7 @@ pub struct Opened {
 pub fn open(file: &[u8]) -> Opened
     ensures { λ r. ⌜ Opens (now (file .entry)) r ⌝ }
 {
-    let d = dayfile::read_day_file(file);
+    let d = dayread::read_day_file(file);
     let roster = d.roster;
     Opened {
         refusal: d.refusal,

@@ -2,13 +2,16 @@
 use super::bytes;
 use super::print;
 use super::words;
+use dayfile::limits;
 use dayfile::roster::Roster;
-use dayfile::route;
+use dayfile::roster::Route;
 use dayfile::route::Followed;
+use fields::Found;
 use libc::STDOUT_FILENO;
 ghost use mathlib.Core.Path.{_≡_};
 ghost use Rattle.dayfile.specs.DayFile.{dayFile};
-ghost use Rattle.dayfile.specs.Route.{followedBic};
+ghost use Rattle.fields.specs.Text.{same};
+ghost use Rattle.dayfile.specs.Route.{rowsIn, rowWith, followedBic};
 
 fn print_way(way: Followed) {
     match way {
@@ -42,7 +45,7 @@ pub fn run_file(line: &[u8]) {
     io::write_all(STDOUT_FILENO, &line[0..name]);
     let mut buffer = io::large_buffer();
     let n = bytes::put_bytes(line, name, &mut buffer);
-    let d = dayfile::read_day_file(&buffer[0..n]);
+    let d = dayread::read_day_file(&buffer[0..n]);
     let r = d.roster;
     print::print_number(d.refusal as u64);
     print::print_number(r.size as u64);
@@ -53,16 +56,50 @@ pub fn run_file(line: &[u8]) {
     print::print_end();
 }
 
+fn has_bic(route: Route, bic: &[u8]) -> bool
+    ensures { λ q. ⌜ q ≡ same (route .bic) (now (bic .entry)) ⌝ }
+{
+    let own = route.bic;
+    fields::same_bytes(&own, bic)
+}
+
+// How many rows are looked at: all in use, and a roster has room for 64.
+fn rows_in(r: Roster) -> usize
+    ensures { λ n. ⌜ n ≡ rowsIn r ⌝ }
+{
+    let rows = r.rows;
+    if limits::MOST_ROUTES <= rows {
+        limits::MOST_ROUTES
+    } else {
+        rows
+    }
+}
+
+// The first row with a BIC.
+fn row_with(r: Roster, bic: &[u8]) -> Found
+    ensures { λ q. ⌜ q ≡ rowWith r (now (bic .entry)) ⌝ }
+{
+    let rows = rows_in(r);
+    let routes = r.routes;
+    let mut found = Found::Nothing;
+    let mut i = 0;
+    while i < rows {
+        found = fields::found_or(found, i, has_bic(routes[i], bic));
+        i += 1;
+    }
+    found
+}
+
 fn way_of(f: &[u8], bic: &[u8]) -> Followed
     ensures { λ r. ⌜ r ≡ followedBic (dayFile (now (f .entry)) .roster) (now (bic .entry)) ⌝ }
 {
-    let d = dayfile::read_day_file(f);
+    let d = dayread::read_day_file(f);
     let r = d.roster;
     let routes = r.routes;
     let targets = routes::targets_of(routes);
     let kinds = targets.kinds;
     let numbers = targets.numbers;
-    routes::end_of(&kinds, &numbers, route::row_with(r, bic))
+    routes::end_of(&kinds, &numbers, row_with(r, bic))
 }
 
 pub fn run_way(line: &[u8]) {

@@ -1,16 +1,12 @@
--- Bytes copied into the front of zeroes are padded, and the value of the padded field is the bytes where they don't end in a zero.
--- Assumes nothing.
-use mathlib.Core.Path.{_≡_, refl, sym, _∙_, ap, ap₂}
-use mathlib.Core.Bool.{false}
+-- Bytes copied into the front of zeroes are padded. Assumes nothing.
+use mathlib.Core.Path.{_≡_, sym, _∙_, ap, ap₂}
 use mathlib.Core.List.{List, _++_, append-assoc}
 use Prim.Native.Nat.{ℕ, zero, suc, _+_, _-_, _≤_}
 use native.Mathlib.Nat.{sub-zero}
 use native.Mathlib.Omega.{arith}
-use lib.Dec.{eqb}
-use lib.ListN.{length, getD, take, drop, replicate, length-append, length-drop, take-append-drop}
+use lib.ListN.{length, take, drop, replicate, length-append, length-drop, take-append-drop}
 use lib.Seq.{take-take, take-append-le, take-all, drop-at, drop-drop, length-take-le}
-use Rattle.fields.specs.Text.{unpadded, padded}
-use Rattle.fields.proofs.Padding.{whole, unpadded-padded}
+use Rattle.fields.specs.Text.{padded}
 
 abbrev zeros : ℕ → List ℕ
 zeros n = replicate n 0
@@ -24,9 +20,6 @@ pub filled : {t : List ℕ} (w : ℕ) (s : List ℕ) → t ≡ s → t ++ drop (
 filled w s e =
     ap (λ (u : List ℕ). u ++ drop (length s - 0) (zeros w)) e
     ∙ ap (λ (u : List ℕ). s ++ u) (ap (λ (k : ℕ). drop k (zeros w)) (sub-zero (length s)) ∙ drop-zeros w (length s))
-
-pub filled-value : (w : ℕ) (s : List ℕ) (i : ℕ) → i + 1 ≡ length s → eqb (getD s i 0) 0 ≡ false → unpadded (padded w s) ≡ s
-filled-value w s i h e = unpadded-padded w s ∙ whole s i h e
 
 -- bytes copied by sixteens, from their start and up to their end
 module _ {first : List ℕ} (s : List ℕ) (least : 16 ≤ length s) (from-start : first ≡ take 16 s) where

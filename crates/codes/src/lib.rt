@@ -63,24 +63,25 @@ fn field_of(s: &[u8]) -> [u8; 34]
     copied_from_ends(s)
 }
 
-// Padded and then checked as in a ticket. Bytes that end in a zero are turned away before: their padded field would have another
-// value.
+// Its front and its classes are looked at where the bytes stand; only what passes is padded, for its number.
 #[no_mangle]
 pub extern "C" fn zolfigar_iban_ok(s: &[u8]) -> u8
     ensures { λ r. ⌜ r ≡ answer (isIban (now (s .entry))) ⌝ }
 {
-    let n = s.len();
-    if n < 5 {
+    if s.len() < 5 {
         return 0;
     }
-    if 34 < n {
+    if 34 < s.len() {
         return 0;
     }
-    if s[n - 1] == 0 {
+    if !iban::iban_front(s) {
+        return 0;
+    }
+    if !classes::all_in(Class::LetterOrDigit, s) {
         return 0;
     }
     let field = field_of(s);
-    iban::iban_ok(&field) as u8
+    iban::number_ok(&field) as u8
 }
 
 #[no_mangle]

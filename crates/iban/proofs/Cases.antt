@@ -23,6 +23,7 @@ ibans =
     ∷ turned "a small letter in the check digits" isIban (text "LV8aBANK0000435195001")
     ∷ taken "small letters in the rest" isIban (text "LV80bank0000435195001")
     ∷ turned "a space in the rest" isIban (text "LV80 BANK0000435195001")
+    ∷ turned "a sign in the rest" isIban (text "LV94BANK0000435195-01")
     ∷ turned "a zero byte at the end" isIban (text "LV80BANK0000435195001\0")
     ∷ turned "nothing" isIban []
     ∷ []

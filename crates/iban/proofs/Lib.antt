@@ -5,4 +5,5 @@ pub mod Carrying
 pub mod Shape
 pub mod Moved
 pub mod Whole
+pub mod Unpadded
 pub mod Cases

@@ -1,6 +1,5 @@
--- How long an IBAN is, and that its last byte is not zero: so it is its own value, padding it loses nothing, and bytes that end in a
--- zero are none. Assumes nothing.
-use mathlib.Core.Path.{_≡_, refl, sym, _∙_}
+-- How long an IBAN is, and that its last byte is not zero: so it is its own value, and padding it loses nothing. Assumes nothing.
+use mathlib.Core.Path.{_≡_, refl}
 use mathlib.Core.Bool.{Bool, true, false, _&&_}
 use mathlib.Core.List.{List}
 use Prim.Native.Nat.{ℕ, _+_, _-_, _≤_, _<_}
@@ -9,9 +8,9 @@ use borrow.Author.Tests.{leb-true}
 use lib.Dec.{leb, eqb}
 use lib.ListN.{length, getD, take, drop, length-drop}
 use lib.Seq.{getD-drop}
-use Rattle.fields.specs.Text.{unpadded, padded}
+use Rattle.fields.specs.Text.{unpadded}
 use Rattle.fields.proofs.Tests.{and-left, and-right}
-use Rattle.fields.proofs.Padding.{whole, unpadded-padded}
+use Rattle.fields.proofs.Padding.{whole}
 use Rattle.classes.specs.Class.{allIn}
 use Rattle.classes.specs.declared.Class.the-variants.{Capital, Digit, LetterOrDigit}
 use Rattle.classes.proofs.All.{none-zero}
@@ -53,18 +52,10 @@ refuted : (b : Bool) → (b ≡ true → ⊥) → b ≡ false
 refuted true never = absurd (never refl)
 refuted false never = refl
 
--- too few bytes, too many, and a zero at the end
+-- too few bytes, and too many
 module _ (s : List ℕ) where
   pub too-few : length s < 5 → isIban s ≡ false
   too-few h = refuted (isIban s) (λ e. omega (arith, iban-least s e))
 
   pub too-many : 34 < length s → isIban s ≡ false
   too-many h = refuted (isIban s) (λ e. omega (arith, iban-length s e))
-
-  pub zero-end : (i : ℕ) → i + 1 ≡ length s → getD s i 0 ≡ 0 → isIban s ≡ false
-  zero-end i h z =
-      refuted (isIban s)
-      (λ e.
-      let not-zero : eqb 0 0 ≡ false = rw z at (iban-end s e i h) in
-      let absurdity : _≡_ {A = ℕ} 0 1 = cc in
-      omega arith)

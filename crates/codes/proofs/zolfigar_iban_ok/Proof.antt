@@ -1,34 +1,51 @@
 -- `codes::zolfigar_iban_ok` meets its contract. Assumes nothing.
-use mathlib.Core.Path.{_≡_, sym, _∙_, ap}
+use mathlib.Core.Path.{_≡_, sym, _∙_, ap, ap₂}
+use mathlib.Core.Bool.{Bool, true, _&&_}
 use mathlib.Core.List.{List}
+use Prim.Native.Nat.{ℕ}
 use native.Mathlib.Omega.{arith}
 use denote.Ref.{now}
 use borrow.Author.Needs.{needs}
-use borrow.Author.Tests.{ne-eqb}
-use Prim.Native.Nat.{ℕ, _-_}
+use borrow.Author.Tests.{not-true, not-false}
+use lib.Dec.{eqb}
 use lib.ListN.{length}
-use Rattle.fields.specs.Text.{unpadded}
+use Rattle.fields.specs.Text.{padded}
 use Rattle.fields.proofs.Padding.{length-padded}
 use Rattle.classes.specs.Answer.{answer}
+use Rattle.classes.specs.Class.{allIn}
+use Rattle.classes.specs.declared.Class.the-variants.{LetterOrDigit}
 use Rattle.iban.specs.Iban.{isIban}
-use Rattle.iban.proofs.Whole.{too-few, too-many, zero-end}
-use Rattle.codes.proofs.Filled.{filled-value}
+use Rattle.iban.specs.Spelling.{speltMoved, ibanFront}
+use Rattle.iban.proofs.Whole.{too-few, too-many}
+use Rattle.iban.proofs.Unpadded.{iban-unpadded}
 use Rattle.codes.proofs.zolfigar_iban_ok.Statement.{statement}
 use Rattle.codes.proofs.zolfigar_iban_ok.Tie as tie
 
--- the field that the bytes stand in
-module _ (c : tie.After-field-of) where
-  abbrev l : tie.Else3
-  l = c .before
-
+-- 5 to 34 bytes
+module _ (c : tie.Else2) where
   abbrev s : List ℕ
-  s = now (l .before .before .before .before .before .args .s)
+  s = now (c .before .before .before .args .s)
 
-  long : length (c .field-of .result) ≡ 34
-  long = ap length (c .field-of .ensures) ∙ length-padded 34 s (search needs)
+  abbrev tests : Bool → Bool → Bool
+  tests front spelt = front && spelt && eqb (speltMoved (padded 34 s)) 1
 
-  value-is : unpadded (c .field-of .result) ≡ s
-  value-is = ap unpadded (c .field-of .ensures) ∙ filled-value 34 s (length s - 1) (omega arith) (ne-eqb _ _ (l .if3 .left))
+  tested : tests (ibanFront s) (allIn LetterOrDigit s) ≡ isIban s
+  tested = iban-unpadded s (omega arith) (omega arith)
+
+-- the front is right
+fronted : (c : tie.Else3) → ibanFront (s (c .before .before)) ≡ true
+fronted c = sym (c .before .iban-front .ensures) ∙ not-false _ (c .if3 .left)
+
+-- so are the classes
+passed : (c : tie.Else4) → eqb (speltMoved (padded 34 (s (c .before .before .before .before)))) 1 ≡ isIban (s (c .before .before .before .before))
+passed c =
+    let l = c .before .before .before .before in
+    let spelt = sym (c .before .all-in .ensures) ∙ not-false _ (c .if4 .left) in
+    sym (ap₂ (tests l) (fronted (c .before .before)) spelt) ∙ tested l
+
+-- the field that the bytes stand in
+long : (c : tie.After-field-of) → length (c .field-of .result) ≡ 34
+long c = ap length (c .field-of .ensures) ∙ length-padded 34 (s (c .before .before .before .before .before)) (search needs)
 
 pub zolfigar-iban-ok-spec : {M : Type 1} → statement M
 zolfigar-iban-ok-spec =
@@ -38,12 +55,22 @@ zolfigar-iban-ok-spec =
     (λ c. rw (too-few (now (c .before .before .args .s)) (c .if1 .taken)))
     -- too many
     (λ c. rw (too-many (now (c .before .before .before .args .s)) (c .if2 .taken)))
-    (λ c. search needs)
-    (λ c. search needs)
-    -- a zero at the end
-    (λ c. let s = now (c .before .before .before .before .before .args .s) in rw (zero-end s (length s - 1) (omega arith) (c .if3 .taken)))
+    (λ c κs. search needs)
+    -- another front
+    (λ c.
+    let l = c .before .before in
+    let front = sym (c .before .iban-front .ensures) ∙ not-true _ (c .if3 .taken) in
+    ap answer (sym (ap (λ (b : Bool). tests l b (allIn LetterOrDigit (s l))) front) ∙ tested l))
+    (λ c κs. search needs)
+    -- other bytes than letters and digits
+    (λ c.
+    let l = c .before .before .before .before in
+    let spelt = sym (c .before .all-in .ensures) ∙ not-true _ (c .if4 .taken) in
+    ap answer (sym (ap₂ (tests l) (fronted (c .before .before)) spelt) ∙ tested l))
     (λ c κs. search needs)
     (λ c. sym (long (c .before)))
     (λ c κs. long (c .before))
     (λ c. search needs)
-    (λ c. ap answer (c .iban-ok .ensures ∙ ap isIban (value-is (c .before .before)))))
+    (λ c.
+    let field = c .before .before in
+    ap answer (c .number-ok .ensures ∙ ap (λ (f : List ℕ). eqb (speltMoved f) 1) (field .field-of .ensures) ∙ passed (field .before))))

@@ -5,7 +5,7 @@ use mathlib.Core.List.{List}
 use Prim.Native.Nat.{ℕ}
 use denote.Ref.{now}
 use borrow.Author.Needs.{needs}
-use borrow.Author.Tests.{not-true, not-false, eq-eqb, ne-eqb}
+use borrow.Author.Tests.{not-true, not-false}
 use lib.Dec.{eqb}
 use Rattle.fields.specs.Text.{unpadded}
 use Rattle.classes.specs.Class.{allIn}
@@ -39,12 +39,12 @@ iban-ok-spec =
     let p = c .before in
     let start = p .before .before .before .before in
     let s = now (start .args .s) in
-    let number : eqb (speltMoved s) 1 ≡ false = ap (λ (n : ℕ). eqb n 1) (sym (p .of-moved .ensures)) ∙ ne-eqb _ _ (c .if2 .taken) in
+    let number : eqb (speltMoved s) 1 ≡ false = sym (p .number-ok .ensures) ∙ not-true _ (c .if2 .taken) in
     sym (ap₂ (tests s) (fronted (p .before)) number) ∙ iban-tested s (start .pre))
     (λ c κs. search needs)
     (λ c.
     let p = c .before .before in
     let start = p .before .before .before .before in
     let s = now (start .args .s) in
-    let number : eqb (speltMoved s) 1 ≡ true = ap (λ (n : ℕ). eqb n 1) (sym (p .of-moved .ensures)) ∙ eq-eqb _ _ (c .before .if2 .left) in
+    let number : eqb (speltMoved s) 1 ≡ true = sym (p .number-ok .ensures) ∙ not-false _ (c .before .if2 .left) in
     c .all-padded .ensures ∙ sym (ap₂ (tests s) (fronted (p .before)) number) ∙ iban-tested s (start .pre)))
