@@ -215,6 +215,14 @@ pub fn take<'a>(
                 let k = b.count;
                 let mut txid = [0u8; 35];
                 fields::copy(&t[layout::TXID..layout::IBAN], &mut txid);
+                index::put_txid(
+                    &mut heads,
+                    &mut links,
+                    &mut txids,
+                    k,
+                    &t[layout::TXID..layout::IBAN],
+                );
+                followed = routes::rows_followed(way);
                 b.orders[k] = Order {
                     txid,
                     payer: p,
@@ -223,17 +231,10 @@ pub fn take<'a>(
                     time: b.clock,
                     status: Status::Waiting,
                 };
-                index::put_txid(
-                    &mut heads,
-                    &mut links,
-                    &mut txids,
-                    k,
-                    &t[layout::TXID..layout::IBAN],
-                );
                 b.count = k + 1;
-                followed = routes::rows_followed(way);
             }
             Does::Becomes(s) => {
+                let o = b.orders[i];
                 b.orders[i] = status::with_status(o, s);
             }
             Does::Cuts => {
