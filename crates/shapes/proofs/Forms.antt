@@ -1,6 +1,6 @@
 -- The shape of a ticket by what its kind names: ranges that a kind does not list are blank as one. Assumes nothing.
 use mathlib.Core.Path.{_≡_, refl, sym, _∙_, ap}
-use mathlib.Core.Bool.{Bool, true, false, _&&_, _||_, not, cond, and-true, and-assoc}
+use mathlib.Core.Bool.{Bool, true, false, _&&_, _||_, not, cond, and-true}
 use mathlib.Core.List.{List}
 use Prim.Native.Nat.{ℕ}
 use native.Mathlib.Omega.{arith}
@@ -47,6 +47,13 @@ in-cover : (a s p x i l : Bool) → (a && true && s && p && x && i && l) ≡ (a 
 in-cover true true p x i l = refl
 in-cover true false p x i l = refl
 in-cover false s p x i l = refl
+
+in-about : (a p x i l : Bool) → (a && p && x && i && l) ≡ (a && x && (p && (i && l)))
+in-about true true true i l = refl
+in-about true true false i l = refl
+in-about true false true i l = refl
+in-about true false false i l = refl
+in-about false p x i l = refl
 
 in-order : (a s p x l : Bool) → (a && true && s && p && x && true && l) ≡ (a && s && p && x && l)
 in-order a s p x l = simp (and-true a, and-true (a && s && p && x))
@@ -114,22 +121,22 @@ cover-formed k t = go k
 pub about-formed : (k : Kind) (t : List ℕ) → termsOf k .subject ≡ HeldOrder
     → wellFormed (formOf k) t
     ≡ (blank (layout.spareField t) && (not (eqb (formOf k .most) 0) || blank (layout.amountField t)) && isBic (layout.senderOf t)
-    && blank (layout.payeeOf t) && isTxid (layout.txidOf t) && blank (part 35 73 t))
+    && isTxid (layout.txidOf t) && (blank (part 11 27 t) && blank (part 35 73 t)))
 about-formed k t = go k
   where
     form : (n : Bool) → (blank (layout.spareField t) && n && isBic (layout.senderOf t) && blank (layout.payeeOf t) && isTxid (layout.txidOf t)
         && blank (layout.ibanField t) && blank (layout.lastField t))
-        ≡ (blank (layout.spareField t) && n && isBic (layout.senderOf t) && blank (layout.payeeOf t) && isTxid (layout.txidOf t) && blank (part 35 73 t))
+        ≡ (blank (layout.spareField t) && n && isBic (layout.senderOf t) && isTxid (layout.txidOf t) && (blank (part 11 27 t) && blank (part 35 73 t)))
     form n =
-        and-assoc (blank (layout.spareField t) && n && isBic (layout.senderOf t) && blank (layout.payeeOf t) && isTxid (layout.txidOf t))
+        in-about (blank (layout.spareField t) && n && isBic (layout.senderOf t)) (blank (layout.payeeOf t)) (isTxid (layout.txidOf t))
         (blank (layout.ibanField t)) (blank (layout.lastField t))
-        ∙ ap (_&&_ (blank (layout.spareField t) && n && isBic (layout.senderOf t) && blank (layout.payeeOf t) && isTxid (layout.txidOf t)))
+        ∙ ap (λ (z : Bool). blank (layout.spareField t) && n && isBic (layout.senderOf t) && isTxid (layout.txidOf t) && (blank (part 11 27 t) && z))
         (sym (from-iban t))
 
     go : (k : Kind) → termsOf k .subject ≡ HeldOrder
         → wellFormed (formOf k) t
         ≡ (blank (layout.spareField t) && (not (eqb (formOf k .most) 0) || blank (layout.amountField t)) && isBic (layout.senderOf t)
-        && blank (layout.payeeOf t) && isTxid (layout.txidOf t) && blank (part 35 73 t))
+        && isTxid (layout.txidOf t) && (blank (part 11 27 t) && blank (part 35 73 t)))
     go kind.CoverIn e = differ cc
     go kind.CoverOut e = differ cc
     go kind.Order e = differ cc

@@ -1,1 +1,2 @@
 pub mod Forms
+pub mod Words

@@ -1,22 +1,25 @@
-// Ranges of a ticket that a kind does not list: whether all their bytes are zero. By whole words; the longest, a tick's, by its bytes, of
-// which the machine takes sixteen at a time.
+// Ranges of a ticket that a kind does not list: whether all their bytes are zero. By words of eight bytes, of which two may overlap: all
+// are the first, and that is zero. Each word is one load of the machine; held to zero one by one they would be loaded byte by byte.
+use index::words;
 use ticket::layout;
 ghost use mathlib.Core.Path.{_≡_};
+ghost use mathlib.Core.Bool.{_&&_};
 ghost use Prim.Native.Nat.{_+_, _≤_};
 ghost use lib.ListN.{length};
 ghost use Rattle.fields.specs.Number.{part};
 ghost use Rattle.fields.specs.Text.{blank};
 ghost use Rattle.ticket.specs.Layout.{ticketLength};
+ghost use Rattle.shapes.specs.Blank.{fourAre};
 
-// 32 bytes.
-fn zero_32(t: &[u8], at: usize) -> bool
+// Four words one behind the other: 32 bytes.
+fn four_are(t: &[u8], at: usize, w: u64) -> bool
     requires { ⌜ at + 32 ≤ length (now t) ⌝ }
-    ensures { λ r. ⌜ r ≡ blank (part 32 at (now (t .entry))) ⌝ }
+    ensures { λ r. ⌜ r ≡ fourAre w at (now (t .entry)) ⌝ }
 {
-    fields::zero_u64_at(t, at)
-        & fields::zero_u64_at(t, at + 8)
-        & fields::zero_u64_at(t, at + 16)
-        & fields::zero_u64_at(t, at + 24)
+    (words::word_at(t, at) == w)
+        & (words::word_at(t, at + 8) == w)
+        & (words::word_at(t, at + 16) == w)
+        & (words::word_at(t, at + 24) == w)
 }
 
 // Amount and all behind it: bytes 8 to 107.
@@ -24,7 +27,8 @@ pub fn from_amount(t: &[u8]) -> bool
     requires { ⌜ length (now t) ≡ ticketLength ⌝ }
     ensures { λ r. ⌜ r ≡ blank (part 100 8 (now (t .entry))) ⌝ }
 {
-    fields::blank(&t[layout::AMOUNT..layout::LENGTH])
+    let first = words::word_at(t, layout::AMOUNT);
+    four_are(t, 16, first) & four_are(t, 48, first) & four_are(t, 76, first) & (first == 0)
 }
 
 // Payee and all behind it: bytes 27 to 107.
@@ -32,25 +36,22 @@ pub fn from_payee(t: &[u8]) -> bool
     requires { ⌜ length (now t) ≡ ticketLength ⌝ }
     ensures { λ r. ⌜ r ≡ blank (part 81 27 (now (t .entry))) ⌝ }
 {
-    zero_32(t, 27)
-        & zero_32(t, 59)
-        & fields::zero_u64_at(t, 91)
-        & fields::zero_u64_at(t, 99)
-        & (t[layout::LAST] == 0)
+    let first = words::word_at(t, layout::PAYEE);
+    four_are(t, 35, first)
+        & four_are(t, 67, first)
+        & (words::word_at(t, 99) == first)
+        & (words::word_at(t, 100) == first)
+        & (first == 0)
 }
 
-// Payee alone: bytes 27 to 37.
-pub fn payee(t: &[u8]) -> bool
+// All behind the sender but the TxId: bytes 27 to 37 and 73 to 107.
+pub fn around_txid(t: &[u8]) -> bool
     requires { ⌜ length (now t) ≡ ticketLength ⌝ }
-    ensures { λ r. ⌜ r ≡ blank (part 11 27 (now (t .entry))) ⌝ }
+    ensures { λ r. ⌜ r ≡ (blank (part 11 27 (now (t .entry))) && blank (part 35 73 (now (t .entry)))) ⌝ }
 {
-    fields::zero_u64_at(t, 27) & fields::zero_u24_at(t, 35)
-}
-
-// IBAN and the byte behind it: bytes 73 to 107.
-pub fn from_iban(t: &[u8]) -> bool
-    requires { ⌜ length (now t) ≡ ticketLength ⌝ }
-    ensures { λ r. ⌜ r ≡ blank (part 35 73 (now (t .entry))) ⌝ }
-{
-    zero_32(t, 73) & fields::zero_u24_at(t, 105)
+    let first = words::word_at(t, layout::PAYEE);
+    (words::word_at(t, 30) == first)
+        & four_are(t, layout::IBAN, first)
+        & (words::word_at(t, 100) == first)
+        & (first == 0)
 }

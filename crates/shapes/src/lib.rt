@@ -43,7 +43,7 @@ pub fn cover(t: &[u8], kind: Kind, sender: Found) -> Shape
 {
     let spare = fields::zero_u16_at(t, layout::SPARE);
     let rest = blanks::from_payee(t);
-    let sender = known::bic(sender, &t[layout::SENDER..layout::PAYEE]);
+    let sender = known::sender(sender, t);
     shape(spare & sender & rest, kind)
 }
 
@@ -55,13 +55,12 @@ pub fn about(t: &[u8], kind: Kind, sender: Found, order: Found) -> Shape
     ensures { λ r. ⌜ r ≡ shapeOf (now (t .entry)) ⌝ }
 {
     let spare = fields::zero_u16_at(t, layout::SPARE);
-    let payee = blanks::payee(t);
-    let rest = blanks::from_iban(t);
+    let rest = blanks::around_txid(t);
     let amounts = amounts::amounts_of(kind);
     let amount = (amounts.most != 0) | fields::zero_u64_at(t, layout::AMOUNT);
-    let sender = known::bic(sender, &t[layout::SENDER..layout::PAYEE]);
-    let txid = known::txid(order, &t[layout::TXID..layout::IBAN]);
-    shape(spare & amount & sender & payee & txid & rest, kind)
+    let sender = known::sender(sender, t);
+    let txid = known::txid(order, t);
+    shape(spare & amount & sender & txid & rest, kind)
 }
 
 // 7. An order lists every field.
@@ -74,9 +73,9 @@ pub fn order(t: &[u8], sender: Found, order: Found, route: Found) -> Shape
 {
     let spare = fields::zero_u16_at(t, layout::SPARE);
     let last = t[layout::LAST] == 0;
-    let sender = known::bic(sender, &t[layout::SENDER..layout::PAYEE]);
-    let payee = known::bic(route, &t[layout::PAYEE..layout::TXID]);
-    let txid = known::txid(order, &t[layout::TXID..layout::IBAN]);
+    let sender = known::sender(sender, t);
+    let payee = known::payee(route, t);
+    let txid = known::txid(order, t);
     shape(spare & sender & payee & txid & last, Kind::Order)
 }
 

@@ -4,6 +4,7 @@
 --     limitBy         10: Within, or Above
 --     valueRefusal    the first of 9 to 11 that applies, 0 if none does
 --     valueSight      refused by that, or what is seen
+--     formedSight     refused by 7 or 8, or by that, or what is seen
 -- Assumes nothing.
 use Prim.Native.Nat.{ℕ}
 use mathlib.Core.Bool.{cond}
@@ -22,6 +23,9 @@ use Rattle.shapes.specs.Amounts.{amountsOf}
 use Rattle.shapes.specs.declared.amounts.Amounts.{Amounts}
 use Rattle.sight.specs.Sight.{sightBy}
 use Rattle.sight.specs.declared.Sight.{Sight}
+use Rattle.sight.specs.declared.Sight.the-variants.{Refused}
+use Rattle.sight.specs.declared.subjects.Formed.{Formed}
+use Rattle.sight.specs.declared.subjects.Formed.the-variants as formed
 
 -- 9. Amount zero for kinds 1, 2, 3, 6: those whose least amount is 1
 abbrev pub statedBy : Amounts → List ℕ → Stated
@@ -52,3 +56,7 @@ valueSight clock t kind sender order route =
       order = order;
       route = route;
     })
+
+abbrev pub formedSight : ℕ → List ℕ → Kind → Formed → Sight
+formedSight clock t kind (formed.With sender order route) = valueSight clock t kind sender order route
+formedSight clock t kind (formed.Refused n) = Refused n

@@ -3,7 +3,7 @@ mod subjects;
 mod values;
 
 use fields::Found;
-use rules::terms::Subject;
+use subjects::Formed;
 use ticket::kinds;
 use ticket::kinds::Kind;
 use ticket::kinds::Kinded;
@@ -31,8 +31,7 @@ pub enum Sight {
     Refused(u8),
 }
 
-// Of a ticket of 108 bytes. Lent are the chains and rows of `size` participants, `count` orders and `rows` route rows. What the kind asks
-// for is searched for before any code's form is looked at: a code that is found is well formed.
+// Of a ticket of 108 bytes. Lent are the chains and rows of `size` participants, `count` orders and `rows` route rows.
 pub fn see(
     clock: u32,
     t: &[u8],
@@ -64,60 +63,25 @@ pub fn see(
     let Kinded::As(kind) = kinds::kind_of(t[layout::KIND], t[layout::FLAG]) else {
         return Sight::Refused(7);
     };
-    let subject = subjects::subject_of(kind);
-    match subject {
-        Subject::Nothing => subjects::nothing(clock, t, kind),
-        Subject::Sender => {
-            let sender = index::find_bic(
-                bic_heads,
-                bic_links,
-                bics,
-                size,
-                &t[layout::SENDER..layout::PAYEE],
-            );
-            subjects::cover(clock, t, kind, sender)
-        }
-        Subject::NewOrder => {
-            let sender = index::find_bic(
-                bic_heads,
-                bic_links,
-                bics,
-                size,
-                &t[layout::SENDER..layout::PAYEE],
-            );
-            let order = index::find_txid(
-                txid_heads,
-                txid_links,
-                txids,
-                count,
-                &t[layout::TXID..layout::IBAN],
-            );
-            let route = index::find_bic(
-                route_heads,
-                route_links,
-                routes,
-                rows,
-                &t[layout::PAYEE..layout::TXID],
-            );
-            subjects::order(clock, t, sender, order, route)
-        }
-        Subject::HeldOrder => {
-            let sender = index::find_bic(
-                bic_heads,
-                bic_links,
-                bics,
-                size,
-                &t[layout::SENDER..layout::PAYEE],
-            );
-            let order = index::find_txid(
-                txid_heads,
-                txid_links,
-                txids,
-                count,
-                &t[layout::TXID..layout::IBAN],
-            );
-            subjects::about(clock, t, kind, sender, order)
-        }
+    let formed = subjects::formed_of(
+        t,
+        kind,
+        bic_heads,
+        bic_links,
+        bics,
+        size,
+        txid_heads,
+        txid_links,
+        txids,
+        count,
+        route_heads,
+        route_links,
+        routes,
+        rows,
+    );
+    match formed {
+        Formed::With(sender, order, route) => values::valued(clock, t, kind, sender, order, route),
+        Formed::Refused(n) => Sight::Refused(n),
     }
 }
 

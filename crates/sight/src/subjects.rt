@@ -1,18 +1,32 @@
-// What is seen of a ticket, by what its kind names. What a kind does not ask for, the other findings, may be anything.
-use super::Sight;
-use super::values;
+// Refusals 7 and 8 by what a ticket's kind names, and what the kind asks for. What it does not ask for, the other findings, may be
+// anything.
 use fields::Found;
 use rules::terms::Subject;
 use ticket::kinds::Kind;
+use ticket::kinds::Kinded;
+use ticket::layout;
 use ticket::shapes::Account;
 use ticket::shapes::Shape;
 ghost use mathlib.Core.Path.{_≡_};
-ghost use Rattle.ticket.specs.Layout.{senderOf, payeeOf, txidField};
+ghost use Prim.Native.Nat.{ℕ};
+ghost use lib.ListN.{length};
+ghost use Rattle.fields.specs.Rows.{firstRow};
+ghost use Rattle.ticket.specs.Layout.{ticketLength, kindByte, flagByte, senderOf, payeeOf, txidField};
+ghost use Rattle.ticket.specs.Kind.{kinded};
 ghost use Rattle.rules.specs.Terms.{termsOf};
+ghost use Rattle.index.specs.Lent.{BicRows, TxidRows};
+ghost use Rattle.index.specs.Words.{bicWords, txidWords};
 ghost use Rattle.sight.specs.Sight.{sightOf};
+ghost use Rattle.sight.specs.Value.{formedSight};
 ghost use Rattle.shapes.specs.Subject.{TicketNaming, KnownBic, KnownTxid};
 
-pub fn subject_of(kind: Kind) -> Subject
+// Sender, order and route of a ticket that 7 and 8 do not refuse.
+pub enum Formed {
+    With(Found, Found, Found),
+    Refused(u8),
+}
+
+fn subject_of(kind: Kind) -> Subject
     ensures { λ r. ⌜ r ≡ termsOf kind .subject ⌝ }
 {
     match kind {
@@ -32,60 +46,158 @@ pub fn subject_of(kind: Kind) -> Subject
 }
 
 // Kinds 9 and 11.
-pub fn nothing(clock: u32, t: &[u8], kind: Kind) -> Sight
+fn nothing(t: &[u8], kind: Kind) -> Formed
     requires { ⌜ TicketNaming Subject.Nothing kind (now t) ⌝ }
-    ensures { λ r. ⌜ ((sender order route : Found) → r ≡ sightOf clock (now (t .entry)) sender order route) ⌝ }
+    ensures { λ r.
+        ⌜
+        ((clock : ℕ) (sender order route : Found)
+        → formedSight clock (now (t .entry)) kind r ≡ sightOf clock (now (t .entry)) sender order route)
+        ⌝ }
 {
     let Shape::Formed(_) = shapes::nothing(t, kind) else {
-        return Sight::Refused(7);
+        return Formed::Refused(7);
     };
-    values::valued(
-        clock,
-        t,
-        kind,
-        Found::Nothing,
-        Found::Nothing,
-        Found::Nothing,
-    )
+    Formed::With(Found::Nothing, Found::Nothing, Found::Nothing)
 }
 
 // Kinds 1, 2 and 10.
-pub fn cover(clock: u32, t: &[u8], kind: Kind, sender: Found) -> Sight
+fn cover(t: &[u8], kind: Kind, sender: Found) -> Formed
     requires { ⌜ TicketNaming Subject.Sender kind (now t) × KnownBic sender (senderOf (now t)) ⌝ }
-    ensures { λ r. ⌜ ((order route : Found) → r ≡ sightOf clock (now (t .entry)) sender order route) ⌝ }
+    ensures { λ r.
+        ⌜
+        ((clock : ℕ) (order route : Found)
+        → formedSight clock (now (t .entry)) kind r ≡ sightOf clock (now (t .entry)) sender order route)
+        ⌝ }
 {
     let Shape::Formed(_) = shapes::cover(t, kind, sender) else {
-        return Sight::Refused(7);
+        return Formed::Refused(7);
     };
-    values::valued(clock, t, kind, sender, Found::Nothing, Found::Nothing)
+    Formed::With(sender, Found::Nothing, Found::Nothing)
 }
 
 // Kinds 4 to 8.
-pub fn about(clock: u32, t: &[u8], kind: Kind, sender: Found, order: Found) -> Sight
+fn about(t: &[u8], kind: Kind, sender: Found, order: Found) -> Formed
     requires { ⌜
         TicketNaming Subject.HeldOrder kind (now t) × KnownBic sender (senderOf (now t)) × KnownTxid order (txidField (now t))
         ⌝ }
-    ensures { λ r. ⌜ ((route : Found) → r ≡ sightOf clock (now (t .entry)) sender order route) ⌝ }
+    ensures { λ r.
+        ⌜
+        ((clock : ℕ) (route : Found)
+        → formedSight clock (now (t .entry)) kind r ≡ sightOf clock (now (t .entry)) sender order route)
+        ⌝ }
 {
     let Shape::Formed(_) = shapes::about(t, kind, sender, order) else {
-        return Sight::Refused(7);
+        return Formed::Refused(7);
     };
-    values::valued(clock, t, kind, sender, order, Found::Nothing)
+    Formed::With(sender, order, Found::Nothing)
 }
 
 // Kind 3.
-pub fn order(clock: u32, t: &[u8], sender: Found, order: Found, route: Found) -> Sight
+fn order(t: &[u8], sender: Found, order: Found, route: Found) -> Formed
     requires { ⌜
         TicketNaming Subject.NewOrder Kind.Order (now t) × KnownBic sender (senderOf (now t)) × KnownTxid order (txidField (now t))
         × KnownBic route (payeeOf (now t))
         ⌝ }
-    ensures { λ r. ⌜ r ≡ sightOf clock (now (t .entry)) sender order route ⌝ }
+    ensures { λ r.
+        ⌜
+        ((clock : ℕ)
+        → formedSight clock (now (t .entry)) Kind.Order r ≡ sightOf clock (now (t .entry)) sender order route)
+        ⌝ }
 {
     let Shape::Formed(_) = shapes::order(t, sender, order, route) else {
-        return Sight::Refused(7);
+        return Formed::Refused(7);
     };
     let Account::Named = shapes::account(t) else {
-        return Sight::Refused(8);
+        return Formed::Refused(8);
     };
-    values::valued(clock, t, Kind::Order, sender, order, route)
+    Formed::With(sender, order, route)
+}
+
+// Of a ticket of a kind. What the kind asks for is searched for before any code's form is looked at: a code that is found is well formed.
+pub fn formed_of(
+    t: &[u8],
+    kind: Kind,
+    bic_heads: &[u16],
+    bic_links: &[u16],
+    bics: &[u64],
+    size: usize,
+    txid_heads: &[u16],
+    txid_links: &[u16],
+    txids: &[u64],
+    count: usize,
+    route_heads: &[u16],
+    route_links: &[u16],
+    routes: &[u64],
+    rows: usize,
+) -> Formed
+    requires { ⌜
+        (length (now t) ≡ ticketLength) × (kinded (kindByte (now t)) (flagByte (now t)) ≡ Kinded.As kind)
+        × BicRows size (now bics) (now «bic_heads») (now «bic_links»)
+        × TxidRows count (now txids) (now «txid_heads») (now «txid_links») × BicRows rows (now routes) (now «route_heads») (now «route_links»)
+        ⌝ }
+    ensures { λ r.
+        ⌜
+        ((clock : ℕ)
+        → formedSight clock (now (t .entry)) kind r
+        ≡ sightOf clock (now (t .entry))
+        (firstRow 2 size (bicWords (senderOf (now (t .entry)))) (now (bics .entry)))
+        (firstRow 5 count (txidWords (txidField (now (t .entry)))) (now (txids .entry)))
+        (firstRow 2 rows (bicWords (payeeOf (now (t .entry)))) (now (routes .entry))))
+        ⌝ }
+{
+    let subject = subject_of(kind);
+    match subject {
+        Subject::Nothing => nothing(t, kind),
+        Subject::Sender => {
+            let sender = index::find_bic(
+                bic_heads,
+                bic_links,
+                bics,
+                size,
+                &t[layout::SENDER..layout::PAYEE],
+            );
+            cover(t, kind, sender)
+        }
+        Subject::NewOrder => {
+            let sender = index::find_bic(
+                bic_heads,
+                bic_links,
+                bics,
+                size,
+                &t[layout::SENDER..layout::PAYEE],
+            );
+            let found = index::find_txid(
+                txid_heads,
+                txid_links,
+                txids,
+                count,
+                &t[layout::TXID..layout::IBAN],
+            );
+            let route = index::find_bic(
+                route_heads,
+                route_links,
+                routes,
+                rows,
+                &t[layout::PAYEE..layout::TXID],
+            );
+            order(t, sender, found, route)
+        }
+        Subject::HeldOrder => {
+            let sender = index::find_bic(
+                bic_heads,
+                bic_links,
+                bics,
+                size,
+                &t[layout::SENDER..layout::PAYEE],
+            );
+            let found = index::find_txid(
+                txid_heads,
+                txid_links,
+                txids,
+                count,
+                &t[layout::TXID..layout::IBAN],
+            );
+            about(t, kind, sender, found)
+        }
+    }
 }

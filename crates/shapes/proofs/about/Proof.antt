@@ -19,23 +19,15 @@ about-spec =
     (λ c κs. search needs)
     (λ c κs. search needs)
     (λ c κs. search needs)
-    (λ c. search needs)
-    (λ c. search needs)
-    (λ c. search needs)
-    (λ c κs. search needs)
-    (λ c. search needs)
-    (λ c. search needs)
-    (λ c. search needs)
     (λ c κs. search needs)
     (λ c κs. search needs)
     (λ c.
     let txid = c .before in
-    let sender = txid .before .before in
-    let amount = sender .before .before in
+    let sender = txid .before in
+    let amount = sender .before in
     let amounts = amount .before .before in
     let rest = amounts .before in
-    let payee = rest .before in
-    let spare = payee .before in
+    let spare = rest .before in
     let a = spare .before .before in
     let t = now (a .args .t) in
     simp (
@@ -43,9 +35,8 @@ about-spec =
       spare .zero-u16-at .ensures,
       ap (λ (x : Amounts). x .most) (amounts .amounts-of .ensures),
       amount .zero-u64-at .ensures,
-      sender .bic .ensures,
-      payee .payee .ensures,
+      sender .sender .ensures,
       txid .txid .ensures,
-      rest .from-iban .ensures,
+      rest .around-txid .ensures,
     )
     (sym (shape-is HeldOrder (a .args .kind) t (a .pre .0) _ (about-formed (a .args .kind) t (a .pre .0 .names))))))

@@ -1,6 +1,6 @@
 -- `shapes::blanks::from_payee` meets its contract. Assumes nothing.
 use denote.Ref.{now}
-use Rattle.fields.proofs.Zeros.{blank-join, blank-one}
+use Rattle.shapes.proofs.Words as words
 use borrow.Author.Needs.{needs}
 use Rattle.shapes.proofs.blanks.from_payee.Statement.{statement}
 use Rattle.shapes.proofs.blanks.from_payee.Tie as tie
@@ -13,22 +13,11 @@ from-payee-spec =
     (λ c κs. search needs)
     (λ c κs. search needs)
     (λ c κs. search needs)
-    (λ c. search needs)
+    (λ c κs. search needs)
     (λ c.
-    let fourth = c .before in
-    let third = fourth .before in
-    let second = third .before in
-    let first = second .before in
+    let tail = c .before in
+    let first = tail .before .before .before in
     let t = now (first .before .before .args .t) in
-    let last = blank-one 107 t (search needs) in
-    simp (
-      first .zero-32 .ensures,
-      second .zero-322 .ensures,
-      third .zero-u64-at .ensures,
-      fourth .zero-u64-at2 .ensures,
-      blank-join 80 1 27 t,
-      blank-join 72 8 27 t,
-      blank-join 64 8 27 t,
-      blank-join 32 32 27 t,
-      last,
-    )))
+    simp (tail .before .before .four-are .ensures, tail .before .four-are2 .ensures)
+    (words.from-payee t (first .word-at .result) (tail .word-at2 .result) (c .word-at3 .result) (first .word-at .ensures) (tail .word-at2 .ensures)
+    (c .word-at3 .ensures))))

@@ -15,15 +15,13 @@ about-spec =
     (λ c. search needs)
     (λ c. search needs)
     -- 7
-    (λ c route.
-    let a = c .before .before .before .before .args in
-    sym (sight-malformed (a .clock) (now (a .t)) (a .sender) (a .order) route (sym (c .before .before .about .ensures) ∙ c .enum-told2 .given .1)))
-    (λ c κs. search needs)
-    -- 9 to 11, or what is seen
-    (λ c route.
-    let shape = c .before .before .before in
+    (λ c clock route.
+    let shape = c .before .before in
+    let a = shape .before .before .args in
+    sym (sight-malformed clock (now (a .t)) (a .sender) (a .order) route (sym (shape .about .ensures) ∙ c .enum-told2 .given .1)))
+    -- what the kind asks for
+    (λ c clock route.
+    let shape = c .before .before in
     let s = shape .before .before in
     let a = s .args in
-    rw (c .valued .ensures)
-    (sym (sight-formed (a .clock) (now (a .t)) (a .sender) (a .order) route HeldOrder (a .kind) (s .pre .0) refl _
-    (sym (shape .about .ensures) ∙ c .before .enum-told .given .1)))))
+    sym (sight-formed clock (now (a .t)) (a .sender) (a .order) route HeldOrder (a .kind) (s .pre .0) refl _ (sym (shape .about .ensures) ∙ c .enum-told .given .1))))

@@ -15,15 +15,13 @@ nothing-spec =
     (λ c. search needs)
     (λ c. search needs)
     -- 7
-    (λ c sender order route.
-    let a = c .before .before .before .before .args in
-    sym (sight-malformed (a .clock) (now (a .t)) sender order route (sym (c .before .before .nothing .ensures) ∙ c .enum-told2 .given .1)))
-    (λ c κs. search needs)
-    -- 9 to 11, or what is seen
-    (λ c sender order route.
-    let shape = c .before .before .before in
+    (λ c clock sender order route.
+    let shape = c .before .before in
+    let a = shape .before .before .args in
+    sym (sight-malformed clock (now (a .t)) sender order route (sym (shape .nothing .ensures) ∙ c .enum-told2 .given .1)))
+    -- what the kind asks for
+    (λ c clock sender order route.
+    let shape = c .before .before in
     let s = shape .before .before in
     let a = s .args in
-    rw (c .valued .ensures)
-    (sym (sight-formed (a .clock) (now (a .t)) sender order route Nothing (a .kind) (s .pre) refl _
-    (sym (shape .nothing .ensures) ∙ c .before .enum-told .given .1)))))
+    sym (sight-formed clock (now (a .t)) sender order route Nothing (a .kind) (s .pre) refl _ (sym (shape .nothing .ensures) ∙ c .enum-told .given .1))))

@@ -26,23 +26,22 @@ order-spec =
     (λ c. search needs)
     (λ c. search needs)
     -- 7
-    (λ c.
-    let a = c .before .before .before .before .args in
-    sym (sight-malformed (a .clock) (now (a .t)) (a .sender) (a .order) (a .route) (sym (c .before .before .order .ensures) ∙ c .enum-told2 .given .1)))
+    (λ c clock.
+    let shape = c .before .before in
+    let a = shape .before .before .args in
+    sym (sight-malformed clock (now (a .t)) (a .sender) (a .order) (a .route) (sym (shape .order .ensures) ∙ c .enum-told2 .given .1)))
     (λ c κs. search needs)
     (λ c. search needs)
     (λ c. search needs)
     -- 8
-    (λ c.
+    (λ c clock.
     let account = c .before .before in
     let a = account .before .before .before .before .before .args in
-    sym (sight-wrong (a .clock) (now (a .t)) (a .sender) (a .order) (a .route) Order (formed (account .before))
+    sym (sight-wrong clock (now (a .t)) (a .sender) (a .order) (a .route) Order (formed (account .before))
     (sym (account .account .ensures) ∙ c .enum-told4 .given .1)))
-    (λ c κs. search needs)
-    -- 9 to 11, or what is seen
-    (λ c.
-    let account = c .before .before .before in
+    -- what an order asks for
+    (λ c clock.
+    let account = c .before .before in
     let a = account .before .before .before .before .before .args in
-    rw (c .valued .ensures)
-    (sym (sight-named (a .clock) (now (a .t)) (a .sender) (a .order) (a .route) Order (formed (account .before))
-    (sym (account .account .ensures) ∙ c .before .enum-told3 .given .1)))))
+    sym (sight-named clock (now (a .t)) (a .sender) (a .order) (a .route) Order (formed (account .before))
+    (sym (account .account .ensures) ∙ c .enum-told3 .given .1))))
