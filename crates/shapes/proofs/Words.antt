@@ -6,9 +6,10 @@ use Prim.Native.Nat.{ℕ, zero, suc, _+_, _*_, _<_}
 use native.Mathlib.Omega.{arith}
 use borrow.Author.Tests.{eqb-true, ne-eqb}
 use lib.Dec.{eqb}
+use lib.ListN.{length, getD}
 use Rattle.fields.specs.Number.{part}
 use Rattle.fields.specs.Text.{blank}
-use Rattle.fields.proofs.Zeros.{blank-join}
+use Rattle.fields.proofs.Zeros.{blank-join, blank-one}
 use Rattle.index.specs.Words.{word}
 use Rattle.shapes.specs.Blank.{fourAre}
 
@@ -79,15 +80,15 @@ module _ (t : List ℕ) where
       (blank-four 76 t)
       ∙ blank-overlap 68 4 28 8 t
 
-  -- bytes 27 to 106, and 100 to 107
-  pub from-payee : (w x y : ℕ) → w ≡ word (part 8 27 t) → x ≡ word (part 8 99 t) → y ≡ word (part 8 100 t)
-      → (fourAre w 35 t && fourAre w 67 t && eqb x w && eqb y w && eqb w 0) ≡ blank (part 81 27 t)
-  from-payee w x y e ex ey =
-      as-first (λ (n : ℕ). fourAre n 35 t && fourAre n 67 t && eqb x n && eqb y n) w
-      ∙ first-of-five (fourAre 0 35 t) (fourAre 0 67 t) (eqb x 0) (eqb y 0) (eqb w 0)
+  -- bytes 27 to 106, and 107
+  pub from-payee : (w x : ℕ) → w ≡ word (part 8 27 t) → x ≡ word (part 8 99 t) → 107 < length t
+      → (fourAre w 35 t && fourAre w 67 t && eqb x w && eqb (getD t 107 0) 0 && eqb w 0) ≡ blank (part 81 27 t)
+  from-payee w x e ex h =
+      as-first (λ (n : ℕ). fourAre n 35 t && fourAre n 67 t && eqb x n && eqb (getD t 107 0) 0) w
+      ∙ first-of-five (fourAre 0 35 t) (fourAre 0 67 t) (eqb x 0) (eqb (getD t 107 0) 0) (eqb w 0)
       ∙ ap₂ _&&_ (ap₂ _&&_ (ap₂ _&&_ (ap₂ _&&_ (zero-word w 27 e) (blank-four 35 t) ∙ sym (blank-join 8 32 27 t)) (blank-four 67 t)
-      ∙ sym (blank-join 40 32 27 t)) (zero-word x 99 ex) ∙ sym (blank-join 72 8 27 t)) (zero-word y 100 ey)
-      ∙ blank-overlap 73 7 1 27 t
+      ∙ sym (blank-join 40 32 27 t)) (zero-word x 99 ex) ∙ sym (blank-join 72 8 27 t)) (sym (blank-one 107 t h))
+      ∙ sym (blank-join 80 1 27 t)
 
   -- bytes 27 to 34 and 30 to 37; 73 to 104 and 100 to 107
   pub around-txid : (w x y : ℕ) → w ≡ word (part 8 27 t) → x ≡ word (part 8 30 t) → y ≡ word (part 8 100 t)

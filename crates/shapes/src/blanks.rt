@@ -40,7 +40,7 @@ pub fn from_payee(t: &[u8]) -> bool
     four_are(t, 35, first)
         & four_are(t, 67, first)
         & (words::word_at(t, 99) == first)
-        & (words::word_at(t, 100) == first)
+        & (t[layout::LAST] == 0)
         & (first == 0)
 }
 

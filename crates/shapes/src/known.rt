@@ -1,5 +1,5 @@
 // Codes of a ticket that a search may have found. One that was found is well formed: only what was not found is tested. Sender and payee
-// each have a function, so that the compiler leaves the test itself a call, which a code that was found does not make.
+// each have a function: the compiler puts these into their callers, and one for both, grown by the test, it leaves a call.
 use fields::Found;
 use ticket::layout;
 ghost use mathlib.Core.Path.{_≡_};

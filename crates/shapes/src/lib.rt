@@ -1,5 +1,5 @@
 // Refusals 7 and 8, by what a ticket's kind names: nothing, a sender, an order that is held, a new order. A code that was found is well
-// formed, and is not tested again.
+// formed, and is not tested again. Codes are tested first, so that nothing of the other tests is held meanwhile.
 pub mod amounts;
 mod blanks;
 mod known;
@@ -41,9 +41,9 @@ pub fn cover(t: &[u8], kind: Kind, sender: Found) -> Shape
     requires { ⌜ TicketNaming Subject.Sender kind (now t) × KnownBic sender (senderOf (now t)) ⌝ }
     ensures { λ r. ⌜ r ≡ shapeOf (now (t .entry)) ⌝ }
 {
+    let sender = known::sender(sender, t);
     let spare = fields::zero_u16_at(t, layout::SPARE);
     let rest = blanks::from_payee(t);
-    let sender = known::sender(sender, t);
     shape(spare & sender & rest, kind)
 }
 
@@ -54,12 +54,12 @@ pub fn about(t: &[u8], kind: Kind, sender: Found, order: Found) -> Shape
         ⌝ }
     ensures { λ r. ⌜ r ≡ shapeOf (now (t .entry)) ⌝ }
 {
-    let spare = fields::zero_u16_at(t, layout::SPARE);
-    let rest = blanks::around_txid(t);
-    let amounts = amounts::amounts_of(kind);
-    let amount = (amounts.most != 0) | fields::zero_u64_at(t, layout::AMOUNT);
     let sender = known::sender(sender, t);
     let txid = known::txid(order, t);
+    let spare = fields::zero_u16_at(t, layout::SPARE);
+    let amounts = amounts::amounts_of(kind);
+    let amount = (amounts.most != 0) | fields::zero_u64_at(t, layout::AMOUNT);
+    let rest = blanks::around_txid(t);
     shape(spare & amount & sender & txid & rest, kind)
 }
 
@@ -71,11 +71,11 @@ pub fn order(t: &[u8], sender: Found, order: Found, route: Found) -> Shape
         ⌝ }
     ensures { λ r. ⌜ r ≡ shapeOf (now (t .entry)) ⌝ }
 {
-    let spare = fields::zero_u16_at(t, layout::SPARE);
-    let last = t[layout::LAST] == 0;
     let sender = known::sender(sender, t);
     let payee = known::payee(route, t);
     let txid = known::txid(order, t);
+    let spare = fields::zero_u16_at(t, layout::SPARE);
+    let last = t[layout::LAST] == 0;
     shape(spare & sender & payee & txid & last, Kind::Order)
 }
 

@@ -22,13 +22,13 @@ about-spec =
     (λ c κs. search needs)
     (λ c κs. search needs)
     (λ c.
-    let txid = c .before in
-    let sender = txid .before in
-    let amount = sender .before in
+    let rest = c .before in
+    let amount = rest .before in
     let amounts = amount .before .before in
-    let rest = amounts .before in
-    let spare = rest .before in
-    let a = spare .before .before in
+    let spare = amounts .before in
+    let txid = spare .before in
+    let sender = txid .before in
+    let a = sender .before .before in
     let t = now (a .args .t) in
     simp (
       c .shape .ensures,

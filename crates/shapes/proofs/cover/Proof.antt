@@ -16,10 +16,10 @@ cover-spec =
     (λ c κs. search needs)
     (λ c κs. search needs)
     (λ c.
-    let sender = c .before in
-    let rest = sender .before in
+    let rest = c .before in
     let spare = rest .before in
-    let a = spare .before .before in
+    let sender = spare .before in
+    let a = sender .before .before in
     let t = now (a .args .t) in
     simp (c .shape .ensures, spare .zero-u16-at .ensures, sender .sender .ensures, rest .from-payee .ensures)
     (sym (shape-is Sender (a .args .kind) t (a .pre .0) _ (cover-formed (a .args .kind) t (a .pre .0 .names))))))

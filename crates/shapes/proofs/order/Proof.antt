@@ -14,17 +14,17 @@ order-spec =
     tie.close
     (tie.spec
     (λ c κs. search needs)
+    (λ c κs. search needs)
+    (λ c κs. search needs)
+    (λ c κs. search needs)
     (λ c. search needs)
     (λ c κs. search needs)
-    (λ c κs. search needs)
-    (λ c κs. search needs)
-    (λ c κs. search needs)
     (λ c.
-    let txid = c .before in
+    let spare = c .before .before in
+    let txid = spare .before in
     let payee = txid .before in
     let sender = payee .before in
-    let spare = sender .before .before in
-    let a = spare .before .before in
+    let a = sender .before .before in
     let t = now (a .args .t) in
     let last = blank-one 107 t (search needs) in
     simp (c .shape .ensures, spare .zero-u16-at .ensures, sender .sender .ensures, payee .payee .ensures, txid .txid .ensures, sym last)

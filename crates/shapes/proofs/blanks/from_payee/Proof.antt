@@ -13,11 +13,10 @@ from-payee-spec =
     (λ c κs. search needs)
     (λ c κs. search needs)
     (λ c κs. search needs)
-    (λ c κs. search needs)
+    (λ c. search needs)
     (λ c.
     let tail = c .before in
     let first = tail .before .before .before in
     let t = now (first .before .before .args .t) in
-    simp (tail .before .before .four-are .ensures, tail .before .four-are2 .ensures)
-    (words.from-payee t (first .word-at .result) (tail .word-at2 .result) (c .word-at3 .result) (first .word-at .ensures) (tail .word-at2 .ensures)
-    (c .word-at3 .ensures))))
+    let law = words.from-payee t (first .word-at .result) (tail .word-at2 .result) (first .word-at .ensures) (tail .word-at2 .ensures) (search needs) in
+    simp (tail .before .before .four-are .ensures, tail .before .four-are2 .ensures) law))
