@@ -7,6 +7,7 @@ import unittest
 
 from tests import scenes
 
+
 def edits():
     return sorted(glob.glob(os.path.join(scenes.ROOT, "crates", "*", "must-fail", "*.edit")))
 

@@ -27,31 +27,31 @@ pub record At-loop : Type 0 where
 HEAD = "-- places by Inv-loop μ-loop\n-- place start: Start\n-- place loop: At-loop\n"
 
 
-def made(text, head=HEAD):
-    return named_places.listing(named_places.Walk(WALK), "core", "taking/take", head, text)
+def names(text, head=HEAD):
+    return named_places.Names(named_places.Walk(WALK), "core", "taking/take", head, text)
 
 
 class NamedPlaces(unittest.TestCase):
     def test_a_place_takes_what_the_walk_takes(self):
-        text, places, ways, wrong = made("f : at.After-a → ℕ")
-        self.assertIn("abbrev pub After-a : Type 0\nAfter-a = tie.After-a Inv-loop μ-loop\n", text)
-        self.assertIn("use Rattle.core.proofs.taking.take.Proof.Invariants.{Inv-loop, μ-loop}\n", text)
-        self.assertEqual((places, ways, wrong), (1, 0, []))
+        found = names("f : at.After-a → ℕ")
+        self.assertIn("\n\nabbrev pub After-a : Type 0\nAfter-a = tie.After-a Inv-loop μ-loop\n", found.places_file())
+        self.assertIn("use Rattle.core.proofs.taking.take.Proof.Invariants.{Inv-loop, μ-loop}\n", found.places_file())
+        self.assertEqual((found.types, found.ways, found.wrong), ({"After-a"}, [], []))
 
     def test_a_place_outside_loops_takes_nothing(self):
-        text, _, _, _ = made("f : at.After-a → ℕ", "")
+        text = names("f : at.After-a → ℕ", "").places_file()
         self.assertIn("After-a = tie.After-a\n", text)
         self.assertNotIn("Invariants", text)
 
     def test_a_way_names_both_its_ends(self):
-        text, places, ways, wrong = made("x = at.start-from-At-loop c")
-        self.assertIn("abbrev pub start-from-At-loop : At-loop → Start\nstart-from-At-loop c = c .before .before\n", text)
-        self.assertEqual((places, ways, wrong), (2, 1, []))
+        found = names("x = to.start-from-At-loop c")
+        self.assertIn("\n\nabbrev pub start-from-At-loop : at.At-loop → at.Start\nstart-from-At-loop c = c .before .before\n", found.ways_file())
+        self.assertEqual((found.types, found.wrong), ({"At-loop", "Start"}, []))
 
     def test_what_is_not_known_is_told(self):
         # a place that is gone, a short name that nobody gave, a way forward
-        _, _, _, wrong = made("at.After-b at.end-from-After-a at.loop-from-After-a")
-        self.assertEqual(wrong, ["After-b", "end-from-After-a", "loop-from-After-a"])
+        found = names("at.After-b to.end-from-After-a to.loop-from-After-a")
+        self.assertEqual(found.wrong, ["After-b", "end-from-After-a", "loop-from-After-a"])
 
 
 if __name__ == "__main__":

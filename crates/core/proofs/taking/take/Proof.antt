@@ -53,10 +53,10 @@ use Rattle.core.proofs.taking.take.Proof.Expiring.{outer, taken, below,
 use Rattle.core.proofs.taking.take.Proof.Judging.{sender-number, order-number, payee-number, all-few, suits}
 use Rattle.core.proofs.taking.take.Proof.Carrying.{first-sum, second-has, second-sum, notices-fit}
 use Rattle.core.proofs.taking.take.Proof.Ending.{space, few-participants, cut-fits, uncut-whole, done}
-use Rattle.core.proofs.taking.take.Proof.Places as at
-
+use Rattle.core.proofs.taking.take.Proof.Ways as to
 pub mod Invariants
 pub mod Places
+pub mod Ways
 pub mod Starting
 pub mod Loop
 pub mod Seen
@@ -73,10 +73,10 @@ take-spec =
     μ-loop2
     Inv-loop
     μ-loop
-    (λ c κs. let s = at.start-from-After-orders c .pre .0 .orders in (s .count, s .padded))
+    (λ c κs. let s = to.start-from-After-orders c .pre .0 .orders in (s .count, s .padded))
     (λ c. let h = c .before .txids-of .ensures .0 in search needs)
-    (λ c κs. let few = at.start-from-After-txids c .pre .0 .orders .count in let h = c .before .txids-of .ensures .0 in (omega arith, omega arith))
-    (λ c κs. let s = at.start-from-After-covers c in (s .pre .0 .roster .size, rw (total-sum (s .args .t1)) (s .pre .0 .limited)))
+    (λ c κs. let few = to.start-from-After-txids c .pre .0 .orders .count in let h = c .before .txids-of .ensures .0 in (omega arith, omega arith))
+    (λ c κs. let s = to.start-from-After-covers c in (s .pre .0 .roster .size, rw (total-sum (s .args .t1)) (s .pre .0 .limited)))
     (λ c. begun c)
     (λ c. let g = start c .good in search needs)
     (λ c. let g = start c .good in let h = c .loop .inv .going .ticketsLeft in search needs)
@@ -90,52 +90,52 @@ take-spec =
     (λ c. let h = room c .ticket in let g = start (head c) .good in search needs)
     (λ c. let h = room c .ticket in let g = start (head c) .good in search needs)
     (λ c. let h = room c .ticket in let g = start (head c) .good in search needs)
-    (λ c. let h = at.head-from-After-heads2 c .loop .inv .index .headed in search needs)
-    (λ c. let h = at.head-from-After-links2 c .loop .inv .index .linked in search needs)
-    (λ c. let h = at.head-from-After-txids2 c .loop .inv .index .long in search needs)
+    (λ c. let h = to.head-from-After-heads2 c .loop .inv .index .headed in search needs)
+    (λ c. let h = to.head-from-After-links2 c .loop .inv .index .linked in search needs)
+    (λ c. let h = to.head-from-After-txids2 c .loop .inv .index .long in search needs)
     (λ c κs.
-    let h = at.head-from-After-txids2 c in
+    let h = to.head-from-After-txids2 c in
     let d = start h .pre .1 in
-    (whole-ticket (at.room-from-After-txids2 c), d .senders, txids-lent (sound h) (h .loop .inv .index), d .payees))
+    (whole-ticket (to.room-from-After-txids2 c), d .senders, txids-lent (sound h) (h .loop .inv .index), d .payees))
     (λ c. search needs)
     (λ c. search needs)
     (λ c κs. search needs)
-    (λ c κs. let h = room (at.room-from-After-refusal-of c) .answer in let e = long-answers (at.head-from-After-refusal-of c) in omega arith)
-    (λ c. let h = next-fits (at.room-from-After-slice-known3 c) in omega arith)
-    (λ c. let h = room (at.room-from-After-slice-known3 c) .ticket in omega arith)
+    (λ c κs. let h = room (to.room-from-After-refusal-of c) .answer in let e = long-answers (to.head-from-After-refusal-of c) in omega arith)
+    (λ c. let h = next-fits (to.room-from-After-slice-known3 c) in omega arith)
+    (λ c. let h = room (to.room-from-After-slice-known3 c) .ticket in omega arith)
     (λ c.
-    let h = at.head-from-After-slice-known3 c in
-    kept-on (h .loop .inv) (more (at.room-from-After-slice-known3 c)) (ticket-is h) (refused-done (at.refused-from-After-slice-known3 c))
-    (refused-is (at.number-from-After-slice-known3 c)) (at.answered-from-After-slice-known3 c .put-answer .ensures))
+    let h = to.head-from-After-slice-known3 c in
+    kept-on (h .loop .inv) (more (to.room-from-After-slice-known3 c)) (ticket-is h) (refused-done (to.refused-from-After-slice-known3 c))
+    (refused-is (to.number-from-After-slice-known3 c)) (to.answered-from-After-slice-known3 c .put-answer .ensures))
     (λ c.
     let h = outer c in
     (loop-begun (taken c) (h .loop .inv .passed), omega arith, h .loop .inv .few))
     (λ c. let h = number-below c in search needs)
     (λ c. number-below c)
     (λ c κs. early (c .before))
-    (λ c. let h = payee-below (at.sweeping-from-Else2 c) in search needs)
-    (λ c. payee-below (at.sweeping-from-Else2 c))
+    (λ c. let h = payee-below (to.sweeping-from-Else2 c) in search needs)
+    (λ c. payee-below (to.sweeping-from-Else2 c))
     (λ c κs. search needs)
     (λ c κs.
-    let i = at.sweeping-from-After-is-bank c in
+    let i = to.sweeping-from-After-is-bank c in
     let h = payer-below i in
     let k = payee-below i in
     let m = number-below i in
     (early i, omega arith, omega arith, omega arith))
-    (λ c. let h = number-below (at.sweeping-from-After-order c) in search needs)
-    (λ c. number-below (at.sweeping-from-After-order c))
-    (λ c. let h = freeable (at.lapse-from-After-freed c) .who in search needs)
-    (λ c. freeable (at.lapse-from-After-freed c) .who)
-    (λ c κs. freeable (at.lapse-from-After-moved-arg c) .fits)
-    (λ c. let h = freeable (at.lapse-from-After-moved c) .who in search needs)
-    (λ c. freeable (at.lapse-from-After-moved c) .who)
-    (λ c κs. told-fits (at.lapse-from-After-put-told-arg c))
-    (λ c. let h = number-below (at.sweeping-from-After-slice-known4 c) in search needs)
-    (λ c. let h = below (at.sweeping-from-After-slice-known4 c) in search needs)
+    (λ c. let h = number-below (to.sweeping-from-After-order c) in search needs)
+    (λ c. number-below (to.sweeping-from-After-order c))
+    (λ c. let h = freeable (to.lapse-from-After-freed c) .who in search needs)
+    (λ c. freeable (to.lapse-from-After-freed c) .who)
+    (λ c κs. freeable (to.lapse-from-After-moved-arg c) .fits)
+    (λ c. let h = freeable (to.lapse-from-After-moved c) .who in search needs)
+    (λ c. freeable (to.lapse-from-After-moved c) .who)
+    (λ c κs. told-fits (to.lapse-from-After-put-told-arg c))
+    (λ c. let h = number-below (to.sweeping-from-After-slice-known4 c) in search needs)
+    (λ c. let h = below (to.sweeping-from-After-slice-known4 c) in search needs)
     (λ c. one-expired c)
     (λ c κs. search needs)
     (λ c κs. search needs)
-    (λ c κs. at.start-from-After-covers2 c .pre .0 .roster .size)
+    (λ c κs. to.start-from-After-covers2 c .pre .0 .roster .size)
     (λ c κs. search needs)
     (λ c κs. search needs)
     (λ c. let h = sender-number c in search needs)
@@ -146,60 +146,60 @@ take-spec =
     (λ c. payee-number (c .before .before))
     (λ c κs. search needs)
     (λ c κs. all-few c)
-    (λ c. let h = suits (at.judged-from-After-first c) .first in search needs)
-    (λ c. suits (at.judged-from-After-first c) .first)
-    (λ c κs. suits (at.judged-from-After-old c) .firstRoom)
+    (λ c. let h = suits (to.judged-from-After-first c) .first in search needs)
+    (λ c. suits (to.judged-from-After-first c) .first)
+    (λ c κs. suits (to.judged-from-After-old c) .firstRoom)
     (λ c κs. first-sum c)
-    (λ c. let h = suits (at.judged-from-After-total-with c) .first in search needs)
-    (λ c. suits (at.judged-from-After-total-with c) .first)
-    (λ c. let h = suits (at.judged-from-After-second c) .second in search needs)
-    (λ c. suits (at.judged-from-After-second c) .second)
+    (λ c. let h = suits (to.judged-from-After-total-with c) .first in search needs)
+    (λ c. suits (to.judged-from-After-total-with c) .first)
+    (λ c. let h = suits (to.judged-from-After-second c) .second in search needs)
+    (λ c. suits (to.judged-from-After-second c) .second)
     (λ c κs. second-has c)
     (λ c κs. second-sum c)
-    (λ c. let h = suits (at.judged-from-After-total-with2 c) .second in search needs)
-    (λ c. suits (at.judged-from-After-total-with2 c) .second)
-    (λ c κs. let f = suits (at.judged-from-After-put-notices-arg c) in (f .told, f .also, f .number, notices-fit c))
+    (λ c. let h = suits (to.judged-from-After-total-with2 c) .second in search needs)
+    (λ c. suits (to.judged-from-After-total-with2 c) .second)
+    (λ c κs. let f = suits (to.judged-from-After-put-notices-arg c) in (f .told, f .also, f .number, notices-fit c))
     (λ c. search needs)
     (λ c. search needs)
     (λ c. search needs)
     (λ c. search needs)
-    (λ c. let h = whole-ticket (at.room-from-After-enum-told3 c) in search needs)
+    (λ c. let h = whole-ticket (to.room-from-After-enum-told3 c) in search needs)
     (λ c. search needs)
-    (λ c κs. txid-long (at.room-from-After-txid c))
+    (λ c κs. txid-long (to.room-from-After-txid c))
     (λ c κs. search needs)
-    (λ c. let h = space (at.opens-from-After-reached c) in search needs)
-    (λ c. space (at.opens-from-After-reached c))
-    (λ c. let h = at.head-from-After-heads3 c .loop .inv .index .headed in search needs)
-    (λ c. let h = at.head-from-After-links3 c .loop .inv .index .linked in search needs)
-    (λ c. let h = at.head-from-After-txids3 c .loop .inv .index .long in search needs)
+    (λ c. let h = space (to.opens-from-After-reached c) in search needs)
+    (λ c. space (to.opens-from-After-reached c))
+    (λ c. let h = to.head-from-After-heads3 c .loop .inv .index .headed in search needs)
+    (λ c. let h = to.head-from-After-links3 c .loop .inv .index .linked in search needs)
+    (λ c. let h = to.head-from-After-txids3 c .loop .inv .index .long in search needs)
     (λ c. search needs)
     (λ c. search needs)
-    (λ c. let h = whole-ticket (at.room-from-After-txids3 c) in search needs)
+    (λ c. let h = whole-ticket (to.room-from-After-txids3 c) in search needs)
     (λ c κs.
-    let x = at.head-from-After-put-txid-arg c .loop .inv .index in
-    let few = space (at.opens-from-After-put-txid-arg c) in
+    let x = to.head-from-After-put-txid-arg c .loop .inv .index in
+    let few = space (to.opens-from-After-put-txid-arg c) in
     let linked = x .linked in
     let long = x .long in
-    (x .headed, omega arith, omega arith, omega arith, txid-long (at.room-from-After-put-txid-arg c)))
-    (λ c. let h = space (at.opens-from-After-txids4 c) in search needs)
+    (x .headed, omega arith, omega arith, omega arith, txid-long (to.room-from-After-put-txid-arg c)))
+    (λ c. let h = space (to.opens-from-After-txids4 c) in search needs)
     (λ c κs. search needs)
     (λ c. search needs)
     (λ c κs. search needs)
-    (λ c. let h = order-number (at.numbers-from-After-with-status c) in search needs)
-    (λ c. order-number (at.numbers-from-After-with-status c))
+    (λ c. let h = order-number (to.numbers-from-After-with-status c) in search needs)
+    (λ c. order-number (to.numbers-from-After-with-status c))
     (λ c. search needs)
     (λ c κs. (few-participants c, cut-fits c))
-    (λ c κs. let p = at.cutting-from-After-slice-known6 c in (few-participants p, uncut-whole p))
-    (λ c. let h = done (at.done-from-After-row-known c) .told in omega arith)
-    (λ c. let d = done (at.done-from-After-row-known c) in let h = d .told in let few = d .fewTold in omega arith)
-    (λ c. let h = done (at.done-from-After-row-known2 c) .fewRows in omega arith)
-    (λ c κs. let h = room (at.room-from-After-row-known2 c) .answer in let e = long-answers (at.head-from-After-row-known2 c) in omega arith)
-    (λ c. let h = next-fits (at.room-from-After-slice-known7 c) in omega arith)
-    (λ c. let h = room (at.room-from-After-slice-known7 c) .ticket in omega arith)
+    (λ c κs. let p = to.cutting-from-After-slice-known6 c in (few-participants p, uncut-whole p))
+    (λ c. let h = done (to.done-from-After-row-known c) .told in omega arith)
+    (λ c. let d = done (to.done-from-After-row-known c) in let h = d .told in let few = d .fewTold in omega arith)
+    (λ c. let h = done (to.done-from-After-row-known2 c) .fewRows in omega arith)
+    (λ c κs. let h = room (to.room-from-After-row-known2 c) .answer in let e = long-answers (to.head-from-After-row-known2 c) in omega arith)
+    (λ c. let h = next-fits (to.room-from-After-slice-known7 c) in omega arith)
+    (λ c. let h = room (to.room-from-After-slice-known7 c) .ticket in omega arith)
     (λ c.
-    let h = at.head-from-After-slice-known7 c in
-    let d = done (at.done-from-After-slice-known7 c) in
-    kept-on (h .loop .inv) (more (at.room-from-After-slice-known7 c)) (ticket-is h) d (answer-is d) (at.told-all-from-After-slice-known7 c .put-answer2 .ensures))
+    let h = to.head-from-After-slice-known7 c in
+    let d = done (to.done-from-After-slice-known7 c) in
+    kept-on (h .loop .inv) (more (to.room-from-After-slice-known7 c)) (ticket-is h) d (answer-is d) (to.told-all-from-After-slice-known7 c .put-answer2 .ensures))
     (λ c. long-answers (last c))
     (λ c. long-reports (last c))
     (λ c. let l = last c in ended (start l .args .t1) (tickets l) (answers₀ l) (reports₀ l) (l .loop .inv .going) (none-more c)))

@@ -1,0 +1,305 @@
+-- The way from each place of the code of `take` to an earlier one. Written by `tools/named-places`. Assumes nothing.
+use Rattle.core.proofs.taking.take.Proof.Places as at
+
+abbrev pub answered-from-After-slice-known3 : at.After-slice-known3 → at.After-put-answer
+answered-from-After-slice-known3 c = c .before .before
+
+abbrev pub carried-from-After-enum-told3 : at.After-enum-told3 → at.After-slice-known5
+carried-from-After-enum-told3 c = c .before .before
+
+abbrev pub carried-from-After-put-cut-arg : at.After-put-cut-arg → at.After-slice-known5
+carried-from-After-put-cut-arg c = c .before .before .before .before
+
+abbrev pub carried-from-At-match2-came : at.At-match2-came → at.After-slice-known5
+carried-from-At-match2-came c = c .before
+
+abbrev pub chains-from-After-total-of : at.After-total-of → at.After-txid-chains
+chains-from-After-total-of c = c .before .before .before .before
+
+abbrev pub cuts-from-After-put-cut-arg : at.After-put-cut-arg → at.After-enum-told4
+cuts-from-After-put-cut-arg c = c .before .before
+
+abbrev pub cutting-from-After-slice-known6 : at.After-slice-known6 → at.After-put-cut-arg
+cutting-from-After-slice-known6 c = c .before .before .before
+
+abbrev pub done-from-After-row-known : at.After-row-known → at.At-match2-came
+done-from-After-row-known c = c .before .before
+
+abbrev pub done-from-After-row-known2 : at.After-row-known2 → at.At-match2-came
+done-from-After-row-known2 c = c .before .before .before
+
+abbrev pub done-from-After-slice-known7 : at.After-slice-known7 → at.At-match2-came
+done-from-After-slice-known7 c = c .before .before .before .before .before .before
+
+abbrev pub first-from-After-moved3 : at.After-moved3 → at.After-moved2
+first-from-After-moved3 c = c .before .before .before .before
+
+abbrev pub first-from-After-old2 : at.After-old2 → at.After-moved2
+first-from-After-old2 c = c .before .before .before
+
+abbrev pub first-from-After-slice-known5 : at.After-slice-known5 → at.After-moved2
+first-from-After-slice-known5 c = c .before .before .before .before .before .before .before .before .before .before .before
+
+abbrev pub freed-from-After-slice-known4 : at.After-slice-known4 → at.After-moved
+freed-from-After-slice-known4 c = c .before .before .before .before
+
+abbrev pub head-from-After-heads2 : at.After-heads2 → at.At-loop
+head-from-After-heads2 c = c .before .before .before .before
+
+abbrev pub head-from-After-heads3 : at.After-heads3 → at.At-loop
+head-from-After-heads3 c = c .before .before .before .before .before .before .before .before .before .before .before .before .before .before .before .before .before .before .before .before .before .before .before .before .before .before .before .before .before .before .before .before .before .before .before .before .before .before .before .before .before .before .before .before
+
+abbrev pub head-from-After-links2 : at.After-links2 → at.At-loop
+head-from-After-links2 c = c .before .before .before .before .before
+
+abbrev pub head-from-After-links3 : at.After-links3 → at.At-loop
+head-from-After-links3 c = c .before .before .before .before .before .before .before .before .before .before .before .before .before .before .before .before .before .before .before .before .before .before .before .before .before .before .before .before .before .before .before .before .before .before .before .before .before .before .before .before .before .before .before .before .before
+
+abbrev pub head-from-After-put-txid-arg : at.After-put-txid-arg → at.At-loop
+head-from-After-put-txid-arg c = c .before .before .before .before .before .before .before .before .before .before .before .before .before .before .before .before .before .before .before .before .before .before .before .before .before .before .before .before .before .before .before .before .before .before .before .before .before .before .before .before .before .before .before .before .before .before .before
+
+abbrev pub head-from-After-refusal-of : at.After-refusal-of → at.At-loop
+head-from-After-refusal-of c = c .before .before .before .before .before .before .before .before .before .before .before
+
+abbrev pub head-from-After-row-known2 : at.After-row-known2 → at.At-loop
+head-from-After-row-known2 c = c .before .before .before .before .before .before .before .before .before .before .before .before .before .before .before .before .before .before .before .before .before .before .before .before .before .before .before .before .before .before .before .before .before .before .before .before .before .before .before .before
+
+abbrev pub head-from-After-see : at.After-see → at.At-loop
+head-from-After-see c = c .before .before .before .before .before .before .before
+
+abbrev pub head-from-After-slice-known3 : at.After-slice-known3 → at.At-loop
+head-from-After-slice-known3 c = c .before .before .before .before .before .before .before .before .before .before .before .before .before .before
+
+abbrev pub head-from-After-slice-known7 : at.After-slice-known7 → at.At-loop
+head-from-After-slice-known7 c = c .before .before .before .before .before .before .before .before .before .before .before .before .before .before .before .before .before .before .before .before .before .before .before .before .before .before .before .before .before .before .before .before .before .before .before .before .before .before .before .before .before .before .before
+
+abbrev pub head-from-After-txids2 : at.After-txids2 → at.At-loop
+head-from-After-txids2 c = c .before .before .before .before .before .before
+
+abbrev pub head-from-After-txids3 : at.After-txids3 → at.At-loop
+head-from-After-txids3 c = c .before .before .before .before .before .before .before .before .before .before .before .before .before .before .before .before .before .before .before .before .before .before .before .before .before .before .before .before .before .before .before .before .before .before .before .before .before .before .before .before .before .before .before .before .before .before
+
+abbrev pub head-from-Else1 : at.Else1 → at.At-loop
+head-from-Else1 c = c .before .before
+
+abbrev pub head-from-Then1 : at.Then1 → at.At-loop
+head-from-Then1 c = c .before .before
+
+abbrev pub joined-from-After-is-bank2 : at.After-is-bank2 → at.Joined3
+joined-from-After-is-bank2 c = c .before .before .before .before .before .before
+
+abbrev pub judged-from-After-first : at.After-first → at.After-judge
+judged-from-After-first c = c .before
+
+abbrev pub judged-from-After-moved2 : at.After-moved2 → at.After-judge
+judged-from-After-moved2 c = c .before .before .before
+
+abbrev pub judged-from-After-moved3 : at.After-moved3 → at.After-judge
+judged-from-After-moved3 c = c .before .before .before .before .before .before .before
+
+abbrev pub judged-from-After-old : at.After-old → at.After-judge
+judged-from-After-old c = c .before .before
+
+abbrev pub judged-from-After-old2 : at.After-old2 → at.After-judge
+judged-from-After-old2 c = c .before .before .before .before .before .before
+
+abbrev pub judged-from-After-put-notices-arg : at.After-put-notices-arg → at.After-judge
+judged-from-After-put-notices-arg c = c .before .before .before .before .before .before .before .before .before .before .before
+
+abbrev pub judged-from-After-second : at.After-second → at.After-judge
+judged-from-After-second c = c .before .before .before .before .before
+
+abbrev pub judged-from-After-slice-known5 : at.After-slice-known5 → at.After-judge
+judged-from-After-slice-known5 c = c .before .before .before .before .before .before .before .before .before .before .before .before .before .before
+
+abbrev pub judged-from-After-total-with : at.After-total-with → at.After-judge
+judged-from-After-total-with c = c .before .before .before .before
+
+abbrev pub judged-from-After-total-with2 : at.After-total-with2 → at.After-judge
+judged-from-After-total-with2 c = c .before .before .before .before .before .before .before .before
+
+abbrev pub known-from-At-loop : at.At-loop → at.After-shared-slice-known
+known-from-At-loop c = c .before .before .before .before .before .before .before .before .before .before .before .before .before .before .before .before .before .before
+
+abbrev pub lapse-from-After-freed : at.After-freed → at.After-expire
+lapse-from-After-freed c = c .before .before
+
+abbrev pub lapse-from-After-moved : at.After-moved → at.After-expire
+lapse-from-After-moved c = c .before .before .before .before
+
+abbrev pub lapse-from-After-moved-arg : at.After-moved-arg → at.After-expire
+lapse-from-After-moved-arg c = c .before .before .before
+
+abbrev pub lapse-from-After-put-told-arg : at.After-put-told-arg → at.After-expire
+lapse-from-After-put-told-arg c = c .before .before .before .before .before
+
+abbrev pub lapse-from-After-slice-known4 : at.After-slice-known4 → at.After-expire
+lapse-from-After-slice-known4 c = c .before .before .before .before .before .before .before .before
+
+abbrev pub number-from-After-slice-known3 : at.After-slice-known3 → at.After-refusal-of
+number-from-After-slice-known3 c = c .before .before .before
+
+abbrev pub numbers-from-After-is-bank2 : at.After-is-bank2 → at.After-number-of2
+numbers-from-After-is-bank2 c = c .before .before .before .before
+
+abbrev pub numbers-from-After-with-status : at.After-with-status → at.After-number-of2
+numbers-from-After-with-status c = c .before .before .before .before .before .before .before .before .before .before .before .before .before .before .before .before .before .before .before .before .before .before .before
+
+abbrev pub numbers-from-At-match2-came : at.At-match2-came → at.After-number-of2
+numbers-from-At-match2-came c = c .before .before .before .before .before .before .before .before .before .before .before .before .before .before .before .before .before .before .before .before
+
+abbrev pub old-from-After-slice-known4 : at.After-slice-known4 → at.Else2
+old-from-After-slice-known4 c = c .before .before .before .before .before .before .before .before .before .before .before
+
+abbrev pub opens-from-After-put-txid-arg : at.After-put-txid-arg → at.After-enum-told3
+opens-from-After-put-txid-arg c = c .before .before .before .before .before .before .before .before .before
+
+abbrev pub opens-from-After-reached : at.After-reached → at.After-enum-told3
+opens-from-After-reached c = c .before .before .before .before .before
+
+abbrev pub opens-from-After-txids4 : at.After-txids4 → at.After-enum-told3
+opens-from-After-txids4 c = c .before .before .before .before .before .before .before .before .before .before .before .before .before
+
+abbrev pub passed-from-In-loop2 : at.In-loop2 → at.After-known-told
+passed-from-In-loop2 c = c .before .before
+
+abbrev pub passed-from-Left-loop2 : at.Left-loop2 → at.After-known-told
+passed-from-Left-loop2 c = c .before .before
+
+abbrev pub refused-from-After-refusal-of : at.After-refusal-of → at.After-enum-told
+refused-from-After-refusal-of c = c .before .before
+
+abbrev pub refused-from-After-slice-known3 : at.After-slice-known3 → at.After-enum-told
+refused-from-After-slice-known3 c = c .before .before .before .before .before
+
+abbrev pub reported-from-After-slice-known4 : at.After-slice-known4 → at.After-put-told
+reported-from-After-slice-known4 c = c .before .before
+
+abbrev pub room-from-After-enum-told3 : at.After-enum-told3 → at.Then1
+room-from-After-enum-told3 c = c .before .before .before .before .before .before .before .before .before .before .before .before .before .before .before .before .before .before .before .before .before .before .before .before .before .before .before .before .before .before .before .before .before .before .before .before
+
+abbrev pub room-from-After-expire : at.After-expire → at.Then1
+room-from-After-expire c = c .before .before .before .before .before .before .before .before .before .before .before .before .before .before .before .before
+
+abbrev pub room-from-After-put-cut-arg : at.After-put-cut-arg → at.Then1
+room-from-After-put-cut-arg c = c .before .before .before .before .before .before .before .before .before .before .before .before .before .before .before .before .before .before .before .before .before .before .before .before .before .before .before .before .before .before .before .before .before .before .before .before .before .before
+
+abbrev pub room-from-After-put-notices-arg : at.After-put-notices-arg → at.Then1
+room-from-After-put-notices-arg c = c .before .before .before .before .before .before .before .before .before .before .before .before .before .before .before .before .before .before .before .before .before .before .before .before .before .before .before .before .before .before .before
+
+abbrev pub room-from-After-put-txid-arg : at.After-put-txid-arg → at.Then1
+room-from-After-put-txid-arg c = c .before .before .before .before .before .before .before .before .before .before .before .before .before .before .before .before .before .before .before .before .before .before .before .before .before .before .before .before .before .before .before .before .before .before .before .before .before .before .before .before .before .before .before .before .before
+
+abbrev pub room-from-After-refusal-of : at.After-refusal-of → at.Then1
+room-from-After-refusal-of c = c .before .before .before .before .before .before .before .before .before
+
+abbrev pub room-from-After-row-known2 : at.After-row-known2 → at.Then1
+room-from-After-row-known2 c = c .before .before .before .before .before .before .before .before .before .before .before .before .before .before .before .before .before .before .before .before .before .before .before .before .before .before .before .before .before .before .before .before .before .before .before .before .before .before
+
+abbrev pub room-from-After-see : at.After-see → at.Then1
+room-from-After-see c = c .before .before .before .before .before
+
+abbrev pub room-from-After-slice-known3 : at.After-slice-known3 → at.Then1
+room-from-After-slice-known3 c = c .before .before .before .before .before .before .before .before .before .before .before .before
+
+abbrev pub room-from-After-slice-known7 : at.After-slice-known7 → at.Then1
+room-from-After-slice-known7 c = c .before .before .before .before .before .before .before .before .before .before .before .before .before .before .before .before .before .before .before .before .before .before .before .before .before .before .before .before .before .before .before .before .before .before .before .before .before .before .before .before .before
+
+abbrev pub room-from-After-txid : at.After-txid → at.Then1
+room-from-After-txid c = c .before .before .before .before .before .before .before .before .before .before .before .before .before .before .before .before .before .before .before .before .before .before .before .before .before .before .before .before .before .before .before .before .before .before .before .before .before .before
+
+abbrev pub room-from-After-txids2 : at.After-txids2 → at.Then1
+room-from-After-txids2 c = c .before .before .before .before
+
+abbrev pub room-from-After-txids3 : at.After-txids3 → at.Then1
+room-from-After-txids3 c = c .before .before .before .before .before .before .before .before .before .before .before .before .before .before .before .before .before .before .before .before .before .before .before .before .before .before .before .before .before .before .before .before .before .before .before .before .before .before .before .before .before .before .before .before
+
+abbrev pub rows-from-After-total-of : at.After-total-of → at.After-txids-of
+rows-from-After-total-of c = c .before .before .before .before .before .before
+
+abbrev pub second-from-After-slice-known5 : at.After-slice-known5 → at.After-moved3
+second-from-After-slice-known5 c = c .before .before .before .before .before .before .before
+
+abbrev pub seen-from-After-enum-told : at.After-enum-told → at.After-see
+seen-from-After-enum-told c = c .before .before
+
+abbrev pub seen-from-After-known-told : at.After-known-told → at.After-see
+seen-from-After-known-told c = c .before .before .before
+
+abbrev pub start-from-After-covers : at.After-covers → at.Start
+start-from-After-covers c = c .before .before .before .before .before .before .before .before .before .before .before .before .before .before .before .before .before
+
+abbrev pub start-from-After-covers2 : at.After-covers2 → at.Start
+start-from-After-covers2 c = c .before .before .before .before .before .before .before .before .before .before .before .before .before .before .before .before .before .before .before .before .before .before .before .before .before .before .before .before .before .before .before .before .before .before .before
+
+abbrev pub start-from-After-orders : at.After-orders → at.Start
+start-from-After-orders c = c .before .before .before .before .before .before .before .before .before .before .before
+
+abbrev pub start-from-After-total-of : at.After-total-of → at.Start
+start-from-After-total-of c = c .before .before .before .before .before .before .before .before .before .before .before .before .before .before .before .before .before .before
+
+abbrev pub start-from-After-txids : at.After-txids → at.Start
+start-from-After-txids c = c .before .before .before .before .before .before .before .before .before .before .before .before .before
+
+abbrev pub start-from-At-loop : at.At-loop → at.Start
+start-from-At-loop c = c .before .before .before .before .before .before .before .before .before .before .before .before .before .before .before .before .before .before .before
+
+abbrev pub sum-from-After-moved3 : at.After-moved3 → at.After-total-with
+sum-from-After-moved3 c = c .before .before .before
+
+abbrev pub sum-from-After-slice-known5 : at.After-slice-known5 → at.After-total-with
+sum-from-After-slice-known5 c = c .before .before .before .before .before .before .before .before .before .before
+
+abbrev pub sweeping-from-After-expire : at.After-expire → at.In-loop2
+sweeping-from-After-expire c = c .before .before .before .before .before .before
+
+abbrev pub sweeping-from-After-is-bank : at.After-is-bank → at.In-loop2
+sweeping-from-After-is-bank c = c .before .before .before .before .before
+
+abbrev pub sweeping-from-After-order : at.After-order → at.In-loop2
+sweeping-from-After-order c = c .before .before .before .before .before .before .before
+
+abbrev pub sweeping-from-After-slice-known4 : at.After-slice-known4 → at.In-loop2
+sweeping-from-After-slice-known4 c = c .before .before .before .before .before .before .before .before .before .before .before .before .before .before
+
+abbrev pub sweeping-from-Else2 : at.Else2 → at.In-loop2
+sweeping-from-Else2 c = c .before .before .before
+
+abbrev pub swept-from-After-end-of : at.After-end-of → at.Left-loop2
+swept-from-After-end-of c = c .before
+
+abbrev pub swept-from-After-is-bank2 : at.After-is-bank2 → at.Left-loop2
+swept-from-After-is-bank2 c = c .before .before .before .before .before .before .before .before .before
+
+abbrev pub swept-from-After-judge : at.After-judge → at.Left-loop2
+swept-from-After-judge c = c .before .before .before .before .before .before .before .before .before .before
+
+abbrev pub swept-from-After-number-of2 : at.After-number-of2 → at.Left-loop2
+swept-from-After-number-of2 c = c .before .before .before .before .before
+
+abbrev pub swept-from-Joined3 : at.Joined3 → at.Left-loop2
+swept-from-Joined3 c = c .before .before .before
+
+abbrev pub told-all-from-After-slice-known7 : at.After-slice-known7 → at.After-put-answer2
+told-all-from-After-slice-known7 c = c .before .before
+
+abbrev pub told-from-After-put-cut-arg : at.After-put-cut-arg → at.After-put-notices
+told-from-After-put-cut-arg c = c .before .before .before .before .before .before
+
+abbrev pub told-from-After-slice-known5 : at.After-slice-known5 → at.After-put-notices
+told-from-After-slice-known5 c = c .before .before
+
+abbrev pub total-from-After-slice-known5 : at.After-slice-known5 → at.After-total-with2
+total-from-After-slice-known5 c = c .before .before .before .before .before .before
+
+abbrev pub total-from-At-match2-came : at.At-match2-came → at.After-total-with2
+total-from-At-match2-came c = c .before .before .before .before .before .before .before
+
+abbrev pub way-from-After-is-bank2 : at.After-is-bank2 → at.After-end-of
+way-from-After-is-bank2 c = c .before .before .before .before .before .before .before .before
+
+abbrev pub way-from-At-match2-came : at.At-match2-came → at.After-end-of
+way-from-At-match2-came c = c .before .before .before .before .before .before .before .before .before .before .before .before .before .before .before .before .before .before .before .before .before .before .before .before
+
+abbrev pub young-from-After-slice-known4 : at.After-slice-known4 → at.After-is-young
+young-from-After-slice-known4 c = c .before .before .before .before .before .before .before .before .before .before .before .before
