@@ -2,10 +2,12 @@
 use super::bytes;
 use super::print;
 use super::words;
+use index::chains;
 use libc::STDOUT_FILENO;
-use ticket::Fields;
-use ticket::Reading;
+use sight::Seen;
+use sight::Sight;
 use ticket::kinds::Kind;
+use ticket::layout;
 
 // 01's number of a kind; a yes is 41 here and a no 42.
 fn kind_number(kind: Kind) -> u64 {
@@ -25,12 +27,42 @@ fn kind_number(kind: Kind) -> u64 {
     }
 }
 
-fn print_fields(f: Fields) {
+// What is seen of a ticket at clock 0, with no participants, orders or routes.
+fn seen(t: &[u8]) -> Sight {
+    if t.len() != layout::LENGTH {
+        return Sight::Refused(7);
+    }
+    let none = [0u64; 1];
+    let bics = chains::bic_chains(&none, 0);
+    let bic_heads = bics.heads;
+    let bic_links = bics.links;
+    let txids = chains::txid_chains(&none, 0);
+    let txid_heads = txids.heads;
+    let txid_links = txids.links;
+    sight::see(
+        0,
+        t,
+        &bic_heads,
+        &bic_links,
+        &none,
+        0,
+        &txid_heads,
+        &txid_links,
+        &none,
+        0,
+        &bic_heads,
+        &bic_links,
+        &none,
+        0,
+    )
+}
+
+fn print_fields(s: Seen) {
     print::print_number(0);
-    let kind = f.kind;
+    let kind = s.kind;
     print::print_number(kind_number(kind));
-    print::print_number(f.time as u64);
-    print::print_number(f.amount);
+    print::print_number(s.time as u64);
+    print::print_number(s.amount);
 }
 
 pub fn run_read(line: &[u8]) {
@@ -39,9 +71,9 @@ pub fn run_read(line: &[u8]) {
     io::write_all(STDOUT_FILENO, &line[0..name]);
     let mut buffer = io::buffer();
     let n = bytes::put_bytes(line, name, &mut buffer);
-    match ticket::read_ticket(&buffer[0..n]) {
-        Reading::Read(f) => print_fields(f),
-        Reading::Refused(r) => print::print_number(r as u64),
+    match seen(&buffer[0..n]) {
+        Sight::Read(s) => print_fields(s),
+        Sight::Refused(r) => print::print_number(r as u64),
     }
     print::print_end();
 }

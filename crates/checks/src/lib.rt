@@ -18,7 +18,6 @@ use rules::checks::Txid;
 use rules::decision::Move;
 ghost use Prim.Native.Nat.{_≤_};
 ghost use mathlib.Core.Path.{_≡_};
-ghost use Rattle.dayfile.specs.Route.{reached};
 ghost use Rattle.rules.specs.Cover.{mostTotal};
 ghost use Rattle.rules.specs.Checks.{senderCheck, newCheck, payeeCheck, spaceCheck, heldCheck, partyCheck, standing, waitingCheck, unmarkedCheck, askedCheck, sumCheck, fundsCheck, cutCheck, confirmCheck, brings, limitCheck};
 
@@ -46,21 +45,12 @@ pub fn new_check(order: Found) -> Txid
     }
 }
 
-fn reached(way: Followed) -> usize
-    ensures { λ r. ⌜ r ≡ reached way ⌝ }
-{
-    match way {
-        Followed::At(p, _) => p,
-        Followed::Nowhere => 0,
-    }
-}
-
 // 14. Order: no route row with the payee BIC.
 pub fn payee_check(route: Found, way: Followed) -> Payee
     ensures { λ r. ⌜ r ≡ payeeCheck route way ⌝ }
 {
     match route {
-        Found::At(_) => Payee::Reached(reached(way)),
+        Found::At(_) => Payee::Reached(routes::reached(way)),
         Found::Nothing => Payee::NoRoute,
     }
 }

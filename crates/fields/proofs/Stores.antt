@@ -67,13 +67,6 @@ part-back v a k s h =
     let whole : k + (a - k) ≡ a = omega arith in
     ap (take v) (drop-drop (a - k) k s) ∙ ap (λ (m : ℕ). part v m s) whole
 
--- a part that is lent, from i to e, and comes back with other elements is a run of stores
-pub part-put : (vs l : List ℕ) (i e : ℕ) → i + length vs ≡ e → e ≤ length l → take i l ++ (vs ++ drop (e - i) (drop i l)) ≡ sets l i vs
-part-put vs l i e n h =
-    let whole : i + (e - i) ≡ i + length vs = omega arith in
-    ap (λ (t : List ℕ). take i l ++ (vs ++ t)) (drop-drop (e - i) i l ∙ ap (λ (k : ℕ). drop k l) whole)
-    ∙ sym (sets-eq vs l i (omega arith) ∙ append-assoc (take i l) vs (drop (i + length vs) l))
-
 -- a run of stores leaves the parts before it and after it
 module _ (vs l : List ℕ) (i : ℕ) (h : i + length vs ≤ length l) (v a : ℕ) where
   pub part-before : a + v ≤ i → part v a (sets l i vs) ≡ part v a l

@@ -7,8 +7,7 @@ use native.Mathlib.Nat.{zero-add, zero-mul, mul-pos}
 use native.Mathlib.Omega.{arith}
 use borrow.Author.Tests.{ne-eqb}
 use lib.Dec.{eqb}
-use lib.ListN.{length, getD, take}
-use lib.Seq.{take-length}
+use lib.ListN.{length, getD}
 use Rattle.fields.specs.Number.{part, number, numberAt}
 use Rattle.fields.specs.Text.{blank}
 use Rattle.fields.proofs.Stores.{part-join, part-one}
@@ -42,13 +41,6 @@ blank-append (x ∷ a) b = ap (_&&_ (eqb x 0)) (blank-append a b) ∙ sym (and-a
 -- v bytes and w behind them
 pub blank-join : (v w at : ℕ) (s : List ℕ) → blank (part (v + w) at s) ≡ (blank (part v at s) && blank (part w (at + v) s))
 blank-join v w at s = ap blank (part-join v w at s) ∙ blank-append (part v at s) (part w (at + v) s)
-
--- all of a field: its first v bytes, and the w behind them
-pub blank-whole : (v w : ℕ) (s : List ℕ) → length s ≡ v + w → blank s ≡ (blank (part v 0 s) && blank (part w v s))
-blank-whole v w s e =
-    ap blank (sym (ap (λ (k : ℕ). take k s) (sym e) ∙ take-length s))
-    ∙ blank-join v w 0 s
-    ∙ ap (λ (k : ℕ). blank (part v 0 s) && blank (part w k s)) (zero-add v)
 
 -- one byte
 pub blank-one : (at : ℕ) (s : List ℕ) → at < length s → blank (part 1 at s) ≡ eqb (getD s at 0) 0

@@ -16,7 +16,6 @@ pub use number::zero_u24_at;
 pub use number::zero_u64_at;
 pub use search::Found;
 pub use search::found_or;
-pub use search::is_found;
 pub use search::number_of;
 pub use text::blank;
 pub use text::copy;

@@ -1,6 +1,6 @@
 // What a search finds: the first number that passes a test.
 ghost use mathlib.Core.Path.{_≡_};
-ghost use Rattle.fields.specs.Search.{isFound, numberOf, foundOr};
+ghost use Rattle.fields.specs.Search.{numberOf, foundOr};
 
 pub enum Found {
     At(usize),
@@ -19,15 +19,6 @@ pub fn found_or(found: Found, n: usize, passes: bool) -> Found
             }
             Found::Nothing
         }
-    }
-}
-
-pub fn is_found(found: Found) -> bool
-    ensures { λ r. ⌜ r ≡ isFound found ⌝ }
-{
-    match found {
-        Found::At(_) => true,
-        Found::Nothing => false,
     }
 }
 

@@ -1,35 +1,31 @@
--- Rows of words that hold the fields of a table: what a search among them finds, one row more, and that they may be lent to a search.
+-- Rows of words that hold the fields of a table: what a search among them finds, and that they may be lent to a search.
 -- Assumes nothing.
-use mathlib.Core.Path.{_≡_, refl, sym, _∙_, ap}
+use mathlib.Core.Path.{_≡_, sym, _∙_, ap}
 use mathlib.Core.Bool.{Bool, true, false}
 use mathlib.Core.List.{List, [], _∷_}
-use Prim.Native.Nat.{ℕ, _+_, _*_, _≤_, _<_}
+use Prim.Native.Nat.{ℕ, _*_, _≤_, _<_}
 use native.Mathlib.Nat.{lt-trans, mod-lt}
 use lib.Dec.{lit<}
-use lib.ListN.{length, getD, set}
-use lib.Seq.{sets}
+use lib.ListN.{length}
 use Rattle.fields.specs.Number.{part}
 use Rattle.fields.specs.Text.{same, unpadded}
 use Rattle.fields.specs.Search.{isFound, numberOf, firstTo}
 use Rattle.fields.specs.Rows.{firstRow, Indexed}
 use Rattle.fields.proofs.Same.{same-true}
 use Rattle.fields.proofs.Finding.{first-same, found-at}
-use Rattle.fields.proofs.Indexing.{found-indexed, put-indexed}
+use Rattle.fields.proofs.Indexing.{found-indexed}
 use Rattle.codes.specs.Bic.{isBic}
 use Rattle.codes.specs.Txid.{isTxid}
 use Rattle.codes.proofs.Whole.{bic-length}
 use Rattle.index.specs.Words.{Bytes, bicWords, txidWords}
 use Rattle.index.specs.Chains.{buckets, addedTo, rowBucket, Chained, Distinct}
 use Rattle.index.specs.Lent.{BicRows, TxidRows}
-use Rattle.index.proofs.Chaining.{same-chained, enchained, distinct-rows}
+use Rattle.index.proofs.Chaining.{same-chained, distinct-rows}
 use Rattle.index.proofs.Comparing.{same-bics, same-txids}
 use Rattle.index.proofs.Coded.{bic-bytes, txid-bytes}
 
--- chains by the fields of a table are chains by the rows that hold them, and the other way round
+-- chains by the rows that hold the fields of a table are chains by the fields
 module _ {width n : ℕ} {field : ℕ → List ℕ} {rows heads links : List ℕ} (held : Indexed width field n rows) where
-  pub chained-rows : Chained (λ i. rowBucket (field i)) n heads links → Chained (λ i. rowBucket (part width (width * i) rows)) n heads links
-  chained-rows c = same-chained c (λ i l. ap rowBucket (sym (held .row i l)))
-
   pub chained-fields : Chained (λ i. rowBucket (part width (width * i) rows)) n heads links → Chained (λ i. rowBucket (field i)) n heads links
   chained-fields c = same-chained c (λ i l. ap rowBucket (held .row i l))
 
@@ -106,17 +102,3 @@ module _ (txid : ℕ → List ℕ) {n : ℕ} {rows : List ℕ} (held : Indexed 5
 pub bucket-inside : (ws : List ℕ) → rowBucket ws < buckets
 bucket-inside [] = lit< tt
 bucket-inside (w ∷ ws) = mod-lt (addedTo w ws) (lit< tt)
-
--- one TxId more, as the code leaves rows, heads and links
-module _ (txid txid′ : ℕ → List ℕ) {n : ℕ} (kept : (i : ℕ) → i < n → txid′ i ≡ txid i) (s : List ℕ) (new : txid′ n ≡ s) where
-  pub txid-put : {rows : List ℕ} → Indexed 5 (λ i. txidWords (txid i)) n rows → 5 * n + 5 ≤ length rows
-      → Indexed 5 (λ i. txidWords (txid′ i)) (n + 1) (sets rows (5 * n) (txidWords s))
-  txid-put held fits =
-      put-indexed held (txidWords s) refl fits (λ i. txidWords (txid′ i)) (λ i l. ap txidWords (kept i l)) (ap txidWords new)
-
-  pub txid-chained : {heads links heads′ links′ : List ℕ} → Chained (λ i. rowBucket (txidWords (txid i))) n heads links → length heads ≡ buckets
-      → n < length links → heads′ ≡ set heads (rowBucket (txidWords s)) (n + 1)
-      → links′ ≡ set links n (getD heads (rowBucket (txidWords s)) 0) → Chained (λ i. rowBucket (txidWords (txid′ i))) (n + 1) heads′ links′
-  txid-chained chained headed linked new-heads new-links =
-      enchained (same-chained chained (λ i l. ap (λ (t : List ℕ). rowBucket (txidWords t)) (sym (kept i l)))) headed linked
-      (ap (λ (t : List ℕ). rowBucket (txidWords t)) (sym new)) (bucket-inside (txidWords s)) new-heads new-links

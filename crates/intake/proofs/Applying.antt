@@ -1,8 +1,7 @@
--- What applying a decision leaves: below the mark still no order waits for a bank; the covers, and what is told of them.
--- Assumes nothing.
-use mathlib.Core.Path.{_≡_, refl, sym, _∙_, ap}
+-- What applying a decision leaves: below the mark still no order waits for a bank; the covers. Assumes nothing.
+use mathlib.Core.Path.{_≡_, refl, sym, _∙_}
 use mathlib.Core.Bool.{Bool, true, false, _&&_}
-use mathlib.Core.List.{List, [], _++_}
+use mathlib.Core.List.{List}
 use mathlib.Core.Logic.{⊎-elim}
 use Prim.Native.Nat.{ℕ, _+_, _≤_, _<_}
 use native.Mathlib.Omega.{arith}
@@ -12,9 +11,8 @@ use Rattle.rules.specs.Book.{mostOrders, noOrder, orderOf, isBank}
 use Rattle.rules.specs.Status.{isWaiting}
 use Rattle.rules.specs.Cover.{transferred}
 use Rattle.rules.specs.Tell.{listed}
-use Rattle.rules.specs.Cut.{cutTo, cutReportsTo}
-use Rattle.rules.specs.Decision.{coversAfter, applied, toldBy}
-use Rattle.rules.specs.declared.decision.Transfer.{Transfer}
+use Rattle.rules.specs.Cut.{cutTo}
+use Rattle.rules.specs.Decision.{coversAfter, applied}
 use Rattle.rules.specs.declared.decision.Told.{Told}
 use Rattle.rules.specs.declared.decision.Told.the-variants.{Nobody, One, Two}
 use Rattle.rules.specs.declared.decision.Decision.{Decision}
@@ -22,7 +20,6 @@ use Rattle.rules.specs.declared.Order.{Order}
 use Rattle.rules.specs.declared.Cover.{Cover}
 use Rattle.rules.specs.declared.Book.{Book}
 use Rattle.rules.proofs.Same.{same-or-not}
-use Rattle.rules.proofs.Moving.{nobody-moves}
 use Rattle.intake.specs.Room.{Applicable}
 use Rattle.intake.specs.Expiry.{Passed}
 
@@ -55,7 +52,7 @@ module _ (b : Book) (d : Decision) (fits : Applicable b d) (long : length (b .or
               rw same (rw waits at was)
           go false q = refl
 
--- the covers after both moves; a cut comes after them, and tells by what it finds
+-- the covers after both moves; a cut comes after them
 module _ (b : Book) (d : Decision) (fits : Applicable b d) where
   abbrev pub covers : List Cover
   covers = transferred (d .second) (transferred (d .first) (b .covers))
@@ -66,29 +63,9 @@ module _ (b : Book) (d : Decision) (fits : Applicable b d) where
   pub covers-cut : d .cuts ≡ true → coversAfter b d ≡ cutTo (b .roster) covers (b .roster .size)
   covers-cut e = rw e
 
-  pub told-uncut : d .cuts ≡ false → toldBy b d ≡ listed (d .told)
-  told-uncut e = rw e
-
-  -- where it cuts, no cover moved before
-  pub covers-kept : d .cuts ≡ true → b .covers ≡ covers
-  covers-kept e =
-      let alone = fits .cuts e in
-      sym (nobody-moves (b .covers))
-      ∙ ap (λ (m : Transfer). transferred m (b .covers)) (sym (alone .0))
-      ∙ sym (nobody-moves (transferred (d .first) (b .covers)))
-      ∙ ap (λ (m : Transfer). transferred m (transferred (d .first) (b .covers))) (sym (alone .1))
-
-  pub told-cut : d .cuts ≡ true → toldBy b d ≡ listed (d .told) ++ cutReportsTo (b .roster) covers (b .roster .size)
-  told-cut e =
-      rw e (ap (λ (cs : List Cover). cutReportsTo (b .roster) cs (b .roster .size)) (covers-kept e)
-      ∙ ap (λ (told : Told). listed told ++ cutReportsTo (b .roster) covers (b .roster .size)) (sym (fits .cuts e .2)))
-
   -- as many orders as before, or one more
   pub count-grows : b .count ≤ d .count
   count-grows = ⊎-elim (λ (e : d .count ≡ b .count). omega arith) (λ (e : (d .number ≡ b .count) × (d .count ≡ b .count + 1)). let q = e .1 in omega arith) (fits .count)
-
-  pub silent-cut : d .cuts ≡ true → listed (d .told) ≡ []
-  silent-cut e = ap listed (fits .cuts e .2)
 
 pub listed-few : (told : Told) → length (listed told) ≤ 2
 listed-few Nobody = omega arith

@@ -32,9 +32,9 @@ use Rattle.dayfile.proofs.Following.{rows-few}
 use Rattle.rules.specs.Book.{mostOrders, orderOf, coverOf, isBank}
 use Rattle.rules.specs.Tick.{due}
 use Rattle.rules.specs.Status.{isWaiting}
-use Rattle.rules.specs.Cover.{Enough, transferred, whole, total, mostTotal}
+use Rattle.rules.specs.Cover.{Enough, transferred, whole, mostTotal}
 use Rattle.rules.specs.Find.{senderIn, orderIn, wayIn, finding}
-use Rattle.rules.specs.Terms.{termsOf, namesSender, opensOrder}
+use Rattle.rules.specs.Terms.{termsOf, namesSender}
 use Rattle.rules.specs.Refusal.{firstOf, firstRefusal}
 use Rattle.rules.specs.Decision.{by, nobody, orderKept, orderBecomes, decisionOf}
 use Rattle.rules.specs.Sound.{Sound}
@@ -61,7 +61,7 @@ use Rattle.intake.specs.Room.{Room, Applicable}
 use Rattle.intake.specs.Entry.{timedEntry, readEntry, entryOf}
 use Rattle.intake.specs.Expiry.{expires, stays, expiryIn}
 use Rattle.intake.specs.Seeking.{seeksOrder, soughtSender, soughtOrder, sought}
-use Rattle.intake.specs.Judging.{Judgeable, judged}
+use Rattle.intake.specs.Judging.{judged}
 use Rattle.intake.specs.Taking.{unswept}
 use Rattle.intake.specs.declared.Entry.{Entry}
 use Rattle.intake.specs.declared.Expiry.{Expiry}
@@ -158,21 +158,6 @@ module _ (b : Book) (s : Sound b) where
   unfolding wayIn
   rows-below true t = let l = way-rows (b .roster) (rowWith (b .roster) (payeeOf t)) in omega arith
   rows-below false t = omega arith
-
-  pub sought-judgeable : (e : Entry) (t : List ℕ) → Judgeable (sought b e t)
-  sought-judgeable e t =
-      let h = order-below e t in
-      record {
-        tellable =
-            record {
-              payer = let l = any-payer _ h in omega arith;
-              payee = let l = any-payee _ h in omega arith;
-              order = omega arith;
-              reached = let l = reached-below (opensOrder (termsOf (e .kind) .subject)) t in omega arith;
-              count = let l = s .orders .count in omega arith;
-            };
-        total = s .limited;
-      }
 
   -- a decision that keeps the order, one cover moving
   kept-applicable : (e : Entry) (t : List ℕ) (m : Transfer) (cuts : Bool) (told : Told) → m .who < mostParticipants → m .amount ≤ mostTotal

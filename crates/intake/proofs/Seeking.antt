@@ -1,5 +1,5 @@
--- What the code finds is what is sought: by rows of an index, and field by field. Assumes nothing.
-use mathlib.Core.Path.{_≡_, refl, sym, _∙_, ap}
+-- What the code finds is what is sought, field by field; expiries leave every order's TxId. Assumes nothing.
+use mathlib.Core.Path.{_≡_, refl, _∙_, ap}
 use mathlib.Core.Bool.{Bool, true, false, cond}
 use mathlib.Core.List.{List}
 use mathlib.Core.Logic.{_⊎_, ⊎-elim}
@@ -7,22 +7,18 @@ use Prim.Native.Nat.{ℕ, zero, suc, _≤_, _<_}
 use native.Mathlib.Omega.{arith}
 use lib.ListN.{length}
 use lib.Seq.{getD-set-same, getD-set-other}
-use Rattle.fields.specs.Search.{numberOf, firstTo}
+use Rattle.fields.specs.Search.{numberOf}
 use Rattle.fields.specs.UpTo.{anyTo}
-use Rattle.fields.specs.Rows.{firstRow, Indexed}
 use Rattle.fields.specs.declared.search.Found.{Found}
 use Rattle.fields.specs.declared.search.Found.the-variants as found
-use Rattle.fields.proofs.Indexing.{found-indexed}
-use Rattle.ticket.specs.Layout.{senderOf, payeeOf, txidField}
-use Rattle.dayfile.specs.Roster.{participantIn, rowOf}
-use Rattle.dayfile.specs.Route.{hasBic, followedFrom}
+use Rattle.ticket.specs.Layout.{txidField}
+use Rattle.dayfile.specs.Route.{followedFrom}
 use Rattle.dayfile.specs.declared.roster.Roster.{Roster}
 use Rattle.dayfile.specs.declared.route.Followed.{Followed}
 use Rattle.dayfile.specs.declared.route.Followed.the-variants as followed
-use Rattle.dayfile.proofs.Arriving.{rows-in}
 use Rattle.rules.specs.Book.{noOrder, orderOf, coverOf, isBank}
 use Rattle.rules.specs.Cover.{totalOf, total}
-use Rattle.rules.specs.Find.{senderIn, orderIn, routeIn, wayIn, isOpen, anyOpen}
+use Rattle.rules.specs.Find.{routeIn, wayIn, isOpen, anyOpen}
 use Rattle.rules.specs.Tick.{due, sweepTo}
 use Rattle.rules.specs.Sound.{Sound}
 use Rattle.rules.specs.declared.finding.Finding.{Finding}
@@ -34,22 +30,6 @@ use Rattle.intake.specs.Expiry.{expires, stays, expiryIn}
 use Rattle.intake.specs.Seeking.{soughtSender, soughtOrder, sought}
 use Rattle.intake.specs.declared.Entry.{Entry}
 use Rattle.intake.proofs.Sweeping.{sweep-book}
-
--- the index has what is found in the book
-pub sender-row : {rows : List ℕ} (r : Roster) → Indexed 11 (λ p. participantIn (r .participants) p .bic) (r .size) rows → (t : List ℕ)
-    → firstRow 11 (r .size) (senderOf t) rows ≡ senderIn r t
-unfolding senderIn
-sender-row r h t = found-indexed h (senderOf t)
-
-pub order-row : {rows : List ℕ} (os : List Order) (count : ℕ) → Indexed 35 (λ i. orderOf os i .txid) count rows → (t : List ℕ)
-    → firstRow 35 count (txidField t) rows ≡ orderIn os count t
-unfolding orderIn
-order-row os count h t = found-indexed h (txidField t)
-
-pub route-row : {bics : List ℕ} (r : Roster) → r .rows ≤ 64 → Indexed 11 (λ i. rowOf (r .routes) i .bic) (r .rows) bics → (t : List ℕ)
-    → firstRow 11 (r .rows) (payeeOf t) bics ≡ routeIn r t
-unfolding routeIn
-route-row r few h t = found-indexed h (payeeOf t) ∙ ap (firstTo (hasBic (r .routes) (payeeOf t))) (sym (rows-in r few))
 
 -- where the row leads, if it is sought
 pub way-if : (r : Roster) (z : Bool) (t : List ℕ) → followedFrom r (cond z (routeIn r t) found.Nothing) ≡ cond z (wayIn r t) followed.Nowhere

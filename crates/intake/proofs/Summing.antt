@@ -8,7 +8,7 @@ use native.Mathlib.Nat.{eq-or-lt-of-le}
 use native.Mathlib.Omega.{arith}
 use borrow.Author.Tests.{ltb-true}
 use lib.Arith.{le-zero}
-use lib.Dec.{eqb, ltb}
+use lib.Dec.{ltb}
 use lib.ListN.{length, set, length-set}
 use lib.Seq.{getD-set-other}
 use Rattle.fields.specs.UpTo.{sumTo}
@@ -37,11 +37,9 @@ use Rattle.rules.proofs.Sweeping.{swept, due-waits}
 use Rattle.rules.proofs.Limits.{waiting-reserved}
 use Rattle.intake.specs.Room.{mostNumber, Applicable}
 use Rattle.intake.specs.Expiry.{expires, stays, expiryIn, lapsed}
-use Rattle.intake.specs.Taking.{unswept}
 use Rattle.intake.proofs.Sweeping.{sweep-book}
 use Rattle.intake.proofs.Fitting.{Freeable, expiry-fits}
 use Rattle.intake.proofs.Applying.{covers, covers-uncut, covers-cut}
-use Rattle.intake.proofs.Turning.{entry, start, after, start-sound}
 
 -- all cover, of whoever is a participant or not
 unfoldable pub allOf : List Cover → ℕ
@@ -123,13 +121,6 @@ swept-all b s (suc m) h =
     ap (λ (v : Book). allOf (v .covers)) (sweep-book (sweepTo b m) m)
     ∙ lapsed-all (sweepTo b m .book) (w .sound) m (let e = w .count in omega arith)
     ∙ swept-all b s m (omega arith)
-
-pub after-all : (b : Book) (s : Sound b) (t : List ℕ) → allOf (after b s t .book .covers) ≡ allOf (b .covers)
-after-all b s t = go (eqb (entry b s t .refusal) 0)
-  where
-    go : (z : Bool) → allOf (cond z (sweepTo (start b s t) (b .count)) (unswept (start b s t)) .book .covers) ≡ allOf (b .covers)
-    go true = swept-all (start b s t) (start-sound b s t) (b .count) (omega arith)
-    go false = refl
 
 -- so does a cut
 cut-whole : (o : Opening) (c : Cover) → whole (cutCover o c) ≡ whole c

@@ -1,4 +1,4 @@
--- The step as the code takes it is the step of the rules. Assumes nothing.
+-- The step as one way for every ticket is the step of the rules. Assumes nothing.
 use mathlib.Core.Path.{_≡_, refl, sym, _∙_, ap, ap₂}
 use mathlib.Core.Bool.{Bool, true, false, cond}
 use mathlib.Core.List.{List, _++_, append-nil}

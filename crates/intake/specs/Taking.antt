@@ -1,4 +1,4 @@
--- The step as the code takes it, the same way for every ticket.
+-- The step as one way for every ticket, refused or not.
 --     unswept     the step that changes nothing
 --     sweptFor    the expiries: none at a ticket that was refused
 --     carried     what was judged, carried out

@@ -1,12 +1,12 @@
-// A ticket's step as the code goes about it: the same for every ticket, refused or not. There is no code here: specs/ says what is taken
-// up, sought, judged and carried out, and proofs/ has the laws by which that is the step of `rules`.
+// A ticket's step as one way for every ticket, refused or not. There is no code here: specs/ says what is taken up, sought, judged and
+// carried out, and proofs/ has the laws by which that is the step of `rules`.
 use rules::Order;
 use rules::decision::Decision;
 use rules::decision::Told;
 use rules::decision::Transfer;
 use ticket::kinds::Kind;
 
-// A ticket as it is taken up. One that 7 to 11 refuse goes on as a tick at the clock.
+// A ticket as it is taken up. One that 7 to 11 refuse is a tick at the clock.
 pub struct Entry {
     pub refusal: u8,
     pub kind: Kind,

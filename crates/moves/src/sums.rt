@@ -2,14 +2,12 @@
 use super::cover;
 use super::find;
 use rules::Cover;
-use rules::terms::Flow;
 ghost use mathlib.Core.Path.{_≡_};
 ghost use Prim.Native.Nat.{_+_, _-_, _≤_};
 ghost use Rattle.fields.specs.UpTo.{anyTo};
 ghost use Rattle.rules.specs.Book.{coverOf};
 ghost use Rattle.rules.specs.Cover.{whole, totalOf, mostTotal};
 ghost use Rattle.rules.specs.Find.{isOpen};
-ghost use Rattle.intake.specs.Seeking.{seeksOpen};
 ghost use Rattle.intake.specs.Room.{mostNumber};
 
 pub fn total_of(covers: [Cover; 32], size: usize) -> u64
@@ -45,17 +43,4 @@ pub fn total_with(total: u64, old: Cover, new: Cover) -> u64
     ensures { λ r. ⌜ r ≡ total - whole old + whole new ⌝ }
 {
     total - cover::whole(old) + cover::whole(new)
-}
-
-// Whether a kind looks for held and open debit anywhere.
-pub fn seeks_open(flow: Flow) -> bool
-    ensures { λ r. ⌜ r ≡ seeksOpen flow ⌝ }
-{
-    match flow {
-        Flow::Nothing => false,
-        Flow::Brings => false,
-        Flow::Draws => false,
-        Flow::Cuts => true,
-        Flow::Confirms => false,
-    }
 }

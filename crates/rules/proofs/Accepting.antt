@@ -19,7 +19,7 @@ use Rattle.rules.specs.Book.{mostOrders, orderOf, coverOf}
 use Rattle.rules.specs.Cover.{total, mostTotal}
 use Rattle.rules.specs.Find.{senderIn, orderIn, routeIn, wayIn, finding}
 use Rattle.rules.specs.Terms.{termsOf, namesSender, opensOrder, namesOrder, partyOf, meets, draws}
-use Rattle.rules.specs.Refusal.{brings, refusal12, refusal13, refusal14, refusal15, refusal16, refusal17, refusal18, refusal19, refusal20, refusal22}
+use Rattle.rules.specs.Refusal.{brings, refusal12, refusal13, refusal14, refusal15, refusal16, refusal17, refusal18, refusal20, refusal22}
 use Rattle.rules.specs.declared.terms.Terms.{Terms}
 use Rattle.rules.specs.declared.Order.{Order}
 use Rattle.rules.specs.declared.Book.{Book}
@@ -91,10 +91,6 @@ module _ (b : Book) (f : Fields) (t : List ℕ) where
   -- 18 passed
   pub status-meets : refusal18 (finding b f t) ≡ false → meets (terms .needs) (theOrder .status) ≡ true
   status-meets e = not-false _ e
-
-  -- 19 passed
-  pub full-amount : refusal19 (finding b f t) ≡ false → terms .whole ≡ true → f .amount ≡ theOrder .amount
-  full-amount e is = eqb-true _ _ (not-false _ (second (terms .whole) (not (eqb (f .amount) (theOrder .amount))) e is))
 
   -- 20 passed
   pub cover-there : refusal20 (finding b f t) ≡ false → draws (terms .flow) ≡ true → f .amount ≤ coverOf (b .covers) senderNumber .available

@@ -4,8 +4,7 @@ use mathlib.Core.Path.{_≡_}
 use mathlib.Core.Bool.{true}
 use Prim.Native.Nat.{ℕ, _≤_, _<_}
 use native.Mathlib.Omega.{arith}
-use Rattle.fields.specs.UpTo.{sumTo}
-use Rattle.fields.proofs.UpTo.{sum-part, sum-prefix}
+use Rattle.fields.proofs.UpTo.{sum-part}
 use Rattle.dayfile.specs.Limits.{mostParticipants}
 use Rattle.rules.specs.Book.{mostOrders, orderOf, coverOf}
 use Rattle.rules.specs.Status.{isWaiting}
@@ -22,9 +21,6 @@ module _ (b : Book) (s : Sound b) where
   -- a participant's cover, and the sum over the first ones, is within the limit on all
   pub whole-limited : (p : ℕ) → p < b .roster .size → whole (coverOf (b .covers) p) ≤ mostTotal
   whole-limited p h = let a = sum-part (λ q. whole (coverOf (b .covers) q)) (b .roster .size) p h in let l = limit in omega arith
-
-  pub part-limited : (n : ℕ) → n ≤ b .roster .size → sumTo (λ q. whole (coverOf (b .covers) q)) n ≤ mostTotal
-  part-limited n h = let a = sum-prefix (λ q. whole (coverOf (b .covers) q)) n (b .roster .size) h in let l = limit in omega arith
 
   pub available-limited : (p : ℕ) → p < b .roster .size → coverOf (b .covers) p .available ≤ mostTotal
   available-limited p h = let a = whole-limited p h in omega arith

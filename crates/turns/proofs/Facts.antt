@@ -6,7 +6,7 @@
 --     total-few                              all cover together is within the limit
 --     facts-are                              the facts; way-is, number-is: the way and the order's number
 --     new-order                              the order that a ticket opens
-use mathlib.Core.Path.{_≡_, refl, sym, _∙_, ap, ap₂, subst}
+use mathlib.Core.Path.{_≡_, refl, sym, _∙_, ap, ap₂}
 use mathlib.Core.Bool.{Bool, false, cond}
 use mathlib.Core.List.{List}
 use Prim.Native.Nat.{ℕ, _≤_, _<_}
@@ -31,14 +31,13 @@ use Rattle.rules.specs.declared.verdict.Facts.{Facts}
 use Rattle.rules.specs.declared.Status.the-variants.{Waiting}
 use Rattle.rules.specs.declared.Order.{Order}
 use Rattle.rules.specs.declared.Book.{Book}
-use Rattle.intake.specs.Entry.{entryOf}
 use Rattle.intake.specs.Seeking.{seeksOrder, seeksOpen, soughtSender, soughtOrder, sought}
 use Rattle.intake.specs.declared.Entry.{Entry}
 use Rattle.intake.proofs.Seeking.{way-if, open-sum, made}
 use Rattle.intake.proofs.Fitting.{any-payee, sender-below, order-below}
 use Rattle.intake.proofs.Summing.{allOf, all-total}
 use Rattle.verdict.specs.Meaning.{aboutOf, factsOf}
-use Rattle.turns.proofs.Turn.{Taken, Expired, after-sound, after-count, after-roster, after-txid, after-all}
+use Rattle.turns.proofs.Turn.{Expired, after-sound, after-count, after-roster, after-txid, after-all}
 
 -- the row of a payee BIC, where the kind asks for it
 abbrev pub soughtRoute : Book → Entry → List ℕ → Found
@@ -51,11 +50,6 @@ pub record Searched (b : Book) (t : List ℕ) (e : Entry) (sender order route : 
   pub leads : route ≡ soughtRoute b e t
   pub from : p ≡ numberOf sender
   pub at : i ≡ numberOf order
-
--- the same of an entry that is the ticket's
-pub searched-as : {b : Book} {t : List ℕ} {e : Entry} {sender order route : Found} {p i : ℕ} → Taken b t e
-    → Searched b t (entryOf (b .clock) t) sender order route p i → Searched b t e sender order route p i
-searched-as {b} {t} {e} {sender} {order} {route} {p} {i} h f = subst (λ (x : Entry). Searched b t x sender order route p i) (sym (h .is)) f
 
 module _ {b : Book} {t : List ℕ} {e : Entry} {n₀ : ℕ} {text₀ : List ℕ} {c : Book} {m n : ℕ} {text : List ℕ}
     (w : Expired b t e n₀ text₀ c m n text) where

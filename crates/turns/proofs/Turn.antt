@@ -5,7 +5,7 @@
 --     Expired         the expiries of such a ticket are done, all of them
 --     expiries-done   the loop over orders has ended: at the last order, or at one that is young
 --     turn            its step, for any verdict that is the one on what is sought
-use mathlib.Core.Path.{_≡_, refl, sym, _∙_, ap, subst}
+use mathlib.Core.Path.{_≡_, sym, _∙_, ap, subst}
 use mathlib.Core.Bool.{false}
 use mathlib.Core.List.{List, _++_}
 use mathlib.Core.Logic.{_⊎_}
@@ -19,7 +19,6 @@ use Rattle.ticket.specs.Reading.{reading}
 use Rattle.ticket.specs.declared.Fields.{Fields}
 use Rattle.ticket.specs.declared.Reading.{Reading}
 use Rattle.ticket.specs.declared.Reading.the-variants.{Read, Refused}
-use Rattle.ticket.specs.declared.kinds.Kind.{Kind}
 use Rattle.report.specs.Layout.{reportsBytes}
 use Rattle.rules.specs.Book.{orderOf}
 use Rattle.rules.specs.Cover.{mostTotal}
@@ -48,7 +47,6 @@ use Rattle.intake.proofs.Looping.{Sweeping, begun, all-swept}
 use Rattle.intake.proofs.Seeking.{swept-txid}
 use Rattle.intake.proofs.Fitting.{Entered, entered, judged-applicable}
 use Rattle.intake.proofs.Summing.{allOf, all-total, swept-all}
-use Rattle.intake.proofs.Naming.{Named, judged-named}
 use Rattle.verdict.specs.Judgement.{verdictOf}
 use Rattle.verdict.specs.Meaning.{factsOf, decisionBy, judgedBy}
 use Rattle.verdict.proofs.Meaning.{judged-verdict}
@@ -73,18 +71,7 @@ pub record Taken (b : Book) (t : List ℕ) (e : Entry) : Type 0 where
   pub is : e ≡ entryOf (b .clock) t
   pub passes : e .refusal ≡ 0
 
--- from what is seen of it, field by field
-pub taken-as : {b : Book} {t : List ℕ} {kind : Kind} {time amount : ℕ} → Sound b → entryOf (b .clock) t .refusal ≡ 0
-    → kind ≡ entryOf (b .clock) t .kind → time ≡ entryOf (b .clock) t .time → amount ≡ entryOf (b .clock) t .amount
-    → Taken b t (record { refusal = 0; kind = kind; time = time; amount = amount })
-taken-as s refusal is-kind is-time is-amount =
-    record { sound = s; is = λ i. record { refusal = sym refusal i; kind = is-kind i; time = is-time i; amount = is-amount i }; passes = refl }
-
 module _ {b : Book} {t : List ℕ} {e : Entry} (h : Taken b t e) where
-  -- the clock does not fall
-  pub clock-rises : b .clock ≤ e .time
-  clock-rises = subst (λ (x : Entry). b .clock ≤ x .time) (sym (h .is)) (entered (b .clock) t .later)
-
   pub start-sound : Sound (atTime b (e .time))
   start-sound = subst (λ (x : Entry). Sound (atTime b (x .time))) (sym (h .is)) (turning.start-sound b (h .sound) t)
 
@@ -155,9 +142,6 @@ module _ {b : Book} {t : List ℕ} {e : Entry} {n₀ : ℕ} {text₀ : List ℕ}
   pub after-roster : c .roster ≡ b .roster
   after-roster = ap (λ (d : Book). d .roster) book-is ∙ swept start (start-sound (w .taken)) (b .count) (omega arith) .roster
 
-  pub after-clock : c .clock ≡ e .time
-  after-clock = ap (λ (d : Book). d .clock) book-is ∙ swept start (start-sound (w .taken)) (b .count) (omega arith) .clock
-
   -- no TxId changes, and so the index stays
   pub after-txid : (i : ℕ) → orderOf (c .orders) i .txid ≡ orderOf (b .orders) i .txid
   after-txid i =
@@ -209,7 +193,3 @@ module _ {b : Book} {t : List ℕ} {e : Entry} {n₀ : ℕ} {text₀ : List ℕ}
     applicable =
         subst (λ (j : Judged). Applicable c (j .decision)) judged-is
         (judged-applicable c after-sound (b .clock) t e (subst (Entered (b .clock) t) (sym (w .taken .is)) (entered (b .clock) t)))
-
-    -- and writes an order under its own TxId, or a new one under the ticket's
-    pub named : Named c t (decisionBy (sought c e t) v)
-    named = subst (λ (j : Judged). Named c t (j .decision)) judged-is (judged-named c (e .refusal) e t)

@@ -2,7 +2,6 @@
 --     every            what holds of a refused ticket's verdict and of the step of its kind
 --     refused-alone    of a refused ticket all but the refusal is nothing
 --     in-range         who moves and who is told are participants, and the order that is told of is one
---     opens-order      only an order ticket opens an order
 --     cuts-alone       a cut moves no cover by itself, and tells by the cut alone
 use mathlib.Core.Path.{_≡_, refl}
 use mathlib.Core.Bool.{Bool, true, false, cond}
@@ -24,10 +23,9 @@ use Rattle.rules.specs.declared.Status.the-variants as status
 use Rattle.rules.specs.declared.decision.Move.the-variants.{Give, Draw}
 use Rattle.rules.specs.declared.verdict.About.{About}
 use Rattle.rules.specs.declared.verdict.Facts.{Facts}
-use Rattle.rules.specs.declared.verdict.Does.{Does}
-use Rattle.rules.specs.declared.verdict.Does.the-variants.{Nothing, Opens, Becomes, Cuts}
+use Rattle.rules.specs.declared.verdict.Does.the-variants.{Nothing, Cuts}
 use Rattle.rules.specs.declared.verdict.Verdict.{Verdict}
-use Rattle.verdict.specs.Step.{unless, refusedVerdict, nothing, coverMoved, opened, settled, turnedDown, recalled, declined, returned, answered, answerTold, markTold, answerAlso, cutVerdict}
+use Rattle.verdict.specs.Step.{unless, refusedVerdict, nothing, coverMoved, opened, settled, turnedDown, recalled, declined, returned, answered, answerTold, answerAlso, cutVerdict}
 use Rattle.verdict.specs.Judgement.{coverInRefusal, coverOutRefusal, orderRefusal, answerRefusal, recallRefusal, returnRefusal, declineRefusal, inquiryRefusal, confirmsRefusal, verdictFor, verdictOf}
 
 -- the step of each kind
@@ -189,24 +187,6 @@ module _ (size orders : ℕ) (x : Facts) (h : Known size orders x) where
 
   pub in-range : InRange size orders (verdictOf x)
   in-range = every (InRange size orders) nobody-in-range x (step-in-range (x .kind))
-
--- only an order ticket opens an order
-step-opens : (k : Kind) (x : Facts) → stepFor k x .does ≡ Opens → k ≡ kind.Order
-step-opens kind.Order x e = refl
-step-opens kind.CoverIn x e = cc
-step-opens kind.CoverOut x e = cc
-step-opens kind.Yes x e = cc
-step-opens kind.No x e = cc
-step-opens kind.Recall x e = cc
-step-opens kind.Return x e = cc
-step-opens kind.Decline x e = cc
-step-opens kind.Inquiry x e = cc
-step-opens kind.Cut x e = cc
-step-opens kind.Confirm x e = cc
-step-opens kind.Tick x e = cc
-
-pub opens-order : (x : Facts) → verdictOf x .does ≡ Opens → x .kind ≡ kind.Order
-opens-order x = every (λ v. v .does ≡ Opens → x .kind ≡ kind.Order) (λ n e. cc) x (step-opens (x .kind) x)
 
 -- a cut moves no cover by itself, and tells by the cut alone
 step-cuts : (k : Kind) (x : Facts) → stepFor k x .does ≡ Cuts → stepFor k x ≡ cutVerdict

@@ -15,7 +15,7 @@ use Rattle.rules.specs.Cover.{mostTotal}
 use Rattle.rules.specs.Status.{isWaiting, isUnmarked, isAsked}
 use Rattle.rules.specs.Decision.{by, nobody, orderKept, orderBecomes, answerOf, decisionOf}
 use Rattle.rules.specs.Refusal.{namingRefusal, permissionRefusal, backingRefusal, firstOf, firstRefusal}
-use Rattle.rules.specs.Checks.{spaceRefusal, partyRefusal, standing, standingRefusal, sumRefusal, fundsRefusal, confirmRefusal, confirming, brings, limitRefusal, confirmCheck, cutCheck, cutRefusal}
+use Rattle.rules.specs.Checks.{spaceRefusal, partyRefusal, standing, standingRefusal, sumRefusal, fundsRefusal, confirmRefusal, confirming, brings, limitRefusal, cutCheck, cutRefusal}
 use Rattle.rules.specs.declared.Recall.the-variants as mark
 use Rattle.rules.specs.declared.Status.{Status}
 use Rattle.rules.specs.declared.Status.the-variants as status
@@ -30,17 +30,14 @@ use Rattle.rules.specs.declared.checks.Confirming.{Confirming}
 use Rattle.rules.specs.declared.checks.Confirming.the-variants.{By, Excluded}
 use Rattle.rules.specs.declared.checks.Limit.the-variants as limit
 use Rattle.rules.specs.declared.finding.Finding.{Finding}
-use Rattle.rules.specs.declared.decision.Move.{Move}
 use Rattle.rules.specs.declared.decision.Move.the-variants.{Give, Draw, Spend, Debit, Credit}
-use Rattle.rules.specs.declared.decision.Told.{Told}
 use Rattle.rules.specs.declared.decision.Told.the-variants.{Nobody, One, Two}
-use Rattle.rules.specs.declared.decision.Decision.{Decision}
 use Rattle.rules.specs.declared.verdict.About.{About}
 use Rattle.rules.specs.declared.verdict.Verdict.{Verdict}
 use Rattle.intake.specs.Judging.{judged, decidedUnless}
 use Rattle.intake.specs.declared.Judged.{Judged}
 use Rattle.verdict.specs.Step.{notice, none, unless, refusedVerdict, coverMoved, opened, settled, turnedDown, recalled, declined, returned, answered, cutVerdict, answerTold, answerAlso}
-use Rattle.verdict.specs.Judgement.{coverInRefusal, coverOutRefusal, orderRefusal, answerRefusal, recallRefusal, returnRefusal, declineRefusal, inquiryRefusal, confirmsRefusal, verdictOf}
+use Rattle.verdict.specs.Judgement.{coverInRefusal, coverOutRefusal, orderRefusal, answerRefusal, recallRefusal, returnRefusal, declineRefusal, inquiryRefusal, verdictOf}
 use Rattle.verdict.specs.Meaning.{aboutOf, factsOf, reportBy, toldBy, decisionBy, judgedBy}
 
 -- refused by n, or a step
@@ -277,7 +274,3 @@ module _ (x : Finding) where
 
   pub refuses-alike : firstRefusal x ≡ verdictOf (factsOf x) .refusal
   refuses-alike = ap (λ (j : Judged). j .refusal) judged-verdict
-
-  -- a refused verdict stands for the decision that all stays as it is
-  pub refused-keeps : (n : ℕ) → decisionBy x (refusedVerdict n) ≡ orderKept x nobody false Nobody
-  refused-keeps n = refl

@@ -21,7 +21,6 @@ use Rattle.rules.specs.Checks.{senderCheck, senderRefusal, sending, confirmRefu
 use Rattle.rules.specs.declared.checks.Limit.the-variants.{Within, Above}
 use Rattle.rules.specs.declared.decision.Move.{Move}
 use Rattle.rules.specs.declared.decision.Move.the-variants.{Stay, Give, Draw, Reserve, Release, Spend, Credit, Debit}
-use Rattle.rules.specs.declared.decision.Transfer.{Transfer}
 use Rattle.rules.specs.declared.Cover.{Cover}
 use Rattle.rules.specs.declared.verdict.Facts.{Facts}
 use Rattle.rules.specs.declared.verdict.Mover.{Mover}

@@ -53,7 +53,7 @@ use Rattle.core.proofs.taking.take.Proof.Expiring.{outer, taken, below,
 use Rattle.core.proofs.taking.take.Proof.Judging.{sender-number, order-number, payee-number, all-few, suits}
 use Rattle.core.proofs.taking.take.Proof.Carrying.{first-sum, second-has, second-sum, notices-fit}
 use Rattle.core.proofs.taking.take.Proof.Ending.{space, few-participants, cut-fits, uncut-whole, done}
-use Rattle.core.proofs.taking.take.Proof.Ways as way
+use Rattle.core.proofs.taking.take.Proof.Ways as to
 pub mod Invariants
 pub mod Places
 pub mod Ways
@@ -73,10 +73,10 @@ take-spec =
     μ-loop2
     Inv-loop
     μ-loop
-    (λ c κs. let s = way.start-from-After-orders c .pre .0 .orders in (s .count, s .padded))
+    (λ c κs. let s = to.start-from-After-orders c .pre .0 .orders in (s .count, s .padded))
     (λ c. let h = c .before .txids-of .ensures .0 in search needs)
-    (λ c κs. let few = way.start-from-After-txids c .pre .0 .orders .count in let h = c .before .txids-of .ensures .0 in (omega arith, omega arith))
-    (λ c κs. let s = way.start-from-After-covers c in (s .pre .0 .roster .size, rw (total-sum (s .args .t1)) (s .pre .0 .limited)))
+    (λ c κs. let few = to.start-from-After-txids c .pre .0 .orders .count in let h = c .before .txids-of .ensures .0 in (omega arith, omega arith))
+    (λ c κs. let s = to.start-from-After-covers c in (s .pre .0 .roster .size, rw (total-sum (s .args .t1)) (s .pre .0 .limited)))
     (λ c. begun c)
     (λ c. let g = start c .good in search needs)
     (λ c. let g = start c .good in let h = c .loop .inv .going .ticketsLeft in search needs)
@@ -90,52 +90,52 @@ take-spec =
     (λ c. let h = room c .ticket in let g = start (head c) .good in search needs)
     (λ c. let h = room c .ticket in let g = start (head c) .good in search needs)
     (λ c. let h = room c .ticket in let g = start (head c) .good in search needs)
-    (λ c. let h = way.head-from-After-heads2 c .loop .inv .index .headed in search needs)
-    (λ c. let h = way.head-from-After-links2 c .loop .inv .index .linked in search needs)
-    (λ c. let h = way.head-from-After-txids2 c .loop .inv .index .long in search needs)
+    (λ c. let h = to.head-from-After-heads2 c .loop .inv .index .headed in search needs)
+    (λ c. let h = to.head-from-After-links2 c .loop .inv .index .linked in search needs)
+    (λ c. let h = to.head-from-After-txids2 c .loop .inv .index .long in search needs)
     (λ c κs.
-    let h = way.head-from-After-txids2 c in
+    let h = to.head-from-After-txids2 c in
     let d = start h .pre .1 in
-    (whole-ticket (way.room-from-After-txids2 c), d .senders, txids-lent (sound h) (h .loop .inv .index), d .payees))
+    (whole-ticket (to.room-from-After-txids2 c), d .senders, txids-lent (sound h) (h .loop .inv .index), d .payees))
     (λ c. search needs)
     (λ c. search needs)
     (λ c κs. search needs)
-    (λ c κs. let h = room (way.room-from-After-refusal-of c) .answer in let e = long-answers (way.head-from-After-refusal-of c) in omega arith)
-    (λ c. let h = next-fits (way.room-from-After-slice-known3 c) in omega arith)
-    (λ c. let h = room (way.room-from-After-slice-known3 c) .ticket in omega arith)
+    (λ c κs. let h = room (to.room-from-After-refusal-of c) .answer in let e = long-answers (to.head-from-After-refusal-of c) in omega arith)
+    (λ c. let h = next-fits (to.room-from-After-slice-known3 c) in omega arith)
+    (λ c. let h = room (to.room-from-After-slice-known3 c) .ticket in omega arith)
     (λ c.
-    let h = way.head-from-After-slice-known3 c in
-    kept-on (h .loop .inv) (more (way.room-from-After-slice-known3 c)) (ticket-is h) (refused-done (way.refused-from-After-slice-known3 c))
-    (refused-is (way.number-from-After-slice-known3 c)) (way.answered-from-After-slice-known3 c .put-answer .ensures))
+    let h = to.head-from-After-slice-known3 c in
+    kept-on (h .loop .inv) (more (to.room-from-After-slice-known3 c)) (ticket-is h) (refused-done (to.refused-from-After-slice-known3 c))
+    (refused-is (to.number-from-After-slice-known3 c)) (to.answered-from-After-slice-known3 c .put-answer .ensures))
     (λ c.
     let h = outer c in
     (loop-begun (taken c) (h .loop .inv .passed), omega arith, h .loop .inv .few))
     (λ c. let h = number-below c in search needs)
     (λ c. number-below c)
     (λ c κs. early (c .before))
-    (λ c. let h = payee-below (way.sweeping-from-Else2 c) in search needs)
-    (λ c. payee-below (way.sweeping-from-Else2 c))
+    (λ c. let h = payee-below (to.sweeping-from-Else2 c) in search needs)
+    (λ c. payee-below (to.sweeping-from-Else2 c))
     (λ c κs. search needs)
     (λ c κs.
-    let i = way.sweeping-from-After-is-bank c in
+    let i = to.sweeping-from-After-is-bank c in
     let h = payer-below i in
     let k = payee-below i in
     let m = number-below i in
     (early i, omega arith, omega arith, omega arith))
-    (λ c. let h = number-below (way.sweeping-from-After-order c) in search needs)
-    (λ c. number-below (way.sweeping-from-After-order c))
-    (λ c. let h = freeable (way.lapse-from-After-freed c) .who in search needs)
-    (λ c. freeable (way.lapse-from-After-freed c) .who)
-    (λ c κs. freeable (way.lapse-from-After-moved-arg c) .fits)
-    (λ c. let h = freeable (way.lapse-from-After-moved c) .who in search needs)
-    (λ c. freeable (way.lapse-from-After-moved c) .who)
-    (λ c κs. told-fits (way.lapse-from-After-put-told-arg c))
-    (λ c. let h = number-below (way.sweeping-from-After-slice-known4 c) in search needs)
-    (λ c. let h = below (way.sweeping-from-After-slice-known4 c) in search needs)
+    (λ c. let h = number-below (to.sweeping-from-After-order c) in search needs)
+    (λ c. number-below (to.sweeping-from-After-order c))
+    (λ c. let h = freeable (to.lapse-from-After-freed c) .who in search needs)
+    (λ c. freeable (to.lapse-from-After-freed c) .who)
+    (λ c κs. freeable (to.lapse-from-After-moved-arg c) .fits)
+    (λ c. let h = freeable (to.lapse-from-After-moved c) .who in search needs)
+    (λ c. freeable (to.lapse-from-After-moved c) .who)
+    (λ c κs. told-fits (to.lapse-from-After-put-told-arg c))
+    (λ c. let h = number-below (to.sweeping-from-After-slice-known4 c) in search needs)
+    (λ c. let h = below (to.sweeping-from-After-slice-known4 c) in search needs)
     (λ c. one-expired c)
     (λ c κs. search needs)
     (λ c κs. search needs)
-    (λ c κs. way.start-from-After-covers2 c .pre .0 .roster .size)
+    (λ c κs. to.start-from-After-covers2 c .pre .0 .roster .size)
     (λ c κs. search needs)
     (λ c κs. search needs)
     (λ c. let h = sender-number c in search needs)
@@ -146,62 +146,62 @@ take-spec =
     (λ c. payee-number (c .before .before))
     (λ c κs. search needs)
     (λ c κs. all-few c)
-    (λ c. let h = suits (way.judged-from-After-first c) .first in search needs)
-    (λ c. suits (way.judged-from-After-first c) .first)
-    (λ c κs. suits (way.judged-from-After-old c) .firstRoom)
+    (λ c. let h = suits (to.judged-from-After-first c) .first in search needs)
+    (λ c. suits (to.judged-from-After-first c) .first)
+    (λ c κs. suits (to.judged-from-After-old c) .firstRoom)
     (λ c κs. first-sum c)
-    (λ c. let h = suits (way.judged-from-After-total-with c) .first in search needs)
-    (λ c. suits (way.judged-from-After-total-with c) .first)
-    (λ c. let h = suits (way.judged-from-After-second c) .second in search needs)
-    (λ c. suits (way.judged-from-After-second c) .second)
+    (λ c. let h = suits (to.judged-from-After-total-with c) .first in search needs)
+    (λ c. suits (to.judged-from-After-total-with c) .first)
+    (λ c. let h = suits (to.judged-from-After-second c) .second in search needs)
+    (λ c. suits (to.judged-from-After-second c) .second)
     (λ c κs. second-has c)
     (λ c κs. second-sum c)
-    (λ c. let h = suits (way.judged-from-After-total-with2 c) .second in search needs)
-    (λ c. suits (way.judged-from-After-total-with2 c) .second)
-    (λ c κs. let f = suits (way.judged-from-After-put-notices-arg c) in (f .told, f .also, f .number, notices-fit c))
+    (λ c. let h = suits (to.judged-from-After-total-with2 c) .second in search needs)
+    (λ c. suits (to.judged-from-After-total-with2 c) .second)
+    (λ c κs. let f = suits (to.judged-from-After-put-notices-arg c) in (f .told, f .also, f .number, notices-fit c))
     (λ c. search needs)
     (λ c. search needs)
     (λ c. search needs)
     (λ c. search needs)
-    (λ c. let h = whole-ticket (way.room-from-After-enum-told3 c) in search needs)
+    (λ c. let h = whole-ticket (to.room-from-After-enum-told3 c) in search needs)
     (λ c. search needs)
-    (λ c κs. txid-long (way.room-from-After-txid c))
-    (λ c. let h = way.head-from-After-heads3 c .loop .inv .index .headed in search needs)
-    (λ c. let h = way.head-from-After-links3 c .loop .inv .index .linked in search needs)
-    (λ c. let h = way.head-from-After-txids3 c .loop .inv .index .long in search needs)
+    (λ c κs. txid-long (to.room-from-After-txid c))
+    (λ c. let h = to.head-from-After-heads3 c .loop .inv .index .headed in search needs)
+    (λ c. let h = to.head-from-After-links3 c .loop .inv .index .linked in search needs)
+    (λ c. let h = to.head-from-After-txids3 c .loop .inv .index .long in search needs)
     (λ c. search needs)
     (λ c. search needs)
-    (λ c. let h = whole-ticket (way.room-from-After-txids3 c) in search needs)
+    (λ c. let h = whole-ticket (to.room-from-After-txids3 c) in search needs)
     (λ c κs.
-    let x = way.head-from-After-put-txid-arg c .loop .inv .index in
-    let few = space (way.opens-from-After-put-txid-arg c) in
+    let x = to.head-from-After-put-txid-arg c .loop .inv .index in
+    let few = space (to.opens-from-After-put-txid-arg c) in
     let linked = x .linked in
     let long = x .long in
-    (x .headed, omega arith, omega arith, omega arith, txid-long (way.room-from-After-put-txid-arg c)))
+    (x .headed, omega arith, omega arith, omega arith, txid-long (to.room-from-After-put-txid-arg c)))
     (λ c κs. search needs)
     (λ c κs. search needs)
-    (λ c. let h = space (way.opens-from-After-reached c) in search needs)
-    (λ c. space (way.opens-from-After-reached c))
-    (λ c. let h = space (way.opens-from-After-reached c) in search needs)
+    (λ c. let h = space (to.opens-from-After-reached c) in search needs)
+    (λ c. space (to.opens-from-After-reached c))
+    (λ c. let h = space (to.opens-from-After-reached c) in search needs)
     (λ c. search needs)
-    (λ c. let h = order-number (way.numbers-from-After-known-told2 c) in search needs)
-    (λ c. order-number (way.numbers-from-After-known-told2 c))
+    (λ c. let h = order-number (to.numbers-from-After-known-told2 c) in search needs)
+    (λ c. order-number (to.numbers-from-After-known-told2 c))
     (λ c κs. search needs)
-    (λ c. let h = order-number (way.numbers-from-After-with-status c) in search needs)
-    (λ c. order-number (way.numbers-from-After-with-status c))
+    (λ c. let h = order-number (to.numbers-from-After-with-status c) in search needs)
+    (λ c. order-number (to.numbers-from-After-with-status c))
     (λ c. search needs)
     (λ c κs. (few-participants c, cut-fits c))
-    (λ c κs. let p = way.cutting-from-After-slice-known6 c in (few-participants p, uncut-whole p))
-    (λ c. let h = done (way.done-from-After-row-known c) .told in omega arith)
-    (λ c. let d = done (way.done-from-After-row-known c) in let h = d .told in let few = d .fewTold in omega arith)
-    (λ c. let h = done (way.done-from-After-row-known2 c) .fewRows in omega arith)
-    (λ c κs. let h = room (way.room-from-After-row-known2 c) .answer in let e = long-answers (way.head-from-After-row-known2 c) in omega arith)
-    (λ c. let h = next-fits (way.room-from-After-slice-known7 c) in omega arith)
-    (λ c. let h = room (way.room-from-After-slice-known7 c) .ticket in omega arith)
+    (λ c κs. let p = to.cutting-from-After-slice-known6 c in (few-participants p, uncut-whole p))
+    (λ c. let h = done (to.done-from-After-row-known c) .told in omega arith)
+    (λ c. let d = done (to.done-from-After-row-known c) in let h = d .told in let few = d .fewTold in omega arith)
+    (λ c. let h = done (to.done-from-After-row-known2 c) .fewRows in omega arith)
+    (λ c κs. let h = room (to.room-from-After-row-known2 c) .answer in let e = long-answers (to.head-from-After-row-known2 c) in omega arith)
+    (λ c. let h = next-fits (to.room-from-After-slice-known7 c) in omega arith)
+    (λ c. let h = room (to.room-from-After-slice-known7 c) .ticket in omega arith)
     (λ c.
-    let h = way.head-from-After-slice-known7 c in
-    let d = done (way.done-from-After-slice-known7 c) in
-    kept-on (h .loop .inv) (more (way.room-from-After-slice-known7 c)) (ticket-is h) d (answer-is d) (way.told-all-from-After-slice-known7 c .put-answer2 .ensures))
+    let h = to.head-from-After-slice-known7 c in
+    let d = done (to.done-from-After-slice-known7 c) in
+    kept-on (h .loop .inv) (more (to.room-from-After-slice-known7 c)) (ticket-is h) d (answer-is d) (to.told-all-from-After-slice-known7 c .put-answer2 .ensures))
     (λ c. long-answers (last c))
     (λ c. long-reports (last c))
     (λ c. let l = last c in ended (start l .args .t1) (tickets l) (answers₀ l) (reports₀ l) (l .loop .inv .going) (none-more c)))

@@ -14,12 +14,12 @@ use Rattle.core.proofs.taking.take.Proof.Loop.{reports₀, long-reports
 use Rattle.core.proofs.taking.take.Proof.Expiring.{hd, swept-book, expired}
 use Rattle.core.proofs.taking.take.Proof.Judging.{swept-at, v, suits}
 use Rattle.core.proofs.taking.take.Proof.Places as at
-use Rattle.core.proofs.taking.take.Proof.Ways as way
+use Rattle.core.proofs.taking.take.Proof.Ways as to
 
 -- the first cover has changed
 module _ (c : at.After-moved2) where
   abbrev judged-1 : at.After-judge
-  judged-1 = way.judged-from-After-moved2 c
+  judged-1 = to.judged-from-After-moved2 c
 
   abbrev swept-1 : at.Left-loop2
   swept-1 = swept-at judged-1
@@ -31,10 +31,10 @@ module _ (c : at.After-moved2) where
 -- the second is about to
 module _ (c : at.After-old2) where
   abbrev judged-2 : at.After-judge
-  judged-2 = way.judged-from-After-old2 c
+  judged-2 = to.judged-from-After-old2 c
 
   abbrev moved-2 : at.After-moved2
-  moved-2 = way.first-from-After-old2 c
+  moved-2 = to.first-from-After-old2 c
 
   pub second-has : Room (v judged-2 .second .how) (v judged-2 .amount)
       (coverOf (set (swept-book (swept-at judged-2) .covers) (v judged-2 .first .who) (moved-2 .moved2 .result)) (v judged-2 .second .who))
@@ -44,13 +44,13 @@ module _ (c : at.After-old2) where
 -- it has
 module _ (c : at.After-moved3) where
   abbrev judged-3 : at.After-judge
-  judged-3 = way.judged-from-After-moved3 c
+  judged-3 = to.judged-from-After-moved3 c
 
   abbrev first-3 : at.After-moved2
-  first-3 = way.first-from-After-moved3 c
+  first-3 = to.first-from-After-moved3 c
 
   abbrev sum-3 : at.After-total-with
-  sum-3 = way.sum-from-After-moved3 c
+  sum-3 = to.sum-from-After-moved3 c
 
   pub second-sum : (whole (coverOf (set (swept-book (swept-at judged-3) .covers) (v judged-3 .first .who) (first-3 .moved2 .result)) (v judged-3 .second .who))
       ≤ sum-3 .total-with .result)
@@ -62,37 +62,37 @@ module _ (c : at.After-moved3) where
 -- there is room for what is told
 module _ (c : at.After-put-notices-arg) where
   abbrev judged-4 : at.After-judge
-  judged-4 = way.judged-from-After-put-notices-arg c
+  judged-4 = to.judged-from-After-put-notices-arg c
 
   pub notices-fit : 12 * swept-at judged-4 .before .loop2 .n + 12 * length (reportsOf (v judged-4)) ≤ length (swept-at judged-4 .before .loop2 .reports)
   notices-fit =
-      let has = room (way.room-from-After-put-notices-arg c) .report in
+      let has = room (to.room-from-After-put-notices-arg c) .report in
       let long = long-reports (hd (swept-at judged-4)) in
       told-room (expired (swept-at judged-4)) (suits judged-4) (omega arith)
 
 -- told
 module _ (c : at.After-slice-known5) where
   abbrev pub judged-at : at.After-judge
-  judged-at = way.judged-from-After-slice-known5 c
+  judged-at = to.judged-from-After-slice-known5 c
 
   abbrev pub left-at : at.Left-loop2
   left-at = swept-at judged-at
 
   abbrev pub first-new : Cover
-  first-new = way.first-from-After-slice-known5 c .moved2 .result
+  first-new = to.first-from-After-slice-known5 c .moved2 .result
 
   abbrev pub second-new : Cover
-  second-new = way.second-from-After-slice-known5 c .moved3 .result
+  second-new = to.second-from-After-slice-known5 c .moved3 .result
 
   -- the covers as the code has them
   abbrev pub both : List Cover
   both = set (set (swept-book left-at .covers) (v judged-at .first .who) first-new) (v judged-at .second .who) second-new
 
   pub carried-out : Carried (swept-book left-at) (v judged-at) (left-at .before .loop2 .n) (left-at .before .loop2 .reports) both
-      (way.total-from-After-slice-known5 c .total-with2 .result) (way.told-from-After-slice-known5 c .put-notices .result)
-      (way.told-from-After-slice-known5 c .put-notices .last .0)
+      (to.total-from-After-slice-known5 c .total-with2 .result) (to.told-from-After-slice-known5 c .put-notices .result)
+      (to.told-from-After-slice-known5 c .put-notices .last .0)
   carried-out =
-      carried (expired left-at) (suits judged-at) (way.first-from-After-slice-known5 c .moved2 .ensures) (hd left-at .loop .inv .sum)
-      (way.sum-from-After-slice-known5 c .total-with .ensures) (way.second-from-After-slice-known5 c .moved3 .ensures)
-      (way.total-from-After-slice-known5 c .total-with2 .ensures) (way.told-from-After-slice-known5 c .put-notices .ensures .1)
-      (way.told-from-After-slice-known5 c .put-notices .ensures .0)
+      carried (expired left-at) (suits judged-at) (to.first-from-After-slice-known5 c .moved2 .ensures) (hd left-at .loop .inv .sum)
+      (to.sum-from-After-slice-known5 c .total-with .ensures) (to.second-from-After-slice-known5 c .moved3 .ensures)
+      (to.total-from-After-slice-known5 c .total-with2 .ensures) (to.told-from-After-slice-known5 c .put-notices .ensures .1)
+      (to.told-from-After-slice-known5 c .put-notices .ensures .0)

@@ -26,12 +26,12 @@ use Rattle.core.proofs.taking.take.Proof.Expiring.{saw, seen-at, hd, sw
 use Rattle.core.proofs.taking.take.Proof.Judging.{follows, searched, v, verdict-is, suits}
 use Rattle.core.proofs.taking.take.Proof.Carrying.{judged-at, left-at, both, carried-out}
 use Rattle.core.proofs.taking.take.Proof.Places as at
-use Rattle.core.proofs.taking.take.Proof.Ways as way
+use Rattle.core.proofs.taking.take.Proof.Ways as to
 
 -- an order is opened: there is space
 module _ (c : at.After-enum-told3) where
   abbrev told-o : at.After-slice-known5
-  told-o = way.carried-from-After-enum-told3 c
+  told-o = to.carried-from-After-enum-told3 c
 
   pub space : swept-book (left-at told-o) .count < 256
   space = suits (judged-at told-o) .opens (c .enum-told3 .given .1)
@@ -39,7 +39,7 @@ module _ (c : at.After-enum-told3) where
 -- a cut: there is room for its reports, and no cover is above the limit
 module _ (c : at.After-put-cut-arg) where
   abbrev told-c : at.After-slice-known5
-  told-c = way.carried-from-After-put-cut-arg c
+  told-c = to.carried-from-After-put-cut-arg c
 
   abbrev j-c : at.After-judge
   j-c = judged-at told-c
@@ -52,22 +52,22 @@ module _ (c : at.After-put-cut-arg) where
 
   pub few-participants : r-c .size ≤ 32
   few-participants =
-      cut-size (expired (left-at told-c)) (suits j-c) (carried-out told-c) (way.cuts-from-After-put-cut-arg c .enum-told4 .given .1) (sym (h-c .loop .inv .roster))
+      cut-size (expired (left-at told-c)) (suits j-c) (carried-out told-c) (to.cuts-from-After-put-cut-arg c .enum-told4 .given .1) (sym (h-c .loop .inv .roster))
 
-  pub cut-fits : 12 * way.told-from-After-put-cut-arg c .put-notices .result + 12 * r-c .size ≤ length (way.told-from-After-put-cut-arg c .put-notices .last .0)
+  pub cut-fits : 12 * to.told-from-After-put-cut-arg c .put-notices .result + 12 * r-c .size ≤ length (to.told-from-After-put-cut-arg c .put-notices .last .0)
   cut-fits =
-      let has = room (way.room-from-After-put-cut-arg c) .report in
+      let has = room (to.room-from-After-put-cut-arg c) .report in
       let long = long-reports h-c in
-      cut-room (expired (left-at told-c)) (suits j-c) (carried-out told-c) (way.cuts-from-After-put-cut-arg c .enum-told4 .given .1) (sym (h-c .loop .inv .roster))
+      cut-room (expired (left-at told-c)) (suits j-c) (carried-out told-c) (to.cuts-from-After-put-cut-arg c .enum-told4 .given .1) (sym (h-c .loop .inv .roster))
       (omega arith)
 
   pub uncut-whole : (p : ℕ) → p < r-c .size → whole (coverOf (both told-c) p) ≤ mostTotal
   uncut-whole =
-      cut-whole (expired (left-at told-c)) (suits j-c) (carried-out told-c) (way.cuts-from-After-put-cut-arg c .enum-told4 .given .1) (sym (h-c .loop .inv .roster))
+      cut-whole (expired (left-at told-c)) (suits j-c) (carried-out told-c) (to.cuts-from-After-put-cut-arg c .enum-told4 .given .1) (sym (h-c .loop .inv .roster))
 
 module _ (c : at.At-match2-came) where
   abbrev told-at : at.After-slice-known5
-  told-at = way.carried-from-At-match2-came c
+  told-at = to.carried-from-At-match2-came c
 
   abbrev left : at.Left-loop2
   left = left-at told-at
@@ -82,7 +82,7 @@ module _ (c : at.At-match2-came) where
   book = swept-book left
 
   abbrev numbers : at.After-number-of2
-  numbers = way.numbers-from-At-match2-came c
+  numbers = to.numbers-from-At-match2-came c
 
   -- the new order, as the code makes it
   abbrev newly : List ℕ → ℕ → Order
@@ -102,7 +102,7 @@ module _ (c : at.At-match2-came) where
 
   pub done : Done txidWords rowBucket (b hh) (ticket hh) (hh .loop .n) (hh .loop .reports) (c .match2 .b) (v j .refusal) (c .match2 .followed) (c .match2 .n)
       (c .match2 .reports) (left .before .loop2 .next) (c .match2 .txids) (c .match2 .heads) (c .match2 .links)
-      (way.total-from-At-match2-came c .total-with2 .result)
+      (to.total-from-At-match2-came c .total-with2 .result)
   done =
       let w = expired left in
       let is = verdict-is j in
@@ -110,7 +110,7 @@ module _ (c : at.At-match2-came) where
       let index = hh .loop .inv .index in
       let ours = sym (hh .loop .inv .roster) in
       let found = searched numbers in
-      let way = follows (way.way-from-At-match2-came c) in
+      let way = follows (to.way-from-At-match2-came c) in
       ⊎-elim
       (λ x. done-as (did-nothing w is k index (x .1 .given .1) (x .3)) (x .2) (x .4) (x .5) (x .6) (x .7) (x .8))
       (⊎-elim

@@ -30,12 +30,12 @@ use Rattle.core.proofs.taking.take.Proof.Seen.{top, seen-is}
 use Rattle.core.proofs.taking.take.Tie as tie
 use Rattle.core.proofs.taking.take.Proof.Invariants.{Inv-loop2, μ-loop2, Inv-loop, μ-loop}
 use Rattle.core.proofs.taking.take.Proof.Places as at
-use Rattle.core.proofs.taking.take.Proof.Ways as way
+use Rattle.core.proofs.taking.take.Proof.Ways as to
 
 -- the ticket passes
 module _ (c : at.After-known-told) where
   abbrev pub outer : at.At-loop
-  outer = top (way.seen-from-After-known-told c)
+  outer = top (to.seen-from-After-known-told c)
 
   abbrev pub saw : Seen
   saw = c .before .sight .given .0 .0
@@ -44,7 +44,7 @@ module _ (c : at.After-known-told) where
   entry = entryBy saw
 
   pub sighted : Sighted (b outer) (ticket outer) saw
-  sighted = sight-read (b outer) (ticket outer) (sym (seen-is (way.seen-from-After-known-told c)) ∙ c .before .sight .given .1)
+  sighted = sight-read (b outer) (ticket outer) (sym (seen-is (to.seen-from-After-known-told c)) ∙ c .before .sight .given .1)
 
   pub taken : Taken (b outer) (ticket outer) entry
   taken = record { sound = sound outer; is = sighted .is; passes = refl }
@@ -58,7 +58,7 @@ module _ (c : at.After-known-told) where
 -- an order is looked at
 module _ (c : at.In-loop2) where
   abbrev pub passed : at.After-known-told
-  passed = way.passed-from-In-loop2 c
+  passed = to.passed-from-In-loop2 c
 
   abbrev pub now-book : Book
   now-book = c .before .loop2 .b
@@ -97,7 +97,7 @@ module _ (c : at.In-loop2) where
 -- one that is old enough is held against the clock
 module _ (c : at.After-expire) where
   abbrev pub in-loop : at.In-loop2
-  in-loop = way.sweeping-from-After-expire c
+  in-loop = to.sweeping-from-After-expire c
 
   abbrev book : Book
   book = now-book in-loop
@@ -128,21 +128,21 @@ module _ (c : at.After-expire) where
   told-fits =
       let few = at-few (begins (passed in-loop)) (begins-sound (passed in-loop)) _ _ (sweeping in-loop) (below in-loop) in
       let two = listed-few (c .expire .result .told) in
-      let has = room (way.room-from-After-expire c) .report in
+      let has = room (to.room-from-After-expire c) .report in
       let e = text-long in
       omega arith
 
 -- one order more
 pub one-expired : tie.Need-loop2-again Inv-loop2 μ-loop2 Inv-loop μ-loop
 one-expired c =
-    let x = way.lapse-from-After-slice-known4 c in
+    let x = to.lapse-from-After-slice-known4 c in
     let l = in-loop x in
     let p = passed l in
-    let moved = way.freed-from-After-slice-known4 c in
-    let put = way.reported-from-After-slice-known4 c in
+    let moved = to.freed-from-After-slice-known4 c in
+    let put = to.reported-from-After-slice-known4 c in
     let w = l .before .loop2 .inv in (
       one-more (begins p) (begins-sound p) _ _ (w .0) (below l)
-          (ltb-false _ _ (sym (way.young-from-After-slice-known4 c .is-young .ensures) ∙ way.old-from-After-slice-known4 c .if2 .left)) _ _ _
+          (ltb-false _ _ (sym (to.young-from-After-slice-known4 c .is-young .ensures) ∙ to.old-from-After-slice-known4 c .if2 .left)) _ _ _
           (ap
           (λ (z : Cover).
           record {
@@ -164,7 +164,7 @@ one-expired c =
 -- the orders have been looked at
 module _ (c : at.Left-loop2) where
   abbrev pub seen-at : at.After-known-told
-  seen-at = way.passed-from-Left-loop2 c
+  seen-at = to.passed-from-Left-loop2 c
 
   abbrev pub hd : at.At-loop
   hd = outer seen-at

@@ -23,12 +23,12 @@ use Rattle.turns.proofs.Fitting.{Fits, fits}
 use Rattle.core.proofs.taking.take.Proof.Loop.{start, b, ticket}
 use Rattle.core.proofs.taking.take.Proof.Expiring.{saw, entry, sighted, seen-at, hd, swept-book, expired}
 use Rattle.core.proofs.taking.take.Proof.Places as at
-use Rattle.core.proofs.taking.take.Proof.Ways as way
+use Rattle.core.proofs.taking.take.Proof.Ways as to
 
 -- where the row leads
 module _ (c : at.After-end-of) where
   abbrev from : at.Left-loop2
-  from = way.swept-from-After-end-of c
+  from = to.swept-from-After-end-of c
 
   abbrev begun : at.Start
   begun = start (hd from)
@@ -42,7 +42,7 @@ module _ (c : at.After-end-of) where
 -- held and open debit anywhere
 module _ (c : at.Joined3) where
   abbrev at-cut : at.Left-loop2
-  at-cut = way.swept-from-Joined3 c
+  at-cut = to.swept-from-Joined3 c
 
   abbrev r : Roster
   r = start (hd at-cut) .args .t1 .roster
@@ -63,7 +63,7 @@ module _ (c : at.Joined3) where
 -- the numbers of sender and order
 module _ (c : at.After-number-of2) where
   abbrev swept-n : at.Left-loop2
-  swept-n = way.swept-from-After-number-of2 c
+  swept-n = to.swept-from-After-number-of2 c
 
   pub searched : Searched (b (hd swept-n)) (ticket (hd swept-n)) (entry (seen-at swept-n)) (saw (seen-at swept-n) .sender) (saw (seen-at swept-n) .order)
       (saw (seen-at swept-n) .route) (c .before .number-of .result) (c .number-of2 .result)
@@ -83,7 +83,7 @@ module _ (c : at.After-number-of2) where
 -- the facts
 module _ (c : at.After-is-bank2) where
   abbrev swept-f : at.Left-loop2
-  swept-f = way.swept-from-After-is-bank2 c
+  swept-f = to.swept-from-After-is-bank2 c
 
   pub all-few : hd swept-f .loop .total ≤ mostTotal
   all-few = total-few (expired swept-f) (hd swept-f .loop .inv .sum)
@@ -91,14 +91,14 @@ module _ (c : at.After-is-bank2) where
   abbrev pub facts : (x : Facts) × (x ≡ factsOf (sought (swept-book swept-f) (entry (seen-at swept-f)) (ticket (hd swept-f))))
   facts = (
     _,
-    facts-are (expired swept-f) (searched (way.numbers-from-After-is-bank2 c)) (sym (hd swept-f .loop .inv .roster))
-        (follows (way.way-from-After-is-bank2 c)) (c .is-bank2 .ensures) (open-is (way.joined-from-After-is-bank2 c)) (hd swept-f .loop .inv .sum),
+    facts-are (expired swept-f) (searched (to.numbers-from-After-is-bank2 c)) (sym (hd swept-f .loop .inv .roster))
+        (follows (to.way-from-After-is-bank2 c)) (c .is-bank2 .ensures) (open-is (to.joined-from-After-is-bank2 c)) (hd swept-f .loop .inv .sum),
   )
 
 -- the verdict
 module _ (c : at.After-judge) where
   abbrev pub swept-at : at.Left-loop2
-  swept-at = way.swept-from-After-judge c
+  swept-at = to.swept-from-After-judge c
 
   abbrev pub v : Verdict
   v = c .judge .result

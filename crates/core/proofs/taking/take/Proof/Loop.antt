@@ -16,12 +16,12 @@ use Rattle.intake.proofs.Running.{RoomFor, room-left, answers-long, reports-lon
 use Rattle.index.specs.Words.{Bytes}
 use Rattle.index.proofs.Comparing.{part-bytes, slice-bytes}
 use Rattle.core.proofs.taking.take.Proof.Places as at
-use Rattle.core.proofs.taking.take.Proof.Ways as way
+use Rattle.core.proofs.taking.take.Proof.Ways as to
 
 -- at its head
 module _ (l : at.At-loop) where
   abbrev pub start : at.Start
-  start = way.start-from-At-loop l
+  start = to.start-from-At-loop l
 
   abbrev pub b : Book
   b = l .loop .b
@@ -54,12 +54,12 @@ module _ (l : at.At-loop) where
 
   pub ticket-bytes : Bytes ticket
   ticket-bytes =
-      part-bytes (slice-bytes tickets (way.known-from-At-loop l .shared-slice-known .given)) (108 * l .loop .taken + 108 - 108 * l .loop .taken) (108 * l .loop .taken)
+      part-bytes (slice-bytes tickets (to.known-from-At-loop l .shared-slice-known .given)) (108 * l .loop .taken + 108 - 108 * l .loop .taken) (108 * l .loop .taken)
 
 -- there is room for it
 module _ (c : at.Then1) where
   abbrev pub head : at.At-loop
-  head = way.head-from-Then1 c
+  head = to.head-from-Then1 c
 
   pub more : roomLeft (length (tickets head) - 108 * head .loop .taken) (length (answers₀ head) - 4 * head .loop .taken) (length (reports₀ head) - 12 * head .loop .n) ≡ true
   more =
@@ -84,7 +84,7 @@ module _ (c : at.Then1) where
 -- there is none
 module _ (c : at.Else1) where
   abbrev pub last : at.At-loop
-  last = way.head-from-Else1 c
+  last = to.head-from-Else1 c
 
   pub none-more : roomLeft (length (tickets last) - 108 * last .loop .taken) (length (answers₀ last) - 4 * last .loop .taken) (length (reports₀ last) - 12 * last .loop .n) ≡ false
   none-more =

@@ -18,11 +18,11 @@ use Rattle.core.proofs.Seeing.{sight-refused}
 use Rattle.core.proofs.Searching.{all-found}
 use Rattle.core.proofs.taking.take.Proof.Loop.{start, b, sound, ticket, ticket-bytes, whole-ticket}
 use Rattle.core.proofs.taking.take.Proof.Places as at
-use Rattle.core.proofs.taking.take.Proof.Ways as way
+use Rattle.core.proofs.taking.take.Proof.Ways as to
 
 module _ (c : at.After-see) where
   abbrev pub top : at.At-loop
-  top = way.head-from-After-see c
+  top = to.head-from-After-see c
 
   pub seen-is : c .see .result
       ≡ sightOf (b top .clock) (ticket top) (senderIn (b top .roster) (ticket top)) (orderIn (b top .orders) (b top .count) (ticket top))
@@ -30,13 +30,13 @@ module _ (c : at.After-see) where
   seen-is =
       let s = start top in
       c .see .ensures
-      ∙ all-found (s .pre .0 .roster) (s .pre .1) (ticket top) (whole-ticket (way.room-from-After-see c)) (ticket-bytes top) (sound top) (top .loop .inv .index)
+      ∙ all-found (s .pre .0 .roster) (s .pre .1) (ticket top) (whole-ticket (to.room-from-After-see c)) (ticket-bytes top) (sound top) (top .loop .inv .index)
       (top .loop .inv .roster)
 
 -- refused
 module _ (c : at.After-enum-told) where
   abbrev seen : at.After-see
-  seen = way.seen-from-After-enum-told c
+  seen = to.seen-from-After-enum-told c
 
   abbrev h : at.At-loop
   h = top seen
@@ -55,7 +55,7 @@ module _ (c : at.After-enum-told) where
 -- its answer
 module _ (c : at.After-refusal-of) where
   abbrev told : at.After-enum-told
-  told = way.refused-from-After-refusal-of c
+  told = to.refused-from-After-refusal-of c
 
   abbrev r : at.At-loop
   r = h told

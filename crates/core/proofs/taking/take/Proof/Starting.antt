@@ -10,13 +10,13 @@ use Rattle.intake.proofs.Summing.{all-total}
 use Rattle.index.proofs.Lending.{chained-fields}
 use Rattle.core.proofs.taking.take.Tie as tie
 use Rattle.core.proofs.taking.take.Proof.Invariants.{Inv-loop2, μ-loop2, Inv-loop, μ-loop}
-use Rattle.core.proofs.taking.take.Proof.Ways as way
+use Rattle.core.proofs.taking.take.Proof.Ways as to
 
 pub begun : tie.Need-loop-holds Inv-loop2 μ-loop2 Inv-loop μ-loop
 begun c =
-    let s = way.start-from-After-total-of c in
-    let rows = way.rows-from-After-total-of c .txids-of .ensures in
-    let chains = way.chains-from-After-total-of c .txid-chains .ensures in
+    let s = to.start-from-After-total-of c in
+    let rows = to.rows-from-After-total-of c .txids-of .ensures in
+    let chains = to.chains-from-After-total-of c .txid-chains .ensures in
     record {
       going = started (s .args .t1) (now (s .args .tickets)) (now (s .args .answers)) (now (s .args .reports)) (s .pre .0);
       roster = refl;

@@ -1,0 +1,33 @@
+-- No rows at all may be lent to a search. Assumes nothing.
+use mathlib.Core.List.{List}
+use mathlib.Core.Path.{_≡_}
+use Prim.Native.Nat.{ℕ, _*_}
+use native.Mathlib.Omega.{arith}
+use lib.ListN.{length}
+use Rattle.fields.specs.Number.{part}
+use Rattle.index.specs.Chains.{buckets, rowBucket, Chained}
+use Rattle.index.specs.Lent.{BicRows, TxidRows}
+
+pub no-bics : {rows heads links : List ℕ} → length heads ≡ buckets → Chained (λ i. rowBucket (part 2 (2 * i) rows)) 0 heads links
+    → BicRows 0 rows heads links
+no-bics headed chained =
+    record {
+      headed = headed;
+      linked = omega arith;
+      long = omega arith;
+      chained = chained;
+      distinct = record { differ = λ i j l k. absurd (omega arith) };
+      formed = λ s l b e. cc;
+    }
+
+pub no-txids : {rows heads links : List ℕ} → length heads ≡ buckets → Chained (λ i. rowBucket (part 5 (5 * i) rows)) 0 heads links
+    → TxidRows 0 rows heads links
+no-txids headed chained =
+    record {
+      headed = headed;
+      linked = omega arith;
+      long = omega arith;
+      chained = chained;
+      distinct = record { differ = λ i j l k. absurd (omega arith) };
+      formed = λ s l b e. cc;
+    }
