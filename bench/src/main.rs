@@ -12,7 +12,7 @@ use std::process::ExitCode;
 use std::time::{Duration, Instant};
 
 /// The steps are to take at most this share of the peer's time.
-const GOAL: f64 = 0.5;
+const GOAL: f64 = 0.65;
 
 const USAGE: &str = "usage: steps days DAYFILE...
        steps growth
