@@ -185,6 +185,22 @@ pub fn take<'a>(
             total,
         });
 
+        // refused by 12 to 22, it leaves what a tick of its time leaves
+        let refused = v.refusal != 0;
+        if refused {
+            answer::put_answer(
+                answers,
+                taken,
+                Answer {
+                    refusal: v.refusal,
+                    reports: (n - before) as u16,
+                    rows: 0,
+                },
+            );
+            taken += 1;
+            continue;
+        }
+
         // covers move
         let first = v.first;
         let how = first.how;

@@ -3,6 +3,7 @@
 --     first-fits, second-fits     the sum of all cover, with each cover changed, does not leave its range
 --     second-room                 there is room for the second move
 --     carried                     both moves and the reports, from what the code has
+--     nothing-carried             of a refused ticket, neither
 --     told-room, cut-room         the text has room
 use mathlib.Core.Path.{_≡_, sym, _∙_, ap, subst}
 use mathlib.Core.List.{List}
@@ -23,6 +24,7 @@ use Rattle.rules.specs.declared.verdict.Verdict.{Verdict}
 use Rattle.rules.specs.declared.Cover.{Cover}
 use Rattle.rules.specs.declared.Book.{Book}
 use Rattle.rules.proofs.Moving.{nobody-moves}
+use Rattle.verdict.specs.Step.{refusedVerdict}
 use Rattle.intake.specs.Room.{mostNumber, Room}
 use Rattle.intake.specs.declared.Entry.{Entry}
 use Rattle.intake.proofs.Applying.{listed-few}
@@ -58,6 +60,22 @@ module _ (u : Mover) (n : ℕ) (cs : List Cover) (long : length cs ≡ mostParti
 
   sum-after : {all′ : ℕ} → all′ ≡ all - whole (coverOf cs (u .who)) + whole new → all′ ≡ allOf (set cs (u .who) new)
   sum-after e = e ∙ ap (λ (k : ℕ). k - whole (coverOf cs (u .who)) + whole new) sum ∙ all-changed cs long (u .who) few new
+
+-- a refused ticket moves no cover and tells nothing
+pub nothing-carried : {b : Book} {t : List ℕ} {e : Entry} {n₀ : ℕ} {text₀ : List ℕ} {c : Book} {m n : ℕ} {text : List ℕ}
+    → Expired b t e n₀ text₀ c m n text → {v : Verdict} → v ≡ refusedVerdict (v .refusal) → {all : ℕ} → all ≡ allOf (b .covers)
+    → Carried c v n text (c .covers) all n text
+nothing-carried {c = c} {n = n} {text} w is sum =
+    record {
+      covers =
+          sym
+          (ap (λ (y : Verdict). movedBy (y .second) (y .amount) (movedBy (y .first) (y .amount) (c .covers))) is
+          ∙ nobody-moves (transferred nobody (c .covers))
+          ∙ nobody-moves (c .covers));
+      sum = sum ∙ sym (after-all w);
+      told = sym (ap (λ (y : Verdict). n + length (reportsOf y)) is ∙ add-zero n);
+      reports = sym (ap (λ (y : Verdict). sets text (12 * n) (reportsBytes (reportsOf y))) is);
+    }
 
 module _ {b : Book} {t : List ℕ} {e : Entry} {n₀ : ℕ} {text₀ : List ℕ} {c : Book} {m n : ℕ} {text : List ℕ}
     (w : Expired b t e n₀ text₀ c m n text) {v : Verdict} (f : Fits c v) where

@@ -28,12 +28,14 @@
 -- place second: After-moved3
 -- place total: After-total-with2
 -- place told: After-put-notices
--- place carried: After-slice-known5
+-- place carried: After-slice-known6
 -- place opens: After-enum-told3
 -- place cuts: After-enum-told4
 -- place cutting: After-put-cut-arg
 -- place done: At-match2-came
--- place told-all: After-put-answer2
+-- place told-all: After-put-answer3
+-- place late: Then4
+-- place late-told: After-put-answer2
 use mathlib.Core.Path.{_≡_}
 use native.Mathlib.Omega.{arith}
 use borrow.Author.Needs.{needs}
@@ -51,6 +53,7 @@ use Rattle.core.proofs.taking.take.Proof.Loop.{start, tickets, answers�
 use Rattle.core.proofs.taking.take.Proof.Seen.{refused-done, refused-is}
 use Rattle.core.proofs.taking.take.Proof.Expiring.{outer, taken, below, number-below, payer-below, payee-below, early, freeable, told-fits, one-expired}
 use Rattle.core.proofs.taking.take.Proof.Judging.{sender-number, order-number, payee-number, all-few, suits}
+use Rattle.core.proofs.taking.take.Proof.Refusing.{late-done}
 use Rattle.core.proofs.taking.take.Proof.Carrying.{first-sum, second-has, second-sum, notices-fit}
 use Rattle.core.proofs.taking.take.Proof.Ending.{space, few-participants, cut-fits, uncut-whole, done}
 use Rattle.core.proofs.taking.take.Proof.Ways as to
@@ -62,6 +65,7 @@ pub mod Loop
 pub mod Seen
 pub mod Expiring
 pub mod Judging
+pub mod Refusing
 pub mod Carrying
 pub mod Ending
 
@@ -146,6 +150,19 @@ take-spec =
     (λ c. payee-number (c .before .before))
     (λ c κs. search needs)
     (λ c κs. all-few c)
+    (λ c. let h = late-done (to.late-from-After-put-answer-arg2 c) .told in omega arith)
+    (λ c. let d = late-done (to.late-from-After-put-answer-arg2 c) in let h = d .told in let few = d .fewTold in omega arith)
+    (λ c κs.
+    let h = room (to.room-from-After-put-answer-arg2 c) .answer in
+    let e = long-answers (to.head-from-After-put-answer-arg2 c) in
+    omega arith)
+    (λ c. let h = next-fits (to.room-from-After-slice-known5 c) in omega arith)
+    (λ c. let h = room (to.room-from-After-slice-known5 c) .ticket in omega arith)
+    (λ c.
+    let h = to.head-from-After-slice-known5 c in
+    let d = late-done (to.late-from-After-slice-known5 c) in
+    kept-on (h .loop .inv) (more (to.room-from-After-slice-known5 c)) (ticket-is h) d (answer-is d)
+    (to.late-told-from-After-slice-known5 c .put-answer2 .ensures))
     (λ c. let h = suits (to.judged-from-After-first c) .first in search needs)
     (λ c. suits (to.judged-from-After-first c) .first)
     (λ c κs. suits (to.judged-from-After-old c) .firstRoom)
@@ -191,17 +208,17 @@ take-spec =
     (λ c. order-number (to.numbers-from-After-with-status c))
     (λ c. search needs)
     (λ c κs. (few-participants c, cut-fits c))
-    (λ c κs. let p = to.cutting-from-After-slice-known6 c in (few-participants p, uncut-whole p))
+    (λ c κs. let p = to.cutting-from-After-slice-known7 c in (few-participants p, uncut-whole p))
     (λ c. let h = done (to.done-from-After-row-known c) .told in omega arith)
     (λ c. let d = done (to.done-from-After-row-known c) in let h = d .told in let few = d .fewTold in omega arith)
     (λ c. let h = done (to.done-from-After-row-known2 c) .fewRows in omega arith)
     (λ c κs. let h = room (to.room-from-After-row-known2 c) .answer in let e = long-answers (to.head-from-After-row-known2 c) in omega arith)
-    (λ c. let h = next-fits (to.room-from-After-slice-known7 c) in omega arith)
-    (λ c. let h = room (to.room-from-After-slice-known7 c) .ticket in omega arith)
+    (λ c. let h = next-fits (to.room-from-After-slice-known8 c) in omega arith)
+    (λ c. let h = room (to.room-from-After-slice-known8 c) .ticket in omega arith)
     (λ c.
-    let h = to.head-from-After-slice-known7 c in
-    let d = done (to.done-from-After-slice-known7 c) in
-    kept-on (h .loop .inv) (more (to.room-from-After-slice-known7 c)) (ticket-is h) d (answer-is d) (to.told-all-from-After-slice-known7 c .put-answer2 .ensures))
+    let h = to.head-from-After-slice-known8 c in
+    let d = done (to.done-from-After-slice-known8 c) in
+    kept-on (h .loop .inv) (more (to.room-from-After-slice-known8 c)) (ticket-is h) d (answer-is d) (to.told-all-from-After-slice-known8 c .put-answer3 .ensures))
     (λ c. long-answers (last c))
     (λ c. long-reports (last c))
     (λ c. let l = last c in ended (start l .args .t1) (tickets l) (answers₀ l) (reports₀ l) (l .loop .inv .going) (none-more c)))

@@ -71,28 +71,28 @@ module _ (c : at.After-put-notices-arg) where
       told-room (expired (swept-at judged-4)) (suits judged-4) (omega arith)
 
 -- told
-module _ (c : at.After-slice-known5) where
+module _ (c : at.After-slice-known6) where
   abbrev pub judged-at : at.After-judge
-  judged-at = to.judged-from-After-slice-known5 c
+  judged-at = to.judged-from-After-slice-known6 c
 
   abbrev pub left-at : at.Left-loop2
   left-at = swept-at judged-at
 
   abbrev pub first-new : Cover
-  first-new = to.first-from-After-slice-known5 c .moved2 .result
+  first-new = to.first-from-After-slice-known6 c .moved2 .result
 
   abbrev pub second-new : Cover
-  second-new = to.second-from-After-slice-known5 c .moved3 .result
+  second-new = to.second-from-After-slice-known6 c .moved3 .result
 
   -- the covers as the code has them
   abbrev pub both : List Cover
   both = set (set (swept-book left-at .covers) (v judged-at .first .who) first-new) (v judged-at .second .who) second-new
 
   pub carried-out : Carried (swept-book left-at) (v judged-at) (left-at .before .loop2 .n) (left-at .before .loop2 .reports) both
-      (to.total-from-After-slice-known5 c .total-with2 .result) (to.told-from-After-slice-known5 c .put-notices .result)
-      (to.told-from-After-slice-known5 c .put-notices .last .0)
+      (to.total-from-After-slice-known6 c .total-with2 .result) (to.told-from-After-slice-known6 c .put-notices .result)
+      (to.told-from-After-slice-known6 c .put-notices .last .0)
   carried-out =
-      carried (expired left-at) (suits judged-at) (to.first-from-After-slice-known5 c .moved2 .ensures) (hd left-at .loop .inv .sum)
-      (to.sum-from-After-slice-known5 c .total-with .ensures) (to.second-from-After-slice-known5 c .moved3 .ensures)
-      (to.total-from-After-slice-known5 c .total-with2 .ensures) (to.told-from-After-slice-known5 c .put-notices .ensures .1)
-      (to.told-from-After-slice-known5 c .put-notices .ensures .0)
+      carried (expired left-at) (suits judged-at) (to.first-from-After-slice-known6 c .moved2 .ensures) (hd left-at .loop .inv .sum)
+      (to.sum-from-After-slice-known6 c .total-with .ensures) (to.second-from-After-slice-known6 c .moved3 .ensures)
+      (to.total-from-After-slice-known6 c .total-with2 .ensures) (to.told-from-After-slice-known6 c .put-notices .ensures .1)
+      (to.told-from-After-slice-known6 c .put-notices .ensures .0)

@@ -30,7 +30,7 @@ use Rattle.core.proofs.taking.take.Proof.Ways as to
 
 -- an order is opened: there is space
 module _ (c : at.After-enum-told3) where
-  abbrev told-o : at.After-slice-known5
+  abbrev told-o : at.After-slice-known6
   told-o = to.carried-from-After-enum-told3 c
 
   pub space : swept-book (left-at told-o) .count < 256
@@ -38,7 +38,7 @@ module _ (c : at.After-enum-told3) where
 
 -- a cut: there is room for its reports, and no cover is above the limit
 module _ (c : at.After-put-cut-arg) where
-  abbrev told-c : at.After-slice-known5
+  abbrev told-c : at.After-slice-known6
   told-c = to.carried-from-After-put-cut-arg c
 
   abbrev j-c : at.After-judge
@@ -66,7 +66,7 @@ module _ (c : at.After-put-cut-arg) where
       cut-whole (expired (left-at told-c)) (suits j-c) (carried-out told-c) (to.cuts-from-After-put-cut-arg c .enum-told4 .given .1) (sym (h-c .loop .inv .roster))
 
 module _ (c : at.At-match2-came) where
-  abbrev told-at : at.After-slice-known5
+  abbrev told-at : at.After-slice-known6
   told-at = to.carried-from-At-match2-came c
 
   abbrev left : at.Left-loop2

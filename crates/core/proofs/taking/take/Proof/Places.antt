@@ -1,4 +1,4 @@
--- The places of the code that the proof of `take` speaks of. Written by tools/named-places. Assumes nothing.
+-- The places of the code that the proof of `take` speaks of. Written by `tools/named-places`. Assumes nothing.
 use Rattle.core.proofs.taking.take.Proof.Invariants.{Inv-loop2, μ-loop2, Inv-loop, μ-loop}
 use Rattle.core.proofs.taking.take.Tie as tie
 
@@ -89,8 +89,14 @@ After-orders = tie.After-orders Inv-loop2 μ-loop2 Inv-loop μ-loop
 abbrev pub After-put-answer : Type 0
 After-put-answer = tie.After-put-answer Inv-loop2 μ-loop2 Inv-loop μ-loop
 
+abbrev pub After-put-answer-arg2 : Type 0
+After-put-answer-arg2 = tie.After-put-answer-arg2 Inv-loop2 μ-loop2 Inv-loop μ-loop
+
 abbrev pub After-put-answer2 : Type 0
 After-put-answer2 = tie.After-put-answer2 Inv-loop2 μ-loop2 Inv-loop μ-loop
+
+abbrev pub After-put-answer3 : Type 0
+After-put-answer3 = tie.After-put-answer3 Inv-loop2 μ-loop2 Inv-loop μ-loop
 
 abbrev pub After-put-cut-arg : Type 0
 After-put-cut-arg = tie.After-put-cut-arg Inv-loop2 μ-loop2 Inv-loop μ-loop
@@ -145,6 +151,9 @@ After-slice-known6 = tie.After-slice-known6 Inv-loop2 μ-loop2 Inv-loop μ-loop
 
 abbrev pub After-slice-known7 : Type 0
 After-slice-known7 = tie.After-slice-known7 Inv-loop2 μ-loop2 Inv-loop μ-loop
+
+abbrev pub After-slice-known8 : Type 0
+After-slice-known8 = tie.After-slice-known8 Inv-loop2 μ-loop2 Inv-loop μ-loop
 
 abbrev pub After-total-of : Type 0
 After-total-of = tie.After-total-of Inv-loop2 μ-loop2 Inv-loop μ-loop
@@ -202,3 +211,6 @@ Start = tie.Start Inv-loop2 μ-loop2 Inv-loop μ-loop
 
 abbrev pub Then1 : Type 0
 Then1 = tie.Then1 Inv-loop2 μ-loop2 Inv-loop μ-loop
+
+abbrev pub Then4 : Type 0
+Then4 = tie.Then4 Inv-loop2 μ-loop2 Inv-loop μ-loop

@@ -1,16 +1,16 @@
--- The ways from places of the code of `take` to earlier ones. Written by tools/named-places. Assumes nothing.
+-- The way from each place of the code of `take` to an earlier one. Written by `tools/named-places`. Assumes nothing.
 use Rattle.core.proofs.taking.take.Proof.Places as at
 
 abbrev pub answered-from-After-slice-known3 : at.After-slice-known3 → at.After-put-answer
 answered-from-After-slice-known3 c = c .before .before
 
-abbrev pub carried-from-After-enum-told3 : at.After-enum-told3 → at.After-slice-known5
+abbrev pub carried-from-After-enum-told3 : at.After-enum-told3 → at.After-slice-known6
 carried-from-After-enum-told3 c = c .before .before
 
-abbrev pub carried-from-After-put-cut-arg : at.After-put-cut-arg → at.After-slice-known5
+abbrev pub carried-from-After-put-cut-arg : at.After-put-cut-arg → at.After-slice-known6
 carried-from-After-put-cut-arg c = c .before .before .before .before
 
-abbrev pub carried-from-At-match2-came : at.At-match2-came → at.After-slice-known5
+abbrev pub carried-from-At-match2-came : at.At-match2-came → at.After-slice-known6
 carried-from-At-match2-came c = c .before
 
 abbrev pub chains-from-After-total-of : at.After-total-of → at.After-txid-chains
@@ -19,8 +19,8 @@ chains-from-After-total-of c = c .before .before .before .before
 abbrev pub cuts-from-After-put-cut-arg : at.After-put-cut-arg → at.After-enum-told4
 cuts-from-After-put-cut-arg c = c .before .before
 
-abbrev pub cutting-from-After-slice-known6 : at.After-slice-known6 → at.After-put-cut-arg
-cutting-from-After-slice-known6 c = c .before .before .before
+abbrev pub cutting-from-After-slice-known7 : at.After-slice-known7 → at.After-put-cut-arg
+cutting-from-After-slice-known7 c = c .before .before .before
 
 abbrev pub done-from-After-row-known : at.After-row-known → at.At-match2-came
 done-from-After-row-known c = c .before .before
@@ -28,8 +28,8 @@ done-from-After-row-known c = c .before .before
 abbrev pub done-from-After-row-known2 : at.After-row-known2 → at.At-match2-came
 done-from-After-row-known2 c = c .before .before .before
 
-abbrev pub done-from-After-slice-known7 : at.After-slice-known7 → at.At-match2-came
-done-from-After-slice-known7 c = c .before .before .before .before .before .before
+abbrev pub done-from-After-slice-known8 : at.After-slice-known8 → at.At-match2-came
+done-from-After-slice-known8 c = c .before .before .before .before .before .before
 
 abbrev pub first-from-After-moved3 : at.After-moved3 → at.After-moved2
 first-from-After-moved3 c = c .before .before .before .before
@@ -37,8 +37,8 @@ first-from-After-moved3 c = c .before .before .before .before
 abbrev pub first-from-After-old2 : at.After-old2 → at.After-moved2
 first-from-After-old2 c = c .before .before .before
 
-abbrev pub first-from-After-slice-known5 : at.After-slice-known5 → at.After-moved2
-first-from-After-slice-known5 c = c .before .before .before .before .before .before .before .before .before .before .before
+abbrev pub first-from-After-slice-known6 : at.After-slice-known6 → at.After-moved2
+first-from-After-slice-known6 c = c .before .before .before .before .before .before .before .before .before .before .before
 
 abbrev pub freed-from-After-slice-known4 : at.After-slice-known4 → at.After-moved
 freed-from-After-slice-known4 c = c .before .before .before .before
@@ -47,22 +47,25 @@ abbrev pub head-from-After-heads2 : at.After-heads2 → at.At-loop
 head-from-After-heads2 c = c .before .before .before .before
 
 abbrev pub head-from-After-heads3 : at.After-heads3 → at.At-loop
-head-from-After-heads3 c = c .before .before .before .before .before .before .before .before .before .before .before .before .before .before .before .before .before .before .before .before .before .before .before .before .before .before .before .before .before .before .before .before .before .before .before .before .before .before .before .before .before .before .before
+head-from-After-heads3 c = c .before .before .before .before .before .before .before .before .before .before .before .before .before .before .before .before .before .before .before .before .before .before .before .before .before .before .before .before .before .before .before .before .before .before .before .before .before .before .before .before .before .before .before .before .before
 
 abbrev pub head-from-After-links2 : at.After-links2 → at.At-loop
 head-from-After-links2 c = c .before .before .before .before .before
 
 abbrev pub head-from-After-links3 : at.After-links3 → at.At-loop
-head-from-After-links3 c = c .before .before .before .before .before .before .before .before .before .before .before .before .before .before .before .before .before .before .before .before .before .before .before .before .before .before .before .before .before .before .before .before .before .before .before .before .before .before .before .before .before .before .before .before
+head-from-After-links3 c = c .before .before .before .before .before .before .before .before .before .before .before .before .before .before .before .before .before .before .before .before .before .before .before .before .before .before .before .before .before .before .before .before .before .before .before .before .before .before .before .before .before .before .before .before .before .before
+
+abbrev pub head-from-After-put-answer-arg2 : at.After-put-answer-arg2 → at.At-loop
+head-from-After-put-answer-arg2 c = c .before .before .before .before .before .before .before .before .before .before .before .before .before .before .before .before .before .before .before .before .before .before .before .before .before
 
 abbrev pub head-from-After-put-txid-arg : at.After-put-txid-arg → at.At-loop
-head-from-After-put-txid-arg c = c .before .before .before .before .before .before .before .before .before .before .before .before .before .before .before .before .before .before .before .before .before .before .before .before .before .before .before .before .before .before .before .before .before .before .before .before .before .before .before .before .before .before .before .before .before .before
+head-from-After-put-txid-arg c = c .before .before .before .before .before .before .before .before .before .before .before .before .before .before .before .before .before .before .before .before .before .before .before .before .before .before .before .before .before .before .before .before .before .before .before .before .before .before .before .before .before .before .before .before .before .before .before .before
 
 abbrev pub head-from-After-refusal-of : at.After-refusal-of → at.At-loop
 head-from-After-refusal-of c = c .before .before .before .before .before .before .before .before .before .before .before
 
 abbrev pub head-from-After-row-known2 : at.After-row-known2 → at.At-loop
-head-from-After-row-known2 c = c .before .before .before .before .before .before .before .before .before .before .before .before .before .before .before .before .before .before .before .before .before .before .before .before .before .before .before .before .before .before .before .before .before .before .before .before .before .before .before .before
+head-from-After-row-known2 c = c .before .before .before .before .before .before .before .before .before .before .before .before .before .before .before .before .before .before .before .before .before .before .before .before .before .before .before .before .before .before .before .before .before .before .before .before .before .before .before .before .before .before
 
 abbrev pub head-from-After-see : at.After-see → at.At-loop
 head-from-After-see c = c .before .before .before .before .before .before .before
@@ -70,14 +73,17 @@ head-from-After-see c = c .before .before .before .before .before .before .befor
 abbrev pub head-from-After-slice-known3 : at.After-slice-known3 → at.At-loop
 head-from-After-slice-known3 c = c .before .before .before .before .before .before .before .before .before .before .before .before .before .before
 
-abbrev pub head-from-After-slice-known7 : at.After-slice-known7 → at.At-loop
-head-from-After-slice-known7 c = c .before .before .before .before .before .before .before .before .before .before .before .before .before .before .before .before .before .before .before .before .before .before .before .before .before .before .before .before .before .before .before .before .before .before .before .before .before .before .before .before .before .before .before
+abbrev pub head-from-After-slice-known5 : at.After-slice-known5 → at.At-loop
+head-from-After-slice-known5 c = c .before .before .before .before .before .before .before .before .before .before .before .before .before .before .before .before .before .before .before .before .before .before .before .before .before .before .before .before
+
+abbrev pub head-from-After-slice-known8 : at.After-slice-known8 → at.At-loop
+head-from-After-slice-known8 c = c .before .before .before .before .before .before .before .before .before .before .before .before .before .before .before .before .before .before .before .before .before .before .before .before .before .before .before .before .before .before .before .before .before .before .before .before .before .before .before .before .before .before .before .before .before
 
 abbrev pub head-from-After-txids2 : at.After-txids2 → at.At-loop
 head-from-After-txids2 c = c .before .before .before .before .before .before
 
 abbrev pub head-from-After-txids3 : at.After-txids3 → at.At-loop
-head-from-After-txids3 c = c .before .before .before .before .before .before .before .before .before .before .before .before .before .before .before .before .before .before .before .before .before .before .before .before .before .before .before .before .before .before .before .before .before .before .before .before .before .before .before .before .before .before .before .before .before
+head-from-After-txids3 c = c .before .before .before .before .before .before .before .before .before .before .before .before .before .before .before .before .before .before .before .before .before .before .before .before .before .before .before .before .before .before .before .before .before .before .before .before .before .before .before .before .before .before .before .before .before .before .before
 
 abbrev pub head-from-Else1 : at.Else1 → at.At-loop
 head-from-Else1 c = c .before .before
@@ -89,34 +95,37 @@ abbrev pub joined-from-After-is-bank2 : at.After-is-bank2 → at.Joined3
 joined-from-After-is-bank2 c = c .before .before .before .before .before .before
 
 abbrev pub judged-from-After-first : at.After-first → at.After-judge
-judged-from-After-first c = c .before
+judged-from-After-first c = c .before .before .before
 
 abbrev pub judged-from-After-moved2 : at.After-moved2 → at.After-judge
-judged-from-After-moved2 c = c .before .before .before
+judged-from-After-moved2 c = c .before .before .before .before .before
 
 abbrev pub judged-from-After-moved3 : at.After-moved3 → at.After-judge
-judged-from-After-moved3 c = c .before .before .before .before .before .before .before
+judged-from-After-moved3 c = c .before .before .before .before .before .before .before .before .before
 
 abbrev pub judged-from-After-old : at.After-old → at.After-judge
-judged-from-After-old c = c .before .before
+judged-from-After-old c = c .before .before .before .before
 
 abbrev pub judged-from-After-old2 : at.After-old2 → at.After-judge
-judged-from-After-old2 c = c .before .before .before .before .before .before
+judged-from-After-old2 c = c .before .before .before .before .before .before .before .before
 
 abbrev pub judged-from-After-put-notices-arg : at.After-put-notices-arg → at.After-judge
-judged-from-After-put-notices-arg c = c .before .before .before .before .before .before .before .before .before .before .before
+judged-from-After-put-notices-arg c = c .before .before .before .before .before .before .before .before .before .before .before .before .before
 
 abbrev pub judged-from-After-second : at.After-second → at.After-judge
-judged-from-After-second c = c .before .before .before .before .before
+judged-from-After-second c = c .before .before .before .before .before .before .before
 
-abbrev pub judged-from-After-slice-known5 : at.After-slice-known5 → at.After-judge
-judged-from-After-slice-known5 c = c .before .before .before .before .before .before .before .before .before .before .before .before .before .before
+abbrev pub judged-from-After-slice-known6 : at.After-slice-known6 → at.After-judge
+judged-from-After-slice-known6 c = c .before .before .before .before .before .before .before .before .before .before .before .before .before .before .before .before
 
 abbrev pub judged-from-After-total-with : at.After-total-with → at.After-judge
-judged-from-After-total-with c = c .before .before .before .before
+judged-from-After-total-with c = c .before .before .before .before .before .before
 
 abbrev pub judged-from-After-total-with2 : at.After-total-with2 → at.After-judge
-judged-from-After-total-with2 c = c .before .before .before .before .before .before .before .before
+judged-from-After-total-with2 c = c .before .before .before .before .before .before .before .before .before .before
+
+abbrev pub judged-from-Then4 : at.Then4 → at.After-judge
+judged-from-Then4 c = c .before .before
 
 abbrev pub known-from-At-loop : at.At-loop → at.After-shared-slice-known
 known-from-At-loop c = c .before .before .before .before .before .before .before .before .before .before .before .before .before .before .before .before .before .before
@@ -136,6 +145,15 @@ lapse-from-After-put-told-arg c = c .before .before .before .before .before
 abbrev pub lapse-from-After-slice-known4 : at.After-slice-known4 → at.After-expire
 lapse-from-After-slice-known4 c = c .before .before .before .before .before .before .before .before
 
+abbrev pub late-from-After-put-answer-arg2 : at.After-put-answer-arg2 → at.Then4
+late-from-After-put-answer-arg2 c = c .before
+
+abbrev pub late-from-After-slice-known5 : at.After-slice-known5 → at.Then4
+late-from-After-slice-known5 c = c .before .before .before .before
+
+abbrev pub late-told-from-After-slice-known5 : at.After-slice-known5 → at.After-put-answer2
+late-told-from-After-slice-known5 c = c .before .before
+
 abbrev pub number-from-After-slice-known3 : at.After-slice-known3 → at.After-refusal-of
 number-from-After-slice-known3 c = c .before .before .before
 
@@ -143,13 +161,13 @@ abbrev pub numbers-from-After-is-bank2 : at.After-is-bank2 → at.After-number-o
 numbers-from-After-is-bank2 c = c .before .before .before .before
 
 abbrev pub numbers-from-After-known-told2 : at.After-known-told2 → at.After-number-of2
-numbers-from-After-known-told2 c = c .before .before .before .before .before .before .before .before .before .before .before .before .before .before .before .before .before .before .before .before .before .before
+numbers-from-After-known-told2 c = c .before .before .before .before .before .before .before .before .before .before .before .before .before .before .before .before .before .before .before .before .before .before .before .before
 
 abbrev pub numbers-from-After-with-status : at.After-with-status → at.After-number-of2
-numbers-from-After-with-status c = c .before .before .before .before .before .before .before .before .before .before .before .before .before .before .before .before .before .before .before .before .before .before .before .before
+numbers-from-After-with-status c = c .before .before .before .before .before .before .before .before .before .before .before .before .before .before .before .before .before .before .before .before .before .before .before .before .before .before
 
 abbrev pub numbers-from-At-match2-came : at.At-match2-came → at.After-number-of2
-numbers-from-At-match2-came c = c .before .before .before .before .before .before .before .before .before .before .before .before .before .before .before .before .before .before .before .before
+numbers-from-At-match2-came c = c .before .before .before .before .before .before .before .before .before .before .before .before .before .before .before .before .before .before .before .before .before .before
 
 abbrev pub old-from-After-slice-known4 : at.After-slice-known4 → at.Else2
 old-from-After-slice-known4 c = c .before .before .before .before .before .before .before .before .before .before .before
@@ -176,25 +194,28 @@ abbrev pub reported-from-After-slice-known4 : at.After-slice-known4 → at.After
 reported-from-After-slice-known4 c = c .before .before
 
 abbrev pub room-from-After-enum-told3 : at.After-enum-told3 → at.Then1
-room-from-After-enum-told3 c = c .before .before .before .before .before .before .before .before .before .before .before .before .before .before .before .before .before .before .before .before .before .before .before .before .before .before .before .before .before .before .before .before .before .before .before .before
+room-from-After-enum-told3 c = c .before .before .before .before .before .before .before .before .before .before .before .before .before .before .before .before .before .before .before .before .before .before .before .before .before .before .before .before .before .before .before .before .before .before .before .before .before .before
 
 abbrev pub room-from-After-expire : at.After-expire → at.Then1
 room-from-After-expire c = c .before .before .before .before .before .before .before .before .before .before .before .before .before .before .before .before
 
+abbrev pub room-from-After-put-answer-arg2 : at.After-put-answer-arg2 → at.Then1
+room-from-After-put-answer-arg2 c = c .before .before .before .before .before .before .before .before .before .before .before .before .before .before .before .before .before .before .before .before .before .before .before
+
 abbrev pub room-from-After-put-cut-arg : at.After-put-cut-arg → at.Then1
-room-from-After-put-cut-arg c = c .before .before .before .before .before .before .before .before .before .before .before .before .before .before .before .before .before .before .before .before .before .before .before .before .before .before .before .before .before .before .before .before .before .before .before .before .before .before
+room-from-After-put-cut-arg c = c .before .before .before .before .before .before .before .before .before .before .before .before .before .before .before .before .before .before .before .before .before .before .before .before .before .before .before .before .before .before .before .before .before .before .before .before .before .before .before .before
 
 abbrev pub room-from-After-put-notices-arg : at.After-put-notices-arg → at.Then1
-room-from-After-put-notices-arg c = c .before .before .before .before .before .before .before .before .before .before .before .before .before .before .before .before .before .before .before .before .before .before .before .before .before .before .before .before .before .before .before
+room-from-After-put-notices-arg c = c .before .before .before .before .before .before .before .before .before .before .before .before .before .before .before .before .before .before .before .before .before .before .before .before .before .before .before .before .before .before .before .before .before
 
 abbrev pub room-from-After-put-txid-arg : at.After-put-txid-arg → at.Then1
-room-from-After-put-txid-arg c = c .before .before .before .before .before .before .before .before .before .before .before .before .before .before .before .before .before .before .before .before .before .before .before .before .before .before .before .before .before .before .before .before .before .before .before .before .before .before .before .before .before .before .before .before
+room-from-After-put-txid-arg c = c .before .before .before .before .before .before .before .before .before .before .before .before .before .before .before .before .before .before .before .before .before .before .before .before .before .before .before .before .before .before .before .before .before .before .before .before .before .before .before .before .before .before .before .before .before .before
 
 abbrev pub room-from-After-refusal-of : at.After-refusal-of → at.Then1
 room-from-After-refusal-of c = c .before .before .before .before .before .before .before .before .before
 
 abbrev pub room-from-After-row-known2 : at.After-row-known2 → at.Then1
-room-from-After-row-known2 c = c .before .before .before .before .before .before .before .before .before .before .before .before .before .before .before .before .before .before .before .before .before .before .before .before .before .before .before .before .before .before .before .before .before .before .before .before .before .before
+room-from-After-row-known2 c = c .before .before .before .before .before .before .before .before .before .before .before .before .before .before .before .before .before .before .before .before .before .before .before .before .before .before .before .before .before .before .before .before .before .before .before .before .before .before .before .before
 
 abbrev pub room-from-After-see : at.After-see → at.Then1
 room-from-After-see c = c .before .before .before .before .before
@@ -202,23 +223,26 @@ room-from-After-see c = c .before .before .before .before .before
 abbrev pub room-from-After-slice-known3 : at.After-slice-known3 → at.Then1
 room-from-After-slice-known3 c = c .before .before .before .before .before .before .before .before .before .before .before .before
 
-abbrev pub room-from-After-slice-known7 : at.After-slice-known7 → at.Then1
-room-from-After-slice-known7 c = c .before .before .before .before .before .before .before .before .before .before .before .before .before .before .before .before .before .before .before .before .before .before .before .before .before .before .before .before .before .before .before .before .before .before .before .before .before .before .before .before .before
+abbrev pub room-from-After-slice-known5 : at.After-slice-known5 → at.Then1
+room-from-After-slice-known5 c = c .before .before .before .before .before .before .before .before .before .before .before .before .before .before .before .before .before .before .before .before .before .before .before .before .before .before
+
+abbrev pub room-from-After-slice-known8 : at.After-slice-known8 → at.Then1
+room-from-After-slice-known8 c = c .before .before .before .before .before .before .before .before .before .before .before .before .before .before .before .before .before .before .before .before .before .before .before .before .before .before .before .before .before .before .before .before .before .before .before .before .before .before .before .before .before .before .before
 
 abbrev pub room-from-After-txid : at.After-txid → at.Then1
-room-from-After-txid c = c .before .before .before .before .before .before .before .before .before .before .before .before .before .before .before .before .before .before .before .before .before .before .before .before .before .before .before .before .before .before .before .before .before .before .before .before .before .before
+room-from-After-txid c = c .before .before .before .before .before .before .before .before .before .before .before .before .before .before .before .before .before .before .before .before .before .before .before .before .before .before .before .before .before .before .before .before .before .before .before .before .before .before .before .before
 
 abbrev pub room-from-After-txids2 : at.After-txids2 → at.Then1
 room-from-After-txids2 c = c .before .before .before .before
 
 abbrev pub room-from-After-txids3 : at.After-txids3 → at.Then1
-room-from-After-txids3 c = c .before .before .before .before .before .before .before .before .before .before .before .before .before .before .before .before .before .before .before .before .before .before .before .before .before .before .before .before .before .before .before .before .before .before .before .before .before .before .before .before .before .before .before
+room-from-After-txids3 c = c .before .before .before .before .before .before .before .before .before .before .before .before .before .before .before .before .before .before .before .before .before .before .before .before .before .before .before .before .before .before .before .before .before .before .before .before .before .before .before .before .before .before .before .before .before
 
 abbrev pub rows-from-After-total-of : at.After-total-of → at.After-txids-of
 rows-from-After-total-of c = c .before .before .before .before .before .before
 
-abbrev pub second-from-After-slice-known5 : at.After-slice-known5 → at.After-moved3
-second-from-After-slice-known5 c = c .before .before .before .before .before .before .before
+abbrev pub second-from-After-slice-known6 : at.After-slice-known6 → at.After-moved3
+second-from-After-slice-known6 c = c .before .before .before .before .before .before .before
 
 abbrev pub seen-from-After-enum-told : at.After-enum-told → at.After-see
 seen-from-After-enum-told c = c .before .before
@@ -247,8 +271,8 @@ start-from-At-loop c = c .before .before .before .before .before .before .before
 abbrev pub sum-from-After-moved3 : at.After-moved3 → at.After-total-with
 sum-from-After-moved3 c = c .before .before .before
 
-abbrev pub sum-from-After-slice-known5 : at.After-slice-known5 → at.After-total-with
-sum-from-After-slice-known5 c = c .before .before .before .before .before .before .before .before .before .before
+abbrev pub sum-from-After-slice-known6 : at.After-slice-known6 → at.After-total-with
+sum-from-After-slice-known6 c = c .before .before .before .before .before .before .before .before .before .before
 
 abbrev pub sweeping-from-After-expire : at.After-expire → at.In-loop2
 sweeping-from-After-expire c = c .before .before .before .before .before .before
@@ -280,17 +304,17 @@ swept-from-After-number-of2 c = c .before .before .before .before .before
 abbrev pub swept-from-Joined3 : at.Joined3 → at.Left-loop2
 swept-from-Joined3 c = c .before .before .before
 
-abbrev pub told-all-from-After-slice-known7 : at.After-slice-known7 → at.After-put-answer2
-told-all-from-After-slice-known7 c = c .before .before
+abbrev pub told-all-from-After-slice-known8 : at.After-slice-known8 → at.After-put-answer3
+told-all-from-After-slice-known8 c = c .before .before
 
 abbrev pub told-from-After-put-cut-arg : at.After-put-cut-arg → at.After-put-notices
 told-from-After-put-cut-arg c = c .before .before .before .before .before .before
 
-abbrev pub told-from-After-slice-known5 : at.After-slice-known5 → at.After-put-notices
-told-from-After-slice-known5 c = c .before .before
+abbrev pub told-from-After-slice-known6 : at.After-slice-known6 → at.After-put-notices
+told-from-After-slice-known6 c = c .before .before
 
-abbrev pub total-from-After-slice-known5 : at.After-slice-known5 → at.After-total-with2
-total-from-After-slice-known5 c = c .before .before .before .before .before .before
+abbrev pub total-from-After-slice-known6 : at.After-slice-known6 → at.After-total-with2
+total-from-After-slice-known6 c = c .before .before .before .before .before .before
 
 abbrev pub total-from-At-match2-came : at.At-match2-came → at.After-total-with2
 total-from-At-match2-came c = c .before .before .before .before .before .before .before
@@ -299,7 +323,7 @@ abbrev pub way-from-After-is-bank2 : at.After-is-bank2 → at.After-end-of
 way-from-After-is-bank2 c = c .before .before .before .before .before .before .before .before
 
 abbrev pub way-from-At-match2-came : at.At-match2-came → at.After-end-of
-way-from-At-match2-came c = c .before .before .before .before .before .before .before .before .before .before .before .before .before .before .before .before .before .before .before .before .before .before .before .before
+way-from-At-match2-came c = c .before .before .before .before .before .before .before .before .before .before .before .before .before .before .before .before .before .before .before .before .before .before .before .before .before .before
 
 abbrev pub young-from-After-slice-known4 : at.After-slice-known4 → at.After-is-young
 young-from-After-slice-known4 c = c .before .before .before .before .before .before .before .before .before .before .before .before
