@@ -1,4 +1,4 @@
-// Cases of day files.
+// Cases of day files. `row_with` looks at each row, and at no more than 64, for which a roster has room, so it needs no `requires`.
 use super::bytes;
 use super::print;
 use super::words;

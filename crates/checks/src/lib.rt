@@ -1,4 +1,5 @@
-// Checks 12 to 22, a function each. Each equals a definition of `rules`, in Checks.antt.
+// Checks 12 to 22, a function each. Each equals a definition of `rules`, in Checks.antt. Refusal 22 takes the difference between 10^18
+// and all cover, not the sum with the amount, which could leave 64 bits; in a sound book all cover is at most 10^18.
 use dayfile::route::Followed;
 use fields::Found;
 use orders::status;

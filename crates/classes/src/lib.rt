@@ -1,5 +1,7 @@
 // The classes of bytes that BIC, IBAN and TxId are made of: whether a byte is of a class, whether all of a slice are, and whether all
-// before the padding of a field are.
+// before the padding of a field are. A class test looks at every byte, with no way out before the end: the compiler then takes eight at a
+// time, which for codes of 5 to 35 bytes is quicker than to stop at the first that fails. A byte's test may be another than the
+// definition's (`Txid` in `is_in`): the two are compared at all 256 bytes by computation (`Bytes.antt`).
 mod padding;
 
 pub use padding::all_padded;

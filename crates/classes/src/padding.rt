@@ -1,4 +1,6 @@
-// The bytes of a padded field: whether all before the padding are of a class.
+// The bytes of a padded field: whether all before the padding are of a class. Where the padding begins is never asked: finding it is a
+// walk of another length for each ticket, which the machine guesses wrong. Each byte is of its class, or a zero with a zero behind it; no
+// class has the zero byte, so that is so exactly where all before the padding are of the class (`all-stand`).
 use super::Class;
 ghost use mathlib.Core.Path.{_≡_};
 ghost use Prim.Native.Nat.{_<_};

@@ -1,6 +1,9 @@
-// The checks of BIC, IBAN and TxId. Each takes unpadded bytes of any length and content and answers 1 for yes and 0 for no;
-// nothing is asked of a caller. They are the same functions for other crates and for C (gateway/zolfigar.h). Beside them the
-// check of a TxId as it stands in a ticket, padded with zero bytes; that of an IBAN is in `iban`.
+// The checks of BIC, IBAN and TxId. Each takes unpadded bytes of any length and content and answers 1 for yes and 0 for no; nothing is
+// asked of a caller. They are the same functions for other crates and for C (include/zolfigar.h). Beside them the check of a TxId as it
+// stands in a ticket, padded with zero bytes; that of an IBAN is in `iban`. An IBAN's front and its number are each tested in one place,
+// in `iban`. The check for C asks for the front of the bytes where they stand, then that all are letters and digits, and only then copies
+// them into 34 zeroes for the number, so that a malformed code costs a few nanoseconds. Bytes of those classes don't end in a zero, so
+// the padded field has them as its value (`iban-unpadded`).
 use classes::Class;
 ghost use mathlib.Core.Path.{_≡_};
 ghost use Prim.Native.Nat.{_≤_};

@@ -1,5 +1,5 @@
 // What is searched of a roster and lent to each turn: the BICs of participants and of routes with chains through them, and where each
-// route row leads.
+// route row leads. It doesn't change, so it is made once, lent as slices, and what a turn has to know of it is one premise (`Directs`).
 use dayfile::roster::Roster;
 use index::chains;
 ghost use Rattle.rules.specs.Sound.{Sound};

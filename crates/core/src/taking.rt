@@ -1,4 +1,16 @@
-// Tickets one after the other, each in a turn: it is seen, orders expire, it is judged, and what was judged is carried out.
+// Tickets one after the other, each in a turn: it is seen, orders expire, it is judged, and what was judged is carried out. Seeing and
+// judging are one call each. The expiries and the carrying out stand here: they change orders and covers, and neither an array of structs
+// nor two fields of one struct can be lent to one call to be changed. What is found is found before the expiries, which change no TxId
+// and no roster (`sender-same`, `order-same`, `route-same` in `Facts.antt` of `turns`). A ticket that 12 to 22 refuse ends its turn where
+// it is judged (`late-done`), which takes 3 ns less than carrying out nothing. A verdict is carried out in parts that do nothing where it
+// says nothing; only the order is a match, as opening, changing and cutting write different things.
+//
+// The index of TxIds is in locals: lent to the searches and not passed, and no promise speaks of it, so the book's type is the paper's
+// and a caller can't hand in an index that doesn't fit. A TxId gets its row and its link where an order is new, and only there: other
+// verdicts leave every order's TxId (`KeepsName`). All cover together is a local too, changed by what each move changes (`total_with`),
+// so refusal 22 adds up nothing; it is kept over all 32 places (`allOf`), so that a move of nobody needs no case of its own, and in a
+// sound book that is the sum over the participants (`all-total`). Held and open debit anywhere are looked for at a cut only, since that
+// looks at every participant.
 use super::Batch;
 use index::chains;
 use moves::cover;

@@ -1,4 +1,5 @@
-// Tickets taken by the core, as many as its buffers here have room for, and their lines.
+// Tickets taken by the core, as many as its buffers here have room for, and their lines. A day has at most 512 tickets. The buffers hold
+// more reports than one ticket can have, so every batch takes at least one ticket (`takes-one`), and the pieces come to an end.
 use rules::Book;
 ghost use Prim.Native.Nat.{_+_, _^_, _≤_, _<_};
 ghost use lib.ListN.{length};

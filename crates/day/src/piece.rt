@@ -1,4 +1,5 @@
-// A day as far as it is printed, and its next piece of text.
+// A day as far as it is printed, and its next piece of text. All lines of a day need not fit a buffer. Each piece is an equation
+// (`PieceOf`), and all together are `output` of the rules (`day-printed`).
 use super::batch;
 use book::opening;
 use rules::Book;

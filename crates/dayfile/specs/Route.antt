@@ -1,4 +1,5 @@
--- Following a payee BIC: 01 'Participants, routes, codes'.
+-- Following a payee BIC: 01 'Participants, routes, codes'. `followed` goes by where each row leads, a function from numbers to targets,
+-- so that one definition serves the routes and the numbers that the code follows.
 --     targetIn      where a row leads
 --     followed      from a row on, by where each leads: the participant reached and the number of rows followed, or Nowhere
 --     followTo      the same in at most n rows

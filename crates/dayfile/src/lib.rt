@@ -1,5 +1,6 @@
 // The types of a day file and of its roster. There is no code here: specs/ says what a file of any bytes gives, and what following a
-// payee BIC is; `dayrows` and `dayread` read a file.
+// payee BIC is; `dayrows` and `dayread` read a file. The rules and all that stands on them need of a day file what it gives; only `book`
+// and the programs need those two.
 pub mod check;
 pub mod header;
 pub mod limits;

@@ -1,4 +1,5 @@
-// The roster of a file whose rows are right.
+// The roster of a file whose rows are right. Rows of participants and of routes start where a header says, so that rows elsewhere can be
+// read by the same functions.
 use dayfile::header::Header;
 use dayfile::limits;
 use dayfile::roster::Opening;

@@ -1,5 +1,6 @@
-// Whether a row of a section has an earlier row's BIC. The rows looked at so far are chained by their BICs' buckets, so that only
-// those of one bucket are compared.
+// Whether a row of a section has an earlier row's BIC. The rows looked at so far are chained by their BICs' buckets, so that only those
+// of one bucket are compared. What is promised says nothing of buckets: `bicAmong` asks each earlier row (`any-told`, `all-compared`). A
+// file whose BICs share one bucket costs what comparing all with all costs.
 ghost use mathlib.Core.Path.{_≡_};
 ghost use Prim.Native.Nat.{_+_, _*_, _≤_, _<_};
 ghost use lib.ListN.{length, getD, set};

@@ -1,6 +1,7 @@
 // Big-endian numbers of two, three, four and eight bytes, read from and written to a place in a slice. A caller sees to it that the field
-// lies within the slice. Read as here, four and eight bytes are each one load of the machine; with u32_at as two of u16_at, eight
-// are loaded byte by byte.
+// lies within the slice. Read as here, four and eight bytes are each one load of the machine; with u32_at as two of u16_at, eight are
+// loaded byte by byte. A field is blank where the numbers that its bytes spell are 0 (`zero_u64_at` and its like): one load and one
+// comparison for eight bytes. One law has it for every width (`blank-number`).
 ghost use mathlib.Core.Path.{_≡_};
 ghost use Prim.Native.Nat.{_+_, _≤_, _<_};
 ghost use lib.ListN.{length};

@@ -1,4 +1,5 @@
-// The verdict of each ticket's own step, and of a refused ticket. Each function equals a definition of `verdict`, in Step.antt.
+// The verdict of each ticket's own step, and of a refused ticket. Each function equals a definition of `verdict`, in Step.antt. Of a
+// refused ticket all but the refusal is nothing (`refused-alone`), so it may be carried out or skipped.
 use rules::Recall;
 use rules::Status;
 use rules::decision::Move;

@@ -1,5 +1,8 @@
 // The check of an IBAN as it stands in a ticket, padded with zero bytes: every byte of the field is looked at, and where the padding
-// begins is never asked. A caller hands in the whole field. The check for C is in `codes`, and asks for front and number here.
+// begins is never asked. A caller hands in the whole field. The check for C is in `codes`, and asks for front and number here. The first
+// bytes are looked at first, then the number, and then that all are letters and digits: the last reads many bytes at once, and a machine
+// that does so right behind a write of the field waits for it. The number is defined for every byte, so the order of the tests doesn't
+// change the answer (`iban-tested`).
 mod pairs;
 
 use classes::Class;

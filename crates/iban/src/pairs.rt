@@ -1,4 +1,7 @@
-// The number that the characters of a padded IBAN spell, two bytes at a time.
+// The number that the characters of a padded IBAN spell, two bytes at a time. A zero byte counts 0 and scales the number before it with
+// 1, so the padding may stay in it (`spelt-unpadded`). What a byte counts and scales with are sums and products (`worth`, `scale`),
+// defined for every byte and compared with `value` at each letter and digit. Arrays with an element for each byte, made into pairs
+// afterwards, would take fewer instructions and more time.
 ghost use mathlib.Core.Path.{_≡_};
 ghost use Prim.Native.Nat.{_≤_};
 ghost use lib.ListN.{length};

@@ -1,5 +1,7 @@
 -- Rows found by chains: a row is in one of 509 buckets by its words, and the rows of a bucket are chained, the last first. The head of a
 -- bucket is its last row, the link of a row is the row before it in its bucket; both are one more than the row's number, 0 for none.
+-- Heads and links are defined by the last row of a bucket, so that one row more is one equation for each (`more-chained`); what a search
+-- keeps is that the last row is still ahead (`LeftBelow`).
 --     added        a sum, above 64 bits left off
 --     addedTo      words added to a number, one after the other
 --     rowBucket    the bucket of a row of words: what their sum leaves by 509

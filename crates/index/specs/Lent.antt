@@ -1,4 +1,6 @@
--- What is lent to a search: rows of words with chains through them. What is found in them is well formed.
+-- What is lent to a search: rows of words with chains through them. What is found in them is well formed. No book is in it. That what is
+-- found is well formed holds of bytes alone, since two lists of larger numbers may have the same words; a function is told of each of its
+-- slices that it has bytes (`slice-bytes`).
 --     BicRows     the words of n BICs, no two the same
 --     TxidRows    the words of n padded TxIds, no two the same
 -- Assumes nothing.

@@ -1,5 +1,9 @@
 // The participants' and the route rows' BICs and the orders' TxIds, each as rows of words one after the other with chains through them:
-// what a search is lent. Rows and links behind those in use are left open: no search looks at them.
+// what a search is lent. Rows and links behind those in use are left open: no search looks at them. A search reads the field's words
+// once, goes along one chain and compares words, which are the same where the bytes are (`same-bics`, `same-txids`). Its answer is
+// `firstRow`, as no two rows hold the same. Rows that share a bucket cost a comparison each: a sender may make 256 TxIds share one, and
+// what is answered is the same. Participants, routes and orders each have a function that makes rows: the loops have one shape over three
+// types, and cite one law (`Made` in `Filling.antt`). Chains are made of rows, so participants and routes share theirs.
 pub mod chains;
 pub mod row;
 pub mod words;

@@ -1,4 +1,6 @@
--- A ticket as the book takes it up.
+-- A ticket as the book takes it up. A ticket that 7 to 11 refuse is a tick at the clock which sweeps no order (`sweptFor`), since `Sound`
+-- doesn't say that none is due at the clock; what is left is the book as it was (`turned`). The code doesn't go on with such a ticket: it
+-- puts the answer and takes the next (`refused-turn` of `turns`).
 --     entryOf      its fields; refused by 7 to 11, that refusal and a tick at the clock
 -- Assumes nothing.
 use Prim.Native.Nat.{ℕ}

@@ -1,4 +1,5 @@
--- A refusal or a decision, on what was found.
+-- A refusal or a decision, on what was found. A refused decision writes back what was there: the order that was found, covers that stay,
+-- no reports (`decidedUnless`). `refused-carried` says that it is what the expiries left. In the code a refused verdict does nothing.
 --     judged    the first refusal that applies, and what is decided: of a refused ticket, that all stays as it is
 -- Assumes nothing.
 use Prim.Native.Nat.{ℕ}

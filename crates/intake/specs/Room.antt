@@ -1,4 +1,5 @@
--- What a move needs so that no sum or difference of it leaves 64 bits.
+-- What a move needs so that no sum or difference of it leaves 64 bits. The functions of `moves` ask for it, and every decision in a sound
+-- book has it (`judged-applicable`).
 --     Room          of each move
 --     Applicable    of a decision: its numbers are in range, and there is room for what it moves
 -- Assumes nothing.

@@ -1,4 +1,6 @@
--- What is sought in the book for a ticket: of the finding, only what its kind looks at.
+-- What is sought in the book for a ticket: of the finding, only what its kind looks at. Participants only where a sender is named, orders
+-- only for kinds 3 to 8, routes only for an order, held and open debit anywhere only for a cut. Refusals and steps are the same on it as
+-- on `finding` (`sought-refuses`, `sought-decides`).
 --     seeksOrder    the kind looks at the order with its TxId
 --     seeksOpen     it looks for held and open debit anywhere
 --     sought        the finding; what the kind does not look at is nothing, number 0 or false

@@ -1,5 +1,6 @@
 // A ticket's step as one way for every ticket, refused or not. There is no code here: specs/ says what is taken up, sought, judged and
-// carried out, and proofs/ has the laws by which that is the step of `rules`.
+// carried out, and proofs/ has the laws by which that is the step of `rules`. The rules are written to be read beside 01, with a case for
+// each way a ticket can go; what is proved of one way is proved once. `step-taken` says that the two are the same step.
 use rules::Order;
 use rules::decision::Decision;
 use rules::decision::Told;

@@ -1,4 +1,6 @@
-// Each kind's judgement: its checks, a line each, and then its step. A later check is looked at only when all before it pass.
+// Each kind's judgement: its checks, a line each, and then its step. A later check is looked at only when all before it pass. A function
+// takes only what its kind looks at. Its checks are a chain of `let .. else`, and the refusal in `verdict` is the same chain of
+// `firstOf`: a request about one kind changes a line of each, and a new refusal is one check and one line.
 use dayfile::route::Followed;
 use fields::Found;
 use rules::checks::Confirming;

@@ -1,4 +1,5 @@
-// A number in decimal, written at a place.
+// A number in decimal, written at a place. Its digits are counted, and then filled from the last to the first: `decimal` has the digits
+// of a tenth and then the last, so a turn of that loop is its own step.
 ghost use mathlib.Core.Path.{_≡_};
 ghost use Prim.Native.Nat.{_+_, _≤_};
 ghost use lib.ListN.{length};

@@ -1,4 +1,5 @@
-// The reports of an expiry, of a cut and of a verdict, written behind n reports. Each answer is how many reports there are then.
+// The reports of an expiry, of a cut and of a verdict, written behind n reports. Each answer is how many reports there are then. So those
+// of expiries, the ticket's own and a cut's follow each other in one buffer.
 use report::Report;
 use rules::decision::Told;
 use rules::verdict::Notice;

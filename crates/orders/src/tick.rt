@@ -1,4 +1,4 @@
-// The expiry of one order.
+// The expiry of one order. It takes the clock minus the order's time: a sum of time and 20 could leave 32 bits.
 use super::status;
 use super::tell;
 use super::transfer;

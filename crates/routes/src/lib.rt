@@ -1,4 +1,7 @@
-// Following routes: where each row leads, as numbers that can be lent, and following from a row on.
+// Following routes: where each row leads, as numbers that can be lent, and following from a row on. Rows are lent as two arrays of
+// numbers, the kind of each and its k: what holds an enum can't be lent, and passing 64 routes by value at each call would copy them. By
+// them `follow` is `followed` of `dayfile`; that they lead where the routes do is one law for every row (`followed-by`). A row that isn't
+// there, or that points at itself or further on, leads nowhere, so nothing is required; an accepted file has none such (`Arriving.antt`).
 use dayfile::roster::Route;
 use dayfile::roster::Target;
 use dayfile::route::Followed;

@@ -1,5 +1,7 @@
 -- Each ticket's own step, once no refusal applies: 01 'Then its own step'. A step is decided on what was found and then applied to the
--- book.
+-- book. A decision is small values: which order is written and how, which one or two covers move and how, what is told, how many rows.
+-- One definition puts it into a book, so soundness, demand 3 and the code each have one argument for that. A decision about no order
+-- writes back what was there, and so does a cover that stays: `set-getD` says that nothing changes.
 --     decisionOf    what is decided, a clause for each kind
 --     applied       the book after it
 --     toldBy        the reports of it

@@ -1,4 +1,5 @@
--- What a book finds in a ticket. This is the one file of the rules that looks at a ticket's bytes.
+-- What a book finds in a ticket. This is the one file of the rules that looks at a ticket's bytes. Refusals and steps are functions of
+-- `finding` alone, so what names an order can change without them.
 --     senderIn    the participant whose BIC the ticket's sender is
 --     orderIn     the order with the ticket's TxId
 --     isOpen      a cover has held or open debit

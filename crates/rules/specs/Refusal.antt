@@ -1,4 +1,5 @@
--- Refusals 6 and 11 to 22: the condition of each, in three groups from 12 on, and the number of each answer.
+-- Refusals 6 and 11 to 22: the condition of each, in three groups from 12 on, and the number of each answer. Each condition is on any
+-- finding, so that it can be read by itself. The code goes kind by kind instead, and `judged-verdict` joins the two.
 --     bufferOf, timingOf        6 and 11
 --     namingOf                  12 to 16: who and what is named
 --     permissionOf              17 to 19: whether this may be done

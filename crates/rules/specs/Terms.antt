@@ -1,4 +1,4 @@
--- What each kind of ticket asks for, as one table.
+-- What each kind of ticket asks for, as one table. Each refusal reads one column of it.
 --     termsOf      of each kind
 --     namesSender, opensOrder, namesOrder      what a subject is
 --     partyOf      the participant that answers for an order

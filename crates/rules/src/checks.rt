@@ -1,5 +1,6 @@
 // The answers of the checks 12 to 22, an enum for each. The case that passes carries what the checks behind it and the step take from it.
-// specs/Checks.antt says when each is given, and the refusal's number.
+// specs/Checks.antt says when each is given, and the refusal's number. 21 has two, since a cut and a confirm look at different things; 18
+// has one enum and a check for each status that a step needs.
 use super::decision::Move;
 
 // 12: the participant's number.

@@ -1,4 +1,7 @@
-// What is seen of a ticket before the clock moves: refusals 7 to 11, and what its kind asks for of sender, order and route.
+// What is seen of a ticket before the clock moves: refusals 7 to 11, and what its kind asks for of sender, order and route. That bytes
+// are below 256 comes from the slice itself, so that words tell codes apart; `see` asks nothing about it. Nothing reads a ticket without
+// a book: `reading` of `ticket` is the definition of 7 to 10, and `see`, which is lent the rows of a book, equals it together with 11.
+// With no rows at clock 0, as `cases` calls it, it is `reading` alone.
 mod subjects;
 mod values;
 

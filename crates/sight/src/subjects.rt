@@ -1,5 +1,7 @@
 // Refusals 7 and 8 by what a ticket's kind names, and what the kind asks for. What it does not ask for, the other findings, may be
-// anything.
+// anything. A class promises `sightOf` whatever that is, and at any clock; so `formed_of` hands its own findings in, and searches only
+// for what the class asks for. A refusal is the same whether searches come before the tests of form or behind them, since searching
+// changes nothing.
 use fields::Found;
 use rules::terms::Subject;
 use ticket::kinds::Kind;
