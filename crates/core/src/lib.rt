@@ -1,5 +1,5 @@
 // The core: a book is kept over many tickets and changed in place. A book has 256 orders; it is handed over once for a list of tickets
-// and not once for each. `run` stands apart from `open` and `hand_in`, as its proof takes longer than all of theirs.
+// and not once for each.
 
 mod directory;
 mod taking;

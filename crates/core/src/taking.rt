@@ -5,12 +5,11 @@
 // it is judged (`late-done`), which takes 3 ns less than carrying out nothing. A verdict is carried out in parts that do nothing where it
 // says nothing; only the order is a match, as opening, changing and cutting write different things.
 //
-// The index of TxIds is in locals: lent to the searches and not passed, and no promise speaks of it, so the book's type is the paper's
-// and a caller can't hand in an index that doesn't fit. A TxId gets its row and its link where an order is new, and only there: other
-// verdicts leave every order's TxId (`KeepsName`). All cover together is a local too, changed by what each move changes (`total_with`),
-// so refusal 22 adds up nothing; it is kept over all 32 places (`allOf`), so that a move of nobody needs no case of its own, and in a
-// sound book that is the sum over the participants (`all-total`). Held and open debit anywhere are looked for at a cut only, since that
-// looks at every participant.
+// The index of TxIds is in locals, lent to the searches and not passed. A TxId gets its row and its link where an order is new, and only
+// there: other verdicts leave every order's TxId (`KeepsName`). All cover together is a local too, changed by what each move changes
+// (`total_with`), so refusal 22 adds up nothing; it is kept over all 32 places (`allOf`), so that a move of nobody needs no case of its
+// own, and in a sound book that is the sum over the participants (`all-total`). Held and open debit anywhere are looked for at a cut
+// only, since that looks at every participant.
 use super::Batch;
 use index::chains;
 use moves::cover;

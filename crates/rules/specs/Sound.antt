@@ -1,6 +1,6 @@
 -- What every book that tickets can reach has, and what the code's sums, differences and indexes rest on. Every step keeps it, whatever
 -- the ticket (`handed-sound`). With it a step's reports fit 12 bytes and are at most 544 (`handed-few`), so the buffer of refusal 6 holds
--- them, and they read back from it (`buffer-reads-back`). It doesn't limit an open debit; nothing needs that.
+-- them, and they read back from it (`buffer-reads-back`).
 --     waitingAmount   what an order adds to the reserved cover of participant p: its amount, if p pays it and it waits
 --     waitingSum      what all orders in use add
 --     OrdersSound     the orders

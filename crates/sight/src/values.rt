@@ -1,6 +1,6 @@
-// Refusals 9 to 11: amount and time, the same for every kind. `valued` is called at one place, behind all classes, so that the compiler takes
-// it in: as a call from each class it would be handed what was found through memory. A tick's and a cut's amount was blank at 7, so there
-// only 11 can refuse.
+// Refusals 9 to 11: amount and time, the same for every kind. `valued` is called at one place, behind all classes, so that the compiler
+// takes it in: as a call from each class it would be handed what was found through memory. A tick's and a cut's amount was blank at 7, so
+// there only 11 can refuse.
 use super::Seen;
 use super::Sight;
 use fields::Found;
