@@ -47,9 +47,15 @@ class Many(unittest.TestCase):
         for name in NAMES:
             self.assertEqual(many.name_words(name), name.decode() if name in PLAIN else f"hex:{name.hex()}")
 
+    def content(self, name):
+        with open(os.path.join(ROOT, "crates", "days", name), "rb") as file:
+            return file.read()
+
     def test_the_input_of_the_program_days(self):
-        with open(os.path.join(ROOT, "crates", "days", "stdin"), "rb") as file:
-            data = file.read()
+        self.assertEqual(many.pack("x", self.content("days.txt").decode()), self.content("stdin"))
+
+    def test_the_input_of_the_program_days_unpacked(self):
+        data = self.content("stdin")
         unpacked = many.unpack(data)
         self.assertEqual(many.pack("x", unpacked), data)
         self.assertTrue(unpacked.startswith("day case D\n# participants\nparticipant AAAALV22 bank\n"))
