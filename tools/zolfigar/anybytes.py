@@ -9,7 +9,7 @@ import sys
 import time
 from concurrent.futures import ThreadPoolExecutor
 
-from . import files, layout, many, output
+from . import files, layout, many, output, version
 from .figures import counted
 from .progress import over
 
@@ -139,6 +139,7 @@ def edges(program, day):
 
 def arguments(words):
     parser = argparse.ArgumentParser("anybytes", description=WHAT)
+    version.told(parser)
     parser.add_argument("--count", type=int, default=100_000, help="how many inputs (100,000)")
     parser.add_argument("--seed", type=int, default=1, help="of the inputs (1)")
     return parser.parse_args(words)

@@ -3,7 +3,7 @@
 import argparse
 import sys
 
-from . import files, inputs, many, packing, unpacking
+from . import files, inputs, many, packing, unpacking, version
 
 WHAT = "A day file from text, and text from a day file. docs/DAYS.md has the text form."
 USES = """example:
@@ -17,6 +17,7 @@ Nothing is written if there is an error. The exit status is 1 for an error, 2 fo
 def arguments(words):
     form = argparse.RawDescriptionHelpFormatter
     parser = argparse.ArgumentParser("day", description=WHAT, epilog=USES, formatter_class=form)
+    version.told(parser)
     commands = parser.add_subparsers(dest="command", required=True, metavar="pack|unpack")
     for command, what in (("pack", "text to a day file"), ("unpack", "a day file, of any bytes, to text")):
         added = commands.add_parser(command, help=what, description=what, epilog=USES, formatter_class=form)

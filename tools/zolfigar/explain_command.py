@@ -5,7 +5,7 @@ import datetime
 import os
 import sys
 
-from . import audit, files, history, journal, page, terminal
+from . import audit, files, history, journal, page, terminal, version
 
 USES = """examples:
   tools/explain day.bin day.out                      all of it, on the terminal
@@ -27,6 +27,7 @@ def followed(parser):
 def arguments(words):
     form = argparse.RawDescriptionHelpFormatter
     parser = argparse.ArgumentParser("explain", description=__doc__, epilog=USES, formatter_class=form)
+    version.told(parser)
     parser.add_argument("day", help="the day file, as tools/day packs it")
     parser.add_argument("output", help="what the clearing program printed of it; - is standard input")
     followed(parser)

@@ -5,7 +5,7 @@ import os
 import subprocess
 import sys
 
-from . import audit, explain_command, files, history, journal, packing, page, progress
+from . import audit, explain_command, files, history, journal, packing, page, progress, version
 
 USES = """examples:
   tools/run examples/busy.day
@@ -22,6 +22,7 @@ ROOT = os.path.dirname(os.path.dirname(os.path.dirname(os.path.realpath(__file__
 def arguments(words):
     form = argparse.RawDescriptionHelpFormatter
     parser = argparse.ArgumentParser("run", description=__doc__, epilog=USES, formatter_class=form)
+    version.told(parser)
     parser.add_argument("day", help="a day as text, in a file whose name ends in .day; any other file is taken as packed")
     explain_command.followed(parser)
     return parser.parse_args(words)
