@@ -87,7 +87,7 @@ class Full:
         return "full", packed(participants, routes, self.tickets), "\n".join([*self.lines, *closing, ""])
 
 
-HOSTILE = '<img src=http://x.y onerror=alert(1)'
+HOSTILE = "<img src=http://x.y onerror=alert(1)"
 
 
 def hostile():
@@ -95,11 +95,28 @@ def hostile():
     bics = [b"<b>x</b>\"'&", b"</script><!"]
     tickets = [
         {"kind": 1, "sender": bics[0], "amount": 1000},
-        {"kind": 3, "sender": bics[0], "payee": bics[1], "amount": 400, "txid": HOSTILE[:35].encode(), "iban": b"<svg onload=x>"},
+        {
+            "kind": 3,
+            "sender": bics[0],
+            "payee": bics[1],
+            "amount": 400,
+            "txid": HOSTILE[:35].encode(),
+            "iban": b"<svg onload=x>",
+        },
         {"kind": 8, "sender": b"javascript:", "txid": b"</title><script>fetch('http://x.y')"},
         {"kind": 4, "flag": 1, "sender": bics[1], "txid": b"]]>--><style>*{color:red}"},
     ]
-    lines = ["T 0 0 0 0", "T 1 0 1 1", "R 1 1 0 400", "T 2 16 0 0", "T 3 0 1 0", "R 7 2 0 401", "C 0 600 400 0", "C 1 0 0 0", ""]
+    lines = [
+        "T 0 0 0 0",
+        "T 1 0 1 1",
+        "R 1 1 0 400",
+        "T 2 16 0 0",
+        "T 3 0 1 0",
+        "R 7 2 0 401",
+        "C 0 600 400 0",
+        "C 1 0 0 0",
+        "",
+    ]
     name = "</title><script>document.body.remove()</script>"
     return name, packed([{"bic": bic} for bic in bics], [], tickets), "\n".join(lines)
 

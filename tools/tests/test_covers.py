@@ -64,7 +64,9 @@ class Cover(unittest.TestCase):
         day = history.read("x", file, told + ended)
         steps = [(step.event.number, len(step.moves), step.after) for step in covers.steps_of(day, 0)]
         self.assertEqual(steps, [(0, 1, (1000, 0, 0)), (1, 1, (900, 100, 0)), (2, 1, (800, 200, 0)), (3, 2, (1000, 0, 0))])
-        self.assertEqual(covers.step_words(day, covers.steps_of(day, 0)[3]).split(". ")[0], "Ticket 3, 00:01:00: 2 movements")
+        self.assertEqual(
+            covers.step_words(day, covers.steps_of(day, 0)[3]).split(". ")[0], "Ticket 3, 00:01:00: 2 movements"
+        )
 
     def test_the_drawn_cover_is_the_statement(self):
         day = scenes.day("busy")
@@ -98,7 +100,9 @@ class Seen(pages.InBrowser):
         self.open("busy")
         for axis in ("ticket", "time"):
             self.js(f"document.getElementById('by-{axis}').click()")
-            self.assertEqual(self.js("[...document.querySelectorAll('#p0 .chart')].filter(c => c.checkVisibility()).length"), 1)
+            self.assertEqual(
+                self.js("[...document.querySelectorAll('#p0 .chart')].filter(c => c.checkVisibility()).length"), 1
+            )
             self.browser.click(f"#p0 .by-{axis} a[href='#t42'] rect")
             self.assertEqual((self.js("location.hash"), self.js(FOCUS)), ("#t42", "t42"))
             self.assertIn("confirm from AAAALV22 EUR 359.50", self.texts("#t42 .words")[0])

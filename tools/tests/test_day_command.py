@@ -109,7 +109,9 @@ class Command(unittest.TestCase):
         with open("/dev/full", "wb") as full:
             ran = self.run_day("pack", "d.day", stdout=full)
         self.fails(ran, 1, "day: can't write to standard output: No space left on device")
-        self.fails(self.run_day("pack", "d.day", "-o", "/dev/full"), 1, "day: can't write /dev/full: No space left on device")
+        self.fails(
+            self.run_day("pack", "d.day", "-o", "/dev/full"), 1, "day: can't write /dev/full: No space left on device"
+        )
 
     def test_a_device_is_not_replaced(self):
         self.fails(self.run_day("pack", "d.day", "-o", os.devnull), 0)

@@ -48,7 +48,7 @@ class Edits(unittest.TestCase):
 
     def test_those_that_the_paper_page_names_are_there(self):
         text = scenes.content("docs", "PAPER.md").decode()
-        shut = text[text.index("## What shuts out a wrong book"):text.index("## Code places")]
+        shut = text[text.index("## What shuts out a wrong book") : text.index("## Code places")]
         self.assertGreater(len(named(shut)), 30)
         self.assertEqual(sorted(named(shut) - {os.path.basename(path)[:-5] for path in edits()}), [])
 

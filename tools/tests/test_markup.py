@@ -60,7 +60,9 @@ class Small(unittest.TestCase):
 
     def test_members(self):
         day = scenes.day("case-d")
-        self.assertEqual([markup.is_member(day, number) for number in (None, -1, 0, 1, 2)], [False, False, True, True, False])
+        self.assertEqual(
+            [markup.is_member(day, number) for number in (None, -1, 0, 1, 2)], [False, False, True, True, False]
+        )
         self.assertEqual(leads_of(markup.member_link(day, 1)), [("BBBBLV22", "#p1")])
         self.assertEqual(markup.member_link(day, 2), telling.member(day, 2))
 

@@ -45,7 +45,10 @@ class NamedPlaces(unittest.TestCase):
 
     def test_a_way_names_both_its_ends(self):
         found = names("x = to.start-from-At-loop c")
-        self.assertIn("\n\nabbrev pub start-from-At-loop : at.At-loop → at.Start\nstart-from-At-loop c = c .before .before\n", found.ways_file())
+        self.assertIn(
+            "\n\nabbrev pub start-from-At-loop : at.At-loop → at.Start\nstart-from-At-loop c = c .before .before\n",
+            found.ways_file(),
+        )
         self.assertEqual((found.types, found.wrong), ({"At-loop", "Start"}, []))
 
     def test_what_is_not_known_is_told(self):

@@ -76,7 +76,9 @@ class Text(unittest.TestCase):
             self.assertLess(len(PAGES[name].encode()), 3_000_000, name)
 
     def test_nothing_moves_by_itself(self):
-        self.assertIsNone(re.search("transition|animation|smooth|@keyframes", page.beside("page.css") + page.beside("page.js")))
+        self.assertIsNone(
+            re.search("transition|animation|smooth|@keyframes", page.beside("page.css") + page.beside("page.js"))
+        )
 
 
 def luminance(colour):
@@ -94,7 +96,9 @@ class Colours(unittest.TestCase):
     def test_contrast(self):
         """Each colour of text on each ground that it may stand on, light, dark and printed."""
         style = page.beside("page.css")
-        schemes = [dict(re.findall(r"--([\w-]+): (#\w{6});", block)) for block in re.findall(r":root \{(.*?)\}", style, re.S)]
+        schemes = [
+            dict(re.findall(r"--([\w-]+): (#\w{6});", block)) for block in re.findall(r":root \{(.*?)\}", style, re.S)
+        ]
         self.assertEqual(len(schemes), 3)
         for scheme in schemes:
             for text in ("ink", "soft", "accent", "good", "bad", "late"):
@@ -120,7 +124,9 @@ class Seen(pages.InBrowser):
             self.assertEqual((self.browser.complaints(), self.browser.requests()), ([], []), name)
 
     def test_the_driver_hears_what_a_page_says_and_asks_for(self):
-        bad = "<img src='http://127.0.0.1:9/x.png'><script>console.log('a'); fetch('http://127.0.0.1:9/y'); nothing()</script>"
+        bad = (
+            "<img src='http://127.0.0.1:9/x.png'><script>console.log('a'); fetch('http://127.0.0.1:9/y'); nothing()</script>"
+        )
         self.browser.show(bad)
         said = " ".join(self.browser.complaints())
         for word in ("console: a", "exception: Uncaught", "ERR_"):
@@ -128,7 +134,9 @@ class Seen(pages.InBrowser):
         self.assertEqual(self.browser.requests(), ["http://127.0.0.1:9/x.png", "http://127.0.0.1:9/y"])
 
     def test_no_browser_is_an_error(self):
-        with mock.patch.dict("os.environ", PATH="/nowhere"), self.assertRaisesRegex(BrowserError, "apt-get install -y chromium"):
+        with mock.patch.dict("os.environ", PATH="/nowhere"), self.assertRaisesRegex(
+            BrowserError, "apt-get install -y chromium"
+        ):
             chromium()
 
     def test_hostile_names_do_nothing(self):
@@ -169,7 +177,9 @@ class Seen(pages.InBrowser):
 
     def closed(self):
         figures = "['available', 'reserved', 'held'].map(part => body.querySelector(`.${part} .figure`).textContent)"
-        return [list(map(cents, row)) for row in self.js(f"[...document.querySelectorAll('.closed')].map(body => {figures})")]
+        return [
+            list(map(cents, row)) for row in self.js(f"[...document.querySelectorAll('.closed')].map(body => {figures})")
+        ]
 
     def last_lines(self, count):
         """Available, reserved and held on the last line of each statement; zero where there is none."""
@@ -223,7 +233,9 @@ class Seen(pages.InBrowser):
     def test_no_sideways_scrolling(self):
         for name in PAGES:
             self.open(name)
-            self.js(UNFOLD + "; document.querySelectorAll('section').forEach(part => part.style.contentVisibility = 'visible')")
+            self.js(
+                UNFOLD + "; document.querySelectorAll('section').forEach(part => part.style.contentVisibility = 'visible')"
+            )
             for width in {"big": (360,), "full": (360, 700)}.get(name, (360, 500, 700, 1000, 1280, 1920)):
                 self.browser.size(width, 800)
                 self.assertLessEqual(self.js("document.documentElement.scrollWidth"), width, (name, width))

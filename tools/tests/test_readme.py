@@ -35,7 +35,9 @@ class Readme(unittest.TestCase):
         self.assertEqual(str(failed.exception) + "\n", block("mine.day:"))
 
     def test_its_files_are_there(self):
-        names = re.findall(r"`((?:crates|docs|examples|gateway|include|tools)/[\w./-]+?)/?`", scenes.content("README.md").decode())
+        names = re.findall(
+            r"`((?:crates|docs|examples|gateway|include|tools)/[\w./-]+?)/?`", scenes.content("README.md").decode()
+        )
         self.assertGreater(len(names), 30)
         for name in names:
             self.assertTrue(scenes.exists(name), name)

@@ -46,7 +46,12 @@ class Telling(unittest.TestCase):
         self.assertEqual(told, due + ["order 9 NIGHT settled, from AAAALV22", "confirmed debit"])
 
     def test_equation(self):
-        terms = [("cover-ins", 30000), ("confirmed debits", 10000), ("orders settled to it", 10500), ("returns by it", -4000)]
+        terms = [
+            ("cover-ins", 30000),
+            ("confirmed debits", 10000),
+            ("orders settled to it", 10500),
+            ("returns by it", -4000),
+        ]
         self.assertEqual(telling.equation(self.day, 1), (terms, 46500))
 
     def test_one_who_is_no_participant(self):

@@ -50,7 +50,9 @@ class Rows(unittest.TestCase):
 class Seen(pages.InBrowser):
     def test_the_named_ticket_is_marked(self):
         self.open("big", "#t400")
-        grounds = [self.js(f"getComputedStyle(document.getElementById('{row}')).backgroundColor") for row in ("t400", "t399")]
+        grounds = [
+            self.js(f"getComputedStyle(document.getElementById('{row}')).backgroundColor") for row in ("t400", "t399")
+        ]
         self.assertNotEqual(*grounds)
 
     # The filter

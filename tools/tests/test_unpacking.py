@@ -52,7 +52,9 @@ def some_ticket(chance):
 def some_file(chance):
     participants = [some_row(chance, layout.PARTICIPANT) for _ in range(chance.randrange(4))]
     routes = [some_row(chance, layout.ROUTE) for _ in range(chance.randrange(5))]
-    tickets = [chance.choice((some_ticket, lambda c: some_row(c, layout.TICKET)))(chance) for _ in range(chance.randrange(4))]
+    tickets = [
+        chance.choice((some_ticket, lambda c: some_row(c, layout.TICKET)))(chance) for _ in range(chance.randrange(4))
+    ]
     header = layout.header_of(len(participants), len(routes), len(tickets))
     return b"".join([layout.write(layout.HEADER, header), *participants, *routes, *tickets])
 

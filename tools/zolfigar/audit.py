@@ -208,5 +208,17 @@ def positions(day):
 
 
 CLAUSES = (
-    refusals, addressed, about_orders, caused, answered, quiet, parties, expiry, once, repeated, alike, never_below, positions,
+    refusals,
+    addressed,
+    about_orders,
+    caused,
+    answered,
+    quiet,
+    parties,
+    expiry,
+    once,
+    repeated,
+    alike,
+    never_below,
+    positions,
 )

@@ -225,8 +225,12 @@ class Reader:
         told = event.first(2)
         if told:
             about = {"order": told.order}
-            self.move(event, told.to, "orders settled from it", told.amount, reserved=-told.amount, **about, other=event.sender)
-            self.move(event, event.sender, "orders settled to it", told.amount, available=told.amount, **about, other=told.to)
+            self.move(
+                event, told.to, "orders settled from it", told.amount, reserved=-told.amount, **about, other=event.sender
+            )
+            self.move(
+                event, event.sender, "orders settled to it", told.amount, available=told.amount, **about, other=told.to
+            )
 
     def returned(self, event):
         """By its sender, to the one to whom its report 6 goes, with its own amount."""

@@ -130,7 +130,9 @@ def ticket_form(kind):
     items = {word: Item(("flag",), phrase, fixed(flag=flag)) for flag, word in flags.items()}
     items |= {word: item for word, item in TICKET_ITEMS.items() if item.fields[0] in listed}
     first = "txid" if "txid" in listed else ""
-    return Form(by_name(layout.TICKET), first, "a TxId", text.txid, items, listed, frozenset((*FIELD_WORDS, *flags.values())))
+    return Form(
+        by_name(layout.TICKET), first, "a TxId", text.txid, items, listed, frozenset((*FIELD_WORDS, *flags.values()))
+    )
 
 
 TICKETS = {kind: ticket_form(kind) for kind in words.KINDS}
@@ -169,7 +171,9 @@ def lacking(cursor, form, missing, row):
     if form.first not in missing:
         return cursor.expected(asked_for(form, row))
     spelled = form.first == "txid" and cursor.next() is not None
-    return cursor.expected(form.phrase, f"; a TxId of these letters is written `but txid {cursor.next()}`" if spelled else "")
+    return cursor.expected(
+        form.phrase, f"; a TxId of these letters is written `but txid {cursor.next()}`" if spelled else ""
+    )
 
 
 def overrides(cursor, fields):

@@ -102,7 +102,9 @@ def run(words, root=ROOT):
     problems = audit.problems(day)
     explain_command.show(day, problems, words)
     base = kept(root, name, day, file, output)
-    sys.stdout.write(f"\nWritten: {base}.bin, .out, .html (open it in a browser), .journal (hledger -f {base}.journal balance)\n")
+    sys.stdout.write(
+        f"\nWritten: {base}.bin, .out, .html (open it in a browser), .journal (hledger -f {base}.journal balance)\n"
+    )
     differs = expected(words.day, output)
     if differs:
         raise files.Failed(differs)

@@ -86,7 +86,9 @@ def summary(day):
     counts = {}
     for order in day.orders:
         counts[status(order)] = counts.get(status(order), 0) + 1
-    ways = ", ".join(f"{counts[way]} {way}" for way in ("settled", "returned", "refused", "expired", "waiting") if way in counts)
+    ways = ", ".join(
+        f"{counts[way]} {way}" for way in ("settled", "returned", "refused", "expired", "waiting") if way in counts
+    )
     tickets = f"{counted(len(day.events), 'ticket')}: {len(day.events) - turned} carried out, {turned} turned back"
     return f"{tickets}; {counted(len(day.orders), 'order')}{': ' + ways if ways else ''}"
 

@@ -96,7 +96,9 @@ def moved(day, order, style):
     for move in day.moves:
         if move.order == order.number:
             what = (telling.member(day, move.participant), telling.move(day, move))
-            rows.append((clock(move.event.time), str(move.event.number), *what, signed(move.available), signed(move.reserved)))
+            rows.append(
+                (clock(move.event.time), str(move.event.number), *what, signed(move.available), signed(move.reserved))
+            )
     yield from ("  " + line for line in columns(rows, ">><<>>"))
 
 
@@ -114,7 +116,9 @@ def change(move):
 def statement(day, participant, style):
     kind = "bank" if participant.is_bank else "linked system"
     wish = "no opening cover" if participant.opening is None else f"opening cover {euro(participant.opening)}"
-    yield from section(f"Cover of {telling.short(participant.bic)} (participant {participant.number}, {kind}, {wish})", style)
+    yield from section(
+        f"Cover of {telling.short(participant.bic)} (participant {participant.number}, {kind}, {wish})", style
+    )
     rows = [("time", "ticket", "what", "change", "available", "reserved", "held"), ("", "", "from zero", "", *["0.00"] * 3)]
     for move, after in day.statement(participant.number):
         figures = [euro(part) for part in after]

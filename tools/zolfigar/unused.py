@@ -150,7 +150,9 @@ class Source:
 
     def needless_imports(self) -> Iterator[Found]:
         words = said(USE.sub("", self.text) + self.edits)
-        return (Found(self.path, line, name, "imported and not used") for line, name in self.imports if not is_said(name, words))
+        return (
+            Found(self.path, line, name, "imported and not used") for line, name in self.imports if not is_said(name, words)
+        )
 
 
 class Crates:
@@ -172,7 +174,9 @@ class Crates:
         words = said(text)
         found = {name for own, name in source.names.items() if is_said(own, words)}
         found |= {Name(source.aliases[alias], name) for alias, name in QUALIFIED.findall(text) if alias in source.aliases}
-        modules = [f"{module}.{name}" for module, name in found] + [source.aliases[word] for word in words if word in source.aliases]
+        modules = [f"{module}.{name}" for module, name in found] + [
+            source.aliases[word] for word in words if word in source.aliases
+        ]
         found |= {self.declared(module) for module in modules}
         if source.is_code:
             found |= {self.code_item(source, path.split("::")) for path in CODE_PATH.findall(text)}
@@ -231,7 +235,9 @@ class Crates:
 
     def in_a_signature(self, item: Item) -> bool:
         """Whether something public in the same file of code has the item in its signature, and so needs it public."""
-        others = (other for other in self.sources[item.path].items if other.is_pub and other != item and item.path.suffix == ".rt")
+        others = (
+            other for other in self.sources[item.path].items if other.is_pub and other != item and item.path.suffix == ".rt"
+        )
         heads = (SIGNATURE.search(other.body) for other in others)
         return any(head and item.name.name in said(head[0]) for head in heads)
 

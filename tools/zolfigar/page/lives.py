@@ -110,7 +110,9 @@ def marks_of(order):
         for sign in signs_of(order, event):
             age = event.time - order.time
             why = f": {telling.refusal(event.refusal)}" if sign == "turned" else ""
-            marks.append(Mark(event, age, sign, f"{age:,} s: {SIGNS[sign]}, ticket {event.number} ({kind_words(event)}){why}"))
+            marks.append(
+                Mark(event, age, sign, f"{age:,} s: {SIGNS[sign]}, ticket {event.number} ({kind_words(event)}){why}")
+            )
     return marks
 
 
@@ -148,7 +150,9 @@ def waited(life, order):
 def begun(order):
     """The order's own ticket, at the left end of the bar."""
     words = node("title", f"0 s: the order, ticket {order.event.number}")
-    return node("a", words, node("rect", class_="begin", x=-3, y=TOP - 9, width=6, height=18), href=f"#t{order.event.number}")
+    return node(
+        "a", words, node("rect", class_="begin", x=-3, y=TOP - 9, width=6, height=18), href=f"#t{order.event.number}"
+    )
 
 
 def life_chart(life, order, has_limit):

@@ -147,7 +147,9 @@ def axis_choice():
     parts = [node("span", "Charts by", class_="choice-name")]
     for axis in covers.AXES:
         is_first = axis == "ticket"
-        parts.append(node("input", type="radio", name="axis", id=f"by-{axis}", checked=is_first, aria_label=f"Charts by {axis}"))
+        parts.append(
+            node("input", type="radio", name="axis", id=f"by-{axis}", checked=is_first, aria_label=f"Charts by {axis}")
+        )
         parts.append(node("label", axis, for_=f"by-{axis}"))
     return parts
 

@@ -66,12 +66,16 @@ def chosen(name, label, entries):
 
 def filter_form(view):
     day = view.day
-    kinds = dict.fromkeys(kind for kind in (*KINDS.values(), "other") if any(kind_word(event) == kind for event in day.events))
+    kinds = dict.fromkeys(
+        kind for kind in (*KINDS.values(), "other") if any(kind_word(event) == kind for event in day.events)
+    )
     members = [(str(p.number), telling.short(p.bic)) for p in day.participants]
     shows = []
     for value, label in (("all", "all"), ("turned", "turned back"), ("told", "with reports")):
         shows.append(node("label", node("input", type="radio", name="show", value=value, checked=value == "all"), label))
-    text = node("input", type="search", id="text", autocomplete="off", spellcheck="false", placeholder="any part of a ticket")
+    text = node(
+        "input", type="search", id="text", autocomplete="off", spellcheck="false", placeholder="any part of a ticket"
+    )
     parts = [
         node("label", "Filter ", text),
         node("fieldset", node("legend", "Show", class_="unseen"), *shows),
