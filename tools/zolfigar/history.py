@@ -10,7 +10,7 @@ from typing import NamedTuple
 from . import layout, output
 from .figures import counted
 from .layout import ParticipantRow, TicketRow
-from .output import Answer, Position, Report
+from .output import Answer, Parts, Position, Report
 from .progress import over
 from .words import CUT_REPORTS, ENDINGS
 
@@ -72,14 +72,6 @@ class Order:
         return self.event.time
 
 
-class Parts(NamedTuple):
-    """The three parts of a cover: what they are, or how they change."""
-
-    available: int = 0
-    reserved: int = 0
-    held: int = 0
-
-
 class Move(NamedTuple):
     """What an event did to a participant's cover: how each of the three changed, and under which term."""
 
@@ -92,6 +84,9 @@ class Move(NamedTuple):
     held: int = 0
     order: int | None = None
     other: int | None = None
+
+    def parts(self) -> Parts:
+        return Parts(self.available, self.reserved, self.held)
 
 
 # The terms of the cover equation, with their sign: what comes in and what goes out. Other moves are within the cover.

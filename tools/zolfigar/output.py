@@ -29,6 +29,14 @@ class Answer(NamedTuple):
     line: int
 
 
+class Parts(NamedTuple):
+    """The three parts of a cover: what they are, or how they change."""
+
+    available: int = 0
+    reserved: int = 0
+    held: int = 0
+
+
 class Position(NamedTuple):
     """A C line."""
 
@@ -37,6 +45,9 @@ class Position(NamedTuple):
     reserved: int
     held: int
     line: int
+
+    def parts(self) -> Parts:
+        return Parts(self.available, self.reserved, self.held)
 
 
 class Output(NamedTuple):

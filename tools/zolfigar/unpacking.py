@@ -55,7 +55,9 @@ def value_word(value: object) -> str:
     return f"hex:{value.hex()}" if value else "empty"
 
 
-def but_words(fields: layout.Fields, row: Mapping[str, object], given: Mapping[str, object], needed: Sequence[str]) -> tuple[str, int]:
+def but_words(
+    fields: layout.Fields, row: Mapping[str, object], given: Mapping[str, object], needed: Sequence[str]
+) -> tuple[str, int]:
     """The fields that the words before don't give as the row has them, and how many they are."""
     expressed = {field.name: b"" if field.is_text else 0 for field in fields} | dict(given)
     off = [f.name for f in fields if row[f.name] != expressed[f.name] or (f.name in needed and f.name not in given)]
