@@ -49,7 +49,10 @@ class Full:
 
     def __init__(self):
         self.bics = [f"BANK{chr(65 + n // 26)}{chr(65 + n % 26)}22XXX".encode() for n in range(32)]
-        self.tickets, self.lines, self.orders, self.settled = [], [], [], 0
+        self.tickets: list[dict[str, object]] = []
+        self.lines: list[str] = []
+        self.orders: list[tuple[int, int, int, object]] = []
+        self.settled = 0
         self.covers = [[10**15, 0] for _ in self.bics]
         for bic in self.bics:
             self.add({"kind": 1, "sender": bic, "amount": 10**15}, [], 0)
@@ -189,7 +192,9 @@ READ = {name: Parts(html) for name, html in PAGES.items()}
 
 def printed(output):
     """The output's lines, read here for themselves: refusals, reports by ticket, closing positions."""
-    refusals, reports, positions = [], [], []
+    refusals: list[int] = []
+    reports: list[list[tuple[int, ...]]] = []
+    positions: list[tuple[int, ...]] = []
     for line in output.splitlines():
         letter, *words = line.split()
         numbers = tuple(map(int, words))
@@ -227,6 +232,8 @@ def browser():
 
 
 class InBrowser(unittest.TestCase):
+    browser: Browser
+
     @classmethod
     def setUpClass(cls):
         cls.browser = browser()

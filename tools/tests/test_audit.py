@@ -148,9 +148,9 @@ class Audit(unittest.TestCase):
 
     def test_each_line_taken_out_or_doubled(self):
         lines = scenes.output("busy").splitlines(keepends=True)
-        for at in range(len(lines)):
+        for at, line in enumerate(lines):
             for text in (lines[:at] + lines[at + 1 :], lines[: at + 1] + lines[at:]):
-                self.assertTrue(audit.problems(scenes.day("busy", "".join(text))), lines[at])
+                self.assertTrue(audit.problems(scenes.day("busy", "".join(text))), line)
 
 
 if __name__ == "__main__":

@@ -6,11 +6,12 @@ import unittest
 from tests import pages, scenes
 from tests.pages import FOCUS, PAGES
 from zolfigar import history, packing
+from zolfigar.output import Parts
 from zolfigar.page import covers
 
 
 def found(element, name):
-    return [each for each in element.iter(name)]
+    return list(element.iter(name))
 
 
 def labels(scale):
@@ -37,7 +38,7 @@ class Scales(unittest.TestCase):
                 self.assertTrue(all(0 <= scale.part(at) <= 1 for at, _ in scale.marks))
 
     def test_amounts(self):
-        step = lambda *after: covers.Step(None, [], after)
+        step = lambda *after: covers.Step(scenes.day("case-d").events[0], [], Parts(*after))
         scale = covers.amount_scale([step(100, 20, 0), step(0, 0, 30)])
         self.assertEqual((scale.low, scale.high, labels(scale)[:2]), (0, 120, ["0.00", "0.20"]))
         self.assertEqual(labels(covers.amount_scale([step(150000, 0, 0)])), ["0", "500", "1,000", "1,500"])

@@ -28,8 +28,8 @@ class Command(unittest.TestCase):
             return file.read()
 
     def run_day(self, *words, **streams):
-        streams = {"stdout": subprocess.PIPE} | streams
-        return subprocess.run([sys.executable, COMMAND, *words], cwd=self.folder, stderr=subprocess.PIPE, **streams)
+        streams = {"stdout": subprocess.PIPE, "stderr": subprocess.PIPE} | streams
+        return subprocess.run([sys.executable, COMMAND, *words], cwd=self.folder, check=False, **streams)
 
     def fails(self, ran, status, *lines):
         self.assertEqual((ran.returncode, ran.stderr.decode().split("\n")[:-1]), (status, list(lines)))

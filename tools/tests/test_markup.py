@@ -33,8 +33,9 @@ class Small(unittest.TestCase):
     def test_a_list_is_folded_where_it_is_long(self):
         items = [["a"], ["b"], ["c"]]
         self.assertIsNone(markup.folded([], 2, "item"))
-        self.assertEqual(tostring(markup.folded(items[:2], 2, "item"), encoding="unicode"), "<ul><li>a</li><li>b</li></ul>")
-        fold = markup.folded(items, 2, "item")
+        short, fold = markup.folded(items[:2], 2, "item"), markup.folded(items, 2, "item")
+        assert short is not None and fold is not None
+        self.assertEqual(tostring(short, encoding="unicode"), "<ul><li>a</li><li>b</li></ul>")
         self.assertEqual((fold.tag, words_of(fold)), ("details", "3 itemsabc"))
 
     def test_commas(self):

@@ -7,7 +7,9 @@ import unittest
 
 TOOL = str(pathlib.Path(__file__).resolve().parents[1] / "named-places")
 LOADER = importlib.machinery.SourceFileLoader("named_places", TOOL)
-named_places = importlib.util.module_from_spec(importlib.util.spec_from_loader("named_places", LOADER))
+SPEC = importlib.util.spec_from_loader("named_places", LOADER)
+assert SPEC is not None
+named_places = importlib.util.module_from_spec(SPEC)
 LOADER.exec_module(named_places)
 
 WALK = """

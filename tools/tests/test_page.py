@@ -46,8 +46,8 @@ class Text(unittest.TestCase):
     def test_policy_allows_the_page_itself_and_nothing_else(self):
         for name, html in PAGES.items():
             policy = next(meta["content"] for meta in READ[name].named("meta") if "http-equiv" in meta)
-            script = re.search(r"<script>(.*)</script>", html, re.S)[1]
-            style = re.search(r"<style>(.*)</style>", html, re.S)[1]
+            [script] = re.findall(r"<script>(.*)</script>", html, re.S)
+            [style] = re.findall(r"<style>(.*)</style>", html, re.S)
             for kind, text in (("script", script), ("style", style)):
                 digest = base64.b64encode(hashlib.sha256(text.encode()).digest()).decode()
                 self.assertIn(f"{kind}-src 'sha256-{digest}';", policy, name)
@@ -111,7 +111,9 @@ REPORT = re.compile(r"to (\S+): [^(]+ \((\d+)\), (?:order (\d+) \S+, )?EUR ([\d,
 
 
 def report_of(text, numbers):
-    to, code, order, amount = REPORT.fullmatch(text).groups()
+    found = REPORT.fullmatch(text)
+    assert found is not None, text
+    to, code, order, amount = found.groups()
     return numbers[to], int(code), 65535 if order is None else int(order), cents(amount)
 
 
@@ -289,7 +291,7 @@ class Seen(pages.InBrowser):
                 self.assertGreater(found["read"], 3)
                 self.assertEqual(found["weak"], [], (scheme, name))
             grounds.append(self.js("getComputedStyle(document.body).backgroundColor"))
-        self.assertNotEqual(*grounds)
+        self.assertNotEqual(grounds[0], grounds[1])
 
     def test_without_script(self):
         self.browser.script_off(True)
@@ -299,7 +301,7 @@ class Seen(pages.InBrowser):
         self.assertEqual(len(self.js(SHOWN)), 49)
         self.assertFalse(self.js("document.getElementById('filter').checkVisibility()"))
         grounds = [self.js(f"getComputedStyle(document.getElementById('{row}')).backgroundColor") for row in ("t10", "t11")]
-        self.assertNotEqual(*grounds)
+        self.assertNotEqual(grounds[0], grounds[1])
 
     def test_print_has_everything(self):
         self.open("big")

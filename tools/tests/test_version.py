@@ -12,7 +12,7 @@ from zolfigar import version
 VERSION = scenes.content("VERSION").decode()
 
 
-def text(*names: str) -> str:
+def text(*names):
     return scenes.content(*names).decode()
 
 

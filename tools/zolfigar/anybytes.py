@@ -91,7 +91,7 @@ def fault(file: bytes, status: int, printed: bytes, errors: bytes) -> str | None
 def run(program: str, file: bytes) -> str | None:
     """Runs the program on a file; what is wrong with it, None if nothing is."""
     try:
-        ran = subprocess.run([program], input=file, capture_output=True, timeout=LIMIT)
+        ran = subprocess.run([program], input=file, capture_output=True, timeout=LIMIT, check=False)
     except subprocess.TimeoutExpired:
         return f"it didn't end in {LIMIT} seconds"
     return fault(file, ran.returncode, ran.stdout, ran.stderr)
@@ -110,13 +110,15 @@ def slowly(program: str, file: bytes) -> str | None:
 
 def without_input(program: str) -> str | None:
     """Standard input that isn't there is a file below 12 bytes."""
-    ran = subprocess.run(["sh", "-c", 'exec "$0" <&-', program], capture_output=True, timeout=LIMIT)
+    ran = subprocess.run(["sh", "-c", 'exec "$0" <&-', program], capture_output=True, timeout=LIMIT, check=False)
     return None if (ran.returncode, ran.stdout, ran.stderr) == (0, b"F 1\n", b"") else f"it printed {ran.stdout[:60]!r}"
 
 
 def ends(program: str, file: bytes, redirected: str) -> str | None:
     """An output that can't be written: the program ends, by itself or by the signal of a closed pipe."""
-    ran = subprocess.run(["sh", "-c", f'exec "$0" {redirected}', program], input=file, stderr=subprocess.PIPE, timeout=LIMIT)
+    ran = subprocess.run(
+        ["sh", "-c", f'exec "$0" {redirected}', program], input=file, stderr=subprocess.PIPE, timeout=LIMIT, check=False
+    )
     return None if ran.returncode in (0, -signal.SIGPIPE) and not ran.stderr else f"it ended with status {ran.returncode}"
 
 
@@ -124,7 +126,7 @@ def into_a_closed_pipe(program: str, file: bytes) -> str | None:
     shell = 'trap "" PIPE; "$0" < "$1" | true; exec "$0" < "$1" | head -c 1'
     name = os.path.join(ROOT, "target", "anybytes.bin")
     files.write(name, file)
-    ran = subprocess.run(["sh", "-c", shell, program, name], capture_output=True, timeout=LIMIT)
+    ran = subprocess.run(["sh", "-c", shell, program, name], capture_output=True, timeout=LIMIT, check=False)
     return None if ran.stdout == b"T" and not ran.stderr else f"it printed {ran.stdout[:60]!r} and {ran.stderr[:60]!r}"
 
 

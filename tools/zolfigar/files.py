@@ -1,5 +1,6 @@
 """Reading and writing files for the commands: whole files, errors in one line, nothing half written."""
 
+import io
 import os
 import sys
 import tempfile
@@ -74,7 +75,7 @@ def mask() -> int:
 def guarded(command: str, work: Callable[[], int]) -> int:
     """Runs a command's work and gives its exit status. A closed pipe ends it without a word."""
     if sys.stderr is None:
-        sys.stderr = open(os.devnull, "w")
+        sys.stderr = io.StringIO()
     try:
         return work()
     except Failed as error:

@@ -2,13 +2,13 @@
 
 import sys
 import time
-from collections.abc import Iterable, Iterator
+from collections.abc import Generator, Iterable
 from typing import TextIO, TypeVar
 
 T = TypeVar("T")
 
 
-def over(items: Iterable[T], what: str, stream: TextIO | None = None, total: int | None = None) -> Iterator[T]:
+def over(items: Iterable[T], what: str, stream: TextIO | None = None, total: int | None = None) -> Generator[T, None, None]:
     """The items one after the other, with a line that tells how many are done. The line is gone when they are. Where a total
     is given, the items are taken as they come."""
     stream = stream or sys.stderr

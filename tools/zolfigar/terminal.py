@@ -51,8 +51,8 @@ def followed(day: Day, member: int | None, order: Order | None) -> list[Event]:
         return order.events
     if member is None:
         return day.events
-    moved = {move.event.number for move in day.moves if move.participant == member}
-    return [e for e in day.events if e.sender == member or e.number in moved or any(r.to == member for r in e.reports)]
+    moving = {move.event.number for move in day.moves if move.participant == member}
+    return [e for e in day.events if e.sender == member or e.number in moving or any(r.to == member for r in e.reports)]
 
 
 def section(title: str, style: Style) -> Iterator[str]:
