@@ -21,7 +21,7 @@ CODE_USE = re.compile(r"(?m)^(pub )?use ([\w:]+?)(?: as (\w+))?;$")
 DEFINED = re.compile(r"(?m)^( *)((?:abbrev |unfoldable |pub )*)(?:(?:record|data) (\S+) |([^\s(){},;.]+) (?=:))")
 LINE = re.compile(r"(?m)^( *)(\S+)")
 CODE_ITEM = re.compile(r'(?m)^(#\[no_mangle\]\n)?(pub )?(?:extern "" )?(?:fn|struct|enum|const) (\w+)')
-SIGNATURE = re.compile(r"(?ms)\A.*?(?=^\s*(?:ensures|requires|decreases)\b|^\{|^\}|;$)")
+SIGNATURE = re.compile(r"(?ms)\A(?:[(<].*?(?=^\s*(?:ensures|requires|decreases)\b|\{$)|[^(<].*?(?=^\}|;$))")
 WORD = re.compile(r"\[\]|[^\s(){}\[\],;.:«»]+")
 CODE_WORD = re.compile(r"\w+")
 QUALIFIED = re.compile(r"([^\s(){}\[\],;.«»]+)\.([^\s(){}\[\],;.«»]+)")
@@ -97,6 +97,7 @@ class Source:
         self.items = list(self.code_items() if self.is_code else self.proof_items())
         self.names = {item.name.name: item.name for item in self.items}
         self.aliases: dict[str, str] = {}  # modules by their names in this file
+        self.handed_on: list[Import] = []  # by `pub use`
         self.imports = list(self.proof_imports()) + (list(self.code_imports()) if self.is_code else [])
 
     def line(self, at: int) -> int:
@@ -145,8 +146,11 @@ class Source:
         for use in CODE_USE.finditer(self.text):
             name = use[3] or use[2].rpartition("::")[2]
             self.aliases[name] = use[2]
-            if not use[1]:
-                yield Import(self.line(use.start()), name)
+            found = Import(self.line(use.start()), name)
+            if use[1]:
+                self.handed_on.append(found)
+            else:
+                yield found
 
     def needless_imports(self) -> Iterator[Found]:
         words = said(USE.sub("", self.text) + self.edits)
@@ -164,6 +168,7 @@ class Crates:
         self.sources = {source.path: source for source in (Source(root, path) for path in sorted(paths))}
         self.code = {source.module: source for source in self.sources.values() if source.is_code}
         self.items = {item.name: item for source in self.sources.values() for item in source.items}
+        self.taken: set[Name] = set()  # what other files took by the name that a `pub use` gave it
         for edit in root.glob("crates/*/must-fail/*.edit"):
             text = edit.read_text(encoding="utf-8")
             for file in re.findall(r"(?m)^file: (\S+)$", text):
@@ -179,7 +184,7 @@ class Crates:
         ]
         found |= {self.declared(module) for module in modules}
         if source.is_code:
-            found |= {self.code_item(source, path.split("::")) for path in CODE_PATH.findall(text)}
+            found |= {self.code_item(source, path.split("::"), source) for path in CODE_PATH.findall(text)}
         return found & self.items.keys()
 
     def declared(self, module: str) -> Name:
@@ -189,17 +194,18 @@ class Crates:
         names = (Name("::".join(parts[:size]), parts[size]) for size in range(1, len(parts)))
         return next((name for name in names if name in self.items), Name("", ""))
 
-    def code_item(self, source: Source, path: list[str], most: int = 9) -> Name:
-        """The item that a path means in a file of the code; `use` leads on at most so many times."""
+    def code_item(self, source: Source, path: list[str], reader: Source, most: int = 9) -> Name:
+        """The item that a path means in a file of the code, for the file that has it; `use` leads on at most so many times."""
         first, rest = path[0], path[1:]
         above = {"super": source.module.rpartition("::")[0], "crate": source.crate, "self": source.module}
         if Name(source.module, first) in self.items:
             return Name(source.module, first)
         if most and source.aliases.get(first, first) != first:
-            return self.code_item(source, source.aliases[first].split("::") + rest, most - 1)
+            self.taken |= {Name(source.module, first)} if source is not reader else set()
+            return self.code_item(source, source.aliases[first].split("::") + rest, reader, most - 1)
         for module in (above.get(first), f"{source.module}::{first}", first):
             if module in self.code and rest:
-                return self.code_item(self.code[module], rest, most)
+                return self.code_item(self.code[module], rest, reader, most)
         return Name("", "")
 
     def asked(self) -> set[Name]:
@@ -225,6 +231,8 @@ class Crates:
             needed |= new
             left += new
         outside = {used for name in uses for used in uses[name] if self.items[used].path != self.items[name].path}
+        for source in self.code.values():
+            outside |= {self.code_item(source, [name], source) for _, name in source.handed_on}
         for name, item in self.items.items():
             if name not in needed:
                 yield Found(item.path, item.line, name.name, "never used")
@@ -232,6 +240,9 @@ class Crates:
                 yield Found(item.path, item.line, name.name, "pub for its own file alone")
         for source in self.sources.values():
             yield from source.needless_imports()
+            for line, name in source.handed_on:
+                if Name(source.module, name) not in self.taken:
+                    yield Found(source.path, line, name, "pub use, and not used elsewhere")
 
     def in_a_signature(self, item: Item) -> bool:
         """Whether something public in the same file of code has the item in its signature, and so needs it public."""
