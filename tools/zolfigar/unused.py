@@ -240,9 +240,9 @@ class Crates:
                 yield Found(item.path, item.line, name.name, "pub for its own file alone")
         for source in self.sources.values():
             yield from source.needless_imports()
-            for line, name in source.handed_on:
-                if Name(source.module, name) not in self.taken:
-                    yield Found(source.path, line, name, "pub use, and not used elsewhere")
+            for line, own in source.handed_on:
+                if Name(source.module, own) not in self.taken:
+                    yield Found(source.path, line, own, "pub use, and not used elsewhere")
 
     def in_a_signature(self, item: Item) -> bool:
         """Whether something public in the same file of code has the item in its signature, and so needs it public."""
