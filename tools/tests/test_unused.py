@@ -54,7 +54,7 @@ ghost use Rattle.low.specs.Terms.{twice, inner};
 pub fn open(file: &[u8]) -> usize
     ensures { λ r. ⌜ r ≡ twice r ⌝ }
 {
-    parts::helper(file)
+    parts::reader(file)
 }
 
 #[no_mangle]
@@ -78,7 +78,7 @@ pub fn inside() -> u8 {
     LIMIT
 }
 
-pub fn helper(file: &[u8]) -> usize {
+pub fn reader(file: &[u8]) -> usize {
     edited()
 }
 
