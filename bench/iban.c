@@ -3,7 +3,7 @@
 #define _POSIX_C_SOURCE 199309L
 
 #include "../gateway/registry.h"
-#include "../gateway/zolfigar.h"
+#include "../include/zolfigar.h"
 
 #include <stdio.h>
 #include <stdlib.h>

@@ -3,7 +3,7 @@
  * against a page that can't be read. Prints the counts, and exits with 1 at the first difference. */
 #define _DEFAULT_SOURCE
 
-#include "zolfigar.h"
+#include "../include/zolfigar.h"
 
 #include <stdio.h>
 #include <stdlib.h>

@@ -5,7 +5,7 @@
 #include <stdio.h>
 #include <stdlib.h>
 
-#include "../gateway/zolfigar.h"
+#include "../include/zolfigar.h"
 
 static void fail(const char *what) {
     fprintf(stderr, "host: %s\n", what);

@@ -1,6 +1,10 @@
 //! A host in Rust: clears the day file on standard input through the static library and writes the program's text.
 //!
 //!     host [ROOM]    ROOM is how many bytes the host has for the text at first; where they are too few it asks again.
+
+#![deny(clippy::cast_lossless, clippy::cast_possible_truncation, clippy::cast_possible_wrap, clippy::cast_sign_loss)]
+#![deny(clippy::multiple_unsafe_ops_per_block, clippy::undocumented_unsafe_blocks, clippy::unwrap_used)]
+
 use std::io::{self, Read, Write};
 
 #[link(name = "host", kind = "static")]
@@ -10,7 +14,7 @@ extern "C" {
 
 /// What the program prints of the day, as much as there is room for, and how long all of it is.
 fn clear(day: &[u8], text: &mut [u8]) -> usize {
-    // The library reads the first slice and writes the second, each within its length, and keeps neither.
+    // SAFETY: the library reads the first slice and writes the second, each within its length, and keeps neither.
     unsafe { zolfigar_day(day.as_ptr(), day.len(), text.as_mut_ptr(), text.len()) }
 }
 

@@ -1,5 +1,8 @@
 //! Measures the proved book beside the peer: the steps of days, how they grow, and the two clearing programs.
 
+// Rows, banks and reports are numbered far below what two bytes hold.
+#![allow(clippy::cast_possible_truncation)]
+
 mod growth;
 mod measure;
 mod programs;

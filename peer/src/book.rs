@@ -1,5 +1,8 @@
 //! The book: cover of each participant, orders and clock, and each ticket's step with refusals 6 and 11 to 22.
 
+// An order is numbered below 256, which fits the two bytes of a report.
+#![allow(clippy::cast_possible_truncation)]
+
 use crate::codes::TxId;
 use crate::dayfile::{Roster, MOST_PARTICIPANTS};
 use crate::index::{hash, Index};

@@ -1,5 +1,8 @@
 //! The codes that name banks, accounts and orders: BIC, IBAN and TxId.
 
+// A byte is counted as a number below 256.
+#![allow(clippy::cast_possible_truncation)]
+
 pub const BIC_LEN: usize = 11;
 pub const IBAN_LEN: usize = 34;
 pub const TX_ID_LEN: usize = 35;

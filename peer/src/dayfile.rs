@@ -1,5 +1,8 @@
 //! The day file: its header, participants, routes and tickets, and refusals 1 to 5.
 
+// A participant is numbered below 32, which fits a byte.
+#![allow(clippy::cast_possible_truncation)]
+
 use crate::codes::{is_bic, Bic, BIC_LEN};
 use crate::index::{hash, Index};
 use crate::refusal::Refusal;

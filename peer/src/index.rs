@@ -1,5 +1,8 @@
 //! A table of fixed size that finds a BIC's or TxId's number by its hash.
 
+// Of a hash any bits will do, and an entry is numbered below 65535.
+#![allow(clippy::cast_possible_truncation)]
+
 const FREE: u16 = u16::MAX;
 
 /// Holds numbers of entries kept elsewhere. SLOTS is a power of two, and more than the entries it ever takes.

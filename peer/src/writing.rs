@@ -1,5 +1,8 @@
 //! Writing tickets and day files, for tests and for the check.
 
+// A day of more rows than the limits allow is written too, and its header has the last two bytes of each number.
+#![allow(clippy::cast_possible_truncation)]
+
 use crate::codes::{Bic, Iban, TxId};
 use crate::dayfile::{HEADER_LEN, PARTICIPANT_LEN, ROUTE_LEN};
 use crate::ticket::TICKET_LEN;

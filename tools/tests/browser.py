@@ -61,8 +61,10 @@ class Pipe:
             os.dup2(high[0], 3)
             os.dup2(high[1], 4)
 
-        silent = {"stdin": subprocess.DEVNULL, "stdout": subprocess.DEVNULL, "stderr": subprocess.DEVNULL}
-        self.process = subprocess.Popen(words, preexec_fn=place, close_fds=False, start_new_session=True, **silent)
+        none = subprocess.DEVNULL
+        self.process = subprocess.Popen(
+            words, preexec_fn=place, close_fds=False, start_new_session=True, stdin=none, stdout=none, stderr=none
+        )
         for end in (commands[0], messages[1], *high):
             os.close(end)
         self.out, self.into, self.rest = commands[1], messages[0], b""
@@ -102,7 +104,8 @@ class Browser:
         self.profile = tempfile.TemporaryDirectory(prefix="page-", ignore_cleanup_errors=True)
         self.folder = Path(self.profile.name)
         self.pipe = Pipe(self.folder / "profile")
-        self.number, self.events = 0, []
+        self.number, self.address = 0, ""
+        self.events = []
         target = self.call("Target.createTarget", session=None, url="about:blank")["targetId"]
         self.session = self.call("Target.attachToTarget", session=None, targetId=target, flatten=True)["sessionId"]
         for domain in ("Page", "Runtime", "Log", "Network"):

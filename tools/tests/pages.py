@@ -49,7 +49,10 @@ class Full:
 
     def __init__(self):
         self.bics = [f"BANK{chr(65 + n // 26)}{chr(65 + n % 26)}22XXX".encode() for n in range(32)]
-        self.tickets, self.lines, self.orders, self.settled = [], [], [], 0
+        self.tickets: list[dict[str, object]] = []
+        self.lines: list[str] = []
+        self.orders: list[tuple[int, int, int, object]] = []
+        self.settled = 0
         self.covers = [[10**15, 0] for _ in self.bics]
         for bic in self.bics:
             self.add({"kind": 1, "sender": bic, "amount": 10**15}, [], 0)
@@ -87,7 +90,7 @@ class Full:
         return "full", packed(participants, routes, self.tickets), "\n".join([*self.lines, *closing, ""])
 
 
-HOSTILE = '<img src=http://x.y onerror=alert(1)'
+HOSTILE = "<img src=http://x.y onerror=alert(1)"
 
 
 def hostile():
@@ -95,11 +98,28 @@ def hostile():
     bics = [b"<b>x</b>\"'&", b"</script><!"]
     tickets = [
         {"kind": 1, "sender": bics[0], "amount": 1000},
-        {"kind": 3, "sender": bics[0], "payee": bics[1], "amount": 400, "txid": HOSTILE[:35].encode(), "iban": b"<svg onload=x>"},
+        {
+            "kind": 3,
+            "sender": bics[0],
+            "payee": bics[1],
+            "amount": 400,
+            "txid": HOSTILE[:35].encode(),
+            "iban": b"<svg onload=x>",
+        },
         {"kind": 8, "sender": b"javascript:", "txid": b"</title><script>fetch('http://x.y')"},
         {"kind": 4, "flag": 1, "sender": bics[1], "txid": b"]]>--><style>*{color:red}"},
     ]
-    lines = ["T 0 0 0 0", "T 1 0 1 1", "R 1 1 0 400", "T 2 16 0 0", "T 3 0 1 0", "R 7 2 0 401", "C 0 600 400 0", "C 1 0 0 0", ""]
+    lines = [
+        "T 0 0 0 0",
+        "T 1 0 1 1",
+        "R 1 1 0 400",
+        "T 2 16 0 0",
+        "T 3 0 1 0",
+        "R 7 2 0 401",
+        "C 0 600 400 0",
+        "C 1 0 0 0",
+        "",
+    ]
     name = "</title><script>document.body.remove()</script>"
     return name, packed([{"bic": bic} for bic in bics], [], tickets), "\n".join(lines)
 
@@ -172,7 +192,9 @@ READ = {name: Parts(html) for name, html in PAGES.items()}
 
 def printed(output):
     """The output's lines, read here for themselves: refusals, reports by ticket, closing positions."""
-    refusals, reports, positions = [], [], []
+    refusals: list[int] = []
+    reports: list[list[tuple[int, ...]]] = []
+    positions: list[tuple[int, ...]] = []
     for line in output.splitlines():
         letter, *words = line.split()
         numbers = tuple(map(int, words))
@@ -210,6 +232,8 @@ def browser():
 
 
 class InBrowser(unittest.TestCase):
+    browser: Browser
+
     @classmethod
     def setUpClass(cls):
         cls.browser = browser()

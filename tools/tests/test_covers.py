@@ -6,11 +6,12 @@ import unittest
 from tests import pages, scenes
 from tests.pages import FOCUS, PAGES
 from zolfigar import history, packing
+from zolfigar.output import Parts
 from zolfigar.page import covers
 
 
 def found(element, name):
-    return [each for each in element.iter(name)]
+    return list(element.iter(name))
 
 
 def labels(scale):
@@ -37,7 +38,7 @@ class Scales(unittest.TestCase):
                 self.assertTrue(all(0 <= scale.part(at) <= 1 for at, _ in scale.marks))
 
     def test_amounts(self):
-        step = lambda *after: covers.Step(None, [], after)
+        step = lambda *after: covers.Step(scenes.day("case-d").events[0], [], Parts(*after))
         scale = covers.amount_scale([step(100, 20, 0), step(0, 0, 30)])
         self.assertEqual((scale.low, scale.high, labels(scale)[:2]), (0, 120, ["0.00", "0.20"]))
         self.assertEqual(labels(covers.amount_scale([step(150000, 0, 0)])), ["0", "500", "1,000", "1,500"])
@@ -64,7 +65,9 @@ class Cover(unittest.TestCase):
         day = history.read("x", file, told + ended)
         steps = [(step.event.number, len(step.moves), step.after) for step in covers.steps_of(day, 0)]
         self.assertEqual(steps, [(0, 1, (1000, 0, 0)), (1, 1, (900, 100, 0)), (2, 1, (800, 200, 0)), (3, 2, (1000, 0, 0))])
-        self.assertEqual(covers.step_words(day, covers.steps_of(day, 0)[3]).split(". ")[0], "Ticket 3, 00:01:00: 2 movements")
+        self.assertEqual(
+            covers.step_words(day, covers.steps_of(day, 0)[3]).split(". ")[0], "Ticket 3, 00:01:00: 2 movements"
+        )
 
     def test_the_drawn_cover_is_the_statement(self):
         day = scenes.day("busy")
@@ -98,7 +101,9 @@ class Seen(pages.InBrowser):
         self.open("busy")
         for axis in ("ticket", "time"):
             self.js(f"document.getElementById('by-{axis}').click()")
-            self.assertEqual(self.js("[...document.querySelectorAll('#p0 .chart')].filter(c => c.checkVisibility()).length"), 1)
+            self.assertEqual(
+                self.js("[...document.querySelectorAll('#p0 .chart')].filter(c => c.checkVisibility()).length"), 1
+            )
             self.browser.click(f"#p0 .by-{axis} a[href='#t42'] rect")
             self.assertEqual((self.js("location.hash"), self.js(FOCUS)), ("#t42", "t42"))
             self.assertIn("confirm from AAAALV22 EUR 359.50", self.texts("#t42 .words")[0])

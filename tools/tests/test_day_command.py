@@ -28,8 +28,8 @@ class Command(unittest.TestCase):
             return file.read()
 
     def run_day(self, *words, **streams):
-        streams = {"stdout": subprocess.PIPE} | streams
-        return subprocess.run([sys.executable, COMMAND, *words], cwd=self.folder, stderr=subprocess.PIPE, **streams)
+        streams = {"stdout": subprocess.PIPE, "stderr": subprocess.PIPE} | streams
+        return subprocess.run([sys.executable, COMMAND, *words], cwd=self.folder, check=False, **streams)
 
     def fails(self, ran, status, *lines):
         self.assertEqual((ran.returncode, ran.stderr.decode().split("\n")[:-1]), (status, list(lines)))
@@ -109,7 +109,9 @@ class Command(unittest.TestCase):
         with open("/dev/full", "wb") as full:
             ran = self.run_day("pack", "d.day", stdout=full)
         self.fails(ran, 1, "day: can't write to standard output: No space left on device")
-        self.fails(self.run_day("pack", "d.day", "-o", "/dev/full"), 1, "day: can't write /dev/full: No space left on device")
+        self.fails(
+            self.run_day("pack", "d.day", "-o", "/dev/full"), 1, "day: can't write /dev/full: No space left on device"
+        )
 
     def test_a_device_is_not_replaced(self):
         self.fails(self.run_day("pack", "d.day", "-o", os.devnull), 0)

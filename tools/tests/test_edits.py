@@ -48,7 +48,7 @@ class Edits(unittest.TestCase):
 
     def test_those_that_the_paper_page_names_are_there(self):
         text = scenes.content("docs", "PAPER.md").decode()
-        shut = text[text.index("## What shuts out a wrong book"):text.index("## Code places")]
+        shut = text[text.index("## What shuts out a wrong book") : text.index("## Code places")]
         self.assertGreater(len(named(shut)), 30)
         self.assertEqual(sorted(named(shut) - {os.path.basename(path)[:-5] for path in edits()}), [])
 
@@ -59,7 +59,8 @@ class Edits(unittest.TestCase):
             self.assertTrue(scenes.exists(f"crates/{crate}/must-fail/{name}.edit"), f"{name} of {crate}")
 
     def test_as_many_as_the_tables_say(self):
-        words = "one two three four five six seven eight nine ten eleven twelve thirteen fourteen fifteen sixteen seventeen eighteen".split()
+        words = "one two three four five six seven eight nine ten eleven twelve thirteen".split()
+        words += "fourteen fifteen sixteen seventeen eighteen".split()
         told = re.findall(r"the (\w+) of `(\w+)`", scenes.content("docs", "PAPER.md").decode())
         counted = [(words.index(number) + 1, crate) for number, crate in told if number in words]
         self.assertGreater(len(counted), 5)

@@ -13,6 +13,8 @@ EXPLAIN = os.path.join(scenes.ROOT, "tools", "explain")
 
 
 class Command(unittest.TestCase):
+    folder: "tempfile.TemporaryDirectory[str]"
+
     @classmethod
     def setUpClass(cls):
         cls.folder = tempfile.TemporaryDirectory()
@@ -29,7 +31,7 @@ class Command(unittest.TestCase):
 
     def explain(self, day, output, *words, **how):
         command = [EXPLAIN, self.path(day), self.path(output), *words]
-        return subprocess.run(command, capture_output=True, text=True, **how)
+        return subprocess.run(command, capture_output=True, text=True, check=False, **how)
 
     def test_a_day_that_adds_up(self):
         ran = self.explain("case-d.bin", "case-d.out")
@@ -77,7 +79,7 @@ class Command(unittest.TestCase):
         ran = self.explain("none.bin", "case-d.out")
         said = f"explain: can't read {self.path('none.bin')}: No such file or directory\n"
         self.assertEqual((ran.returncode, ran.stderr), (1, said))
-        self.assertEqual(subprocess.run([EXPLAIN], capture_output=True).returncode, 2)
+        self.assertEqual(subprocess.run([EXPLAIN], capture_output=True, check=False).returncode, 2)
 
     def test_colour_on_a_terminal(self):
         """A terminal gets colour, unless NO_COLOR is set."""
@@ -99,7 +101,7 @@ class Command(unittest.TestCase):
 
     def test_a_closed_pipe(self):
         shell = f"{EXPLAIN} {self.path('busy.bin')} {self.path('busy.out')} | head -1"
-        ran = subprocess.run(["sh", "-c", shell], capture_output=True, text=True)
+        ran = subprocess.run(["sh", "-c", shell], capture_output=True, text=True, check=False)
         self.assertEqual((ran.stdout.count("\n"), ran.stderr), (1, ""))
 
 

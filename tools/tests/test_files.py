@@ -5,6 +5,7 @@ import io
 import os
 import tempfile
 import unittest
+from typing import Any
 
 from zolfigar import files
 
@@ -26,8 +27,9 @@ class Files(unittest.TestCase):
     def test_nothing_half_written(self):
         """Where the writing fails, what was there stays, and nothing is left beside it."""
         files.write(self.path("a"), b"one")
+        no_bytes: Any = "no bytes"
         with self.assertRaises(TypeError):
-            files.write(self.path("a"), "no bytes")
+            files.write(self.path("a"), no_bytes)
         self.assertEqual((files.read(self.path("a")), os.listdir(self.folder.name)), (b"one", ["a"]))
 
     def test_a_link_and_the_rights_stay(self):

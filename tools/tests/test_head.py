@@ -61,6 +61,7 @@ class Problems(unittest.TestCase):
     def test_many_are_counted_and_open(self):
         box = head.verdict(scenes.day("case-d"), [f"ticket {n}" for n in range(21)])
         fold = box.find("details")
+        assert fold is not None
         self.assertEqual((words_of(box[0], fold[0]), fold.get("open")), ("21 things don't add up.21 problems", ""))
 
 

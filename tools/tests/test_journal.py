@@ -14,7 +14,7 @@ from zolfigar import journal
 
 
 def hledger(text, *words):
-    return subprocess.run(["hledger", "-f", "-", *words], input=text, capture_output=True, text=True)
+    return subprocess.run(["hledger", "-f", "-", *words], input=text, capture_output=True, text=True, check=False)
 
 
 def balances(text):
@@ -24,7 +24,7 @@ def balances(text):
         raise AssertionError(ran.stderr)
     found = {}
     for account, amount in list(csv.reader(io.StringIO(ran.stdout)))[1:]:
-        whole, cents = re.fullmatch(r"(?:EUR )?(-?\d+)(?:\.(\d\d))?", amount).groups()
+        [(whole, cents)] = re.findall(r"\A(?:EUR )?(-?\d+)(?:\.(\d\d))?\Z", amount)
         found[account] = int(whole + (cents or "00"))
     return found
 

@@ -7,7 +7,7 @@ from zolfigar.page import lives
 
 
 def found(element, name):
-    return [each for each in element.iter(name)]
+    return list(element.iter(name))
 
 
 def order_of(name, txid):
@@ -57,7 +57,7 @@ class Lives(unittest.TestCase):
 
     def test_marks_that_lie_close_take_lanes(self):
         life = lives.Life(60, 0)
-        at = lambda age, sign="inquiry": lives.Mark(None, age, sign, "")
+        at = lambda age, sign="inquiry": lives.Mark(scenes.day("case-d").events[0], age, sign, "")
         lanes = lambda *marks: [lane for _, lane in lives.lanes_of(life, marks)]
         self.assertEqual(lanes(at(0), at(10), at(20)), [0, 0, 0])
         self.assertEqual(lanes(at(1), at(1), at(2), at(10)), [0, 1, 2, 0])

@@ -47,9 +47,15 @@ class Many(unittest.TestCase):
         for name in NAMES:
             self.assertEqual(many.name_words(name), name.decode() if name in PLAIN else f"hex:{name.hex()}")
 
+    def content(self, name):
+        with open(os.path.join(ROOT, "crates", "days", name), "rb") as file:
+            return file.read()
+
     def test_the_input_of_the_program_days(self):
-        with open(os.path.join(ROOT, "crates", "days", "stdin"), "rb") as file:
-            data = file.read()
+        self.assertEqual(many.pack("x", self.content("days.txt").decode()), self.content("stdin"))
+
+    def test_the_input_of_the_program_days_unpacked(self):
+        data = self.content("stdin")
         unpacked = many.unpack(data)
         self.assertEqual(many.pack("x", unpacked), data)
         self.assertTrue(unpacked.startswith("day case D\n# participants\nparticipant AAAALV22 bank\n"))
@@ -64,12 +70,14 @@ class Many(unittest.TestCase):
         )
         self.wrong("# a\n1 tick\n1 tick\nday one\nbytes\n", 'x:2:1: expected a line `day NAME` before all others, found "1"')
         self.wrong("day hex:4\nbytes", 'x:1:5: expected hex: and two hex digits for each byte, found "hex:4"')
-        self.wrong("day hex:41 b\nbytes", "x:1:12: expected the line's end, found \"b\"")
+        self.wrong("day hex:41 b\nbytes", 'x:1:12: expected the line\'s end, found "b"')
 
     def test_limits_of_the_program(self):
         self.assertEqual(len(many.pack("x", f"day {'n' * 256}\nbytes {'00' * 57101}")), 8 + 256 + 57101)
         self.wrong(f"day {'n' * 257}\nbytes", "x:1:5: expected a name of at most 256 bytes, found 257")
-        self.wrong(f" day n\nbytes {'00' * 57102}", "x:1:2: the day has 57102 bytes, and the program days reads at most 57101")
+        self.wrong(
+            f" day n\nbytes {'00' * 57102}", "x:1:2: the day has 57102 bytes, and the program days reads at most 57101"
+        )
 
     def test_bytes_that_are_not_many_days(self):
         one = many.join([(b"n", b"ab")])
@@ -81,7 +89,8 @@ class Many(unittest.TestCase):
         ):
             self.not_many(one + one[:cut], message)
         self.not_many(
-            bytes.fromhex("00000101 00000000"), "not many days: the length at byte 0 gives the name of day 0 257 bytes, above 256"
+            bytes.fromhex("00000101 00000000"),
+            "not many days: the length at byte 0 gives the name of day 0 257 bytes, above 256",
         )
         said = "not many days: the length at byte 4 gives day 0 57102 bytes, above 57101"
         self.not_many(bytes.fromhex("00000000 0000df0e"), said)

@@ -33,8 +33,9 @@ class Small(unittest.TestCase):
     def test_a_list_is_folded_where_it_is_long(self):
         items = [["a"], ["b"], ["c"]]
         self.assertIsNone(markup.folded([], 2, "item"))
-        self.assertEqual(tostring(markup.folded(items[:2], 2, "item"), encoding="unicode"), "<ul><li>a</li><li>b</li></ul>")
-        fold = markup.folded(items, 2, "item")
+        short, fold = markup.folded(items[:2], 2, "item"), markup.folded(items, 2, "item")
+        assert short is not None and fold is not None
+        self.assertEqual(tostring(short, encoding="unicode"), "<ul><li>a</li><li>b</li></ul>")
         self.assertEqual((fold.tag, words_of(fold)), ("details", "3 itemsabc"))
 
     def test_commas(self):
@@ -60,7 +61,9 @@ class Small(unittest.TestCase):
 
     def test_members(self):
         day = scenes.day("case-d")
-        self.assertEqual([markup.is_member(day, number) for number in (None, -1, 0, 1, 2)], [False, False, True, True, False])
+        self.assertEqual(
+            [markup.is_member(day, number) for number in (None, -1, 0, 1, 2)], [False, False, True, True, False]
+        )
         self.assertEqual(leads_of(markup.member_link(day, 1)), [("BBBBLV22", "#p1")])
         self.assertEqual(markup.member_link(day, 2), telling.member(day, 2))
 

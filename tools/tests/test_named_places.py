@@ -7,7 +7,9 @@ import unittest
 
 TOOL = str(pathlib.Path(__file__).resolve().parents[1] / "named-places")
 LOADER = importlib.machinery.SourceFileLoader("named_places", TOOL)
-named_places = importlib.util.module_from_spec(importlib.util.spec_from_loader("named_places", LOADER))
+SPEC = importlib.util.spec_from_loader("named_places", LOADER)
+assert SPEC is not None
+named_places = importlib.util.module_from_spec(SPEC)
 LOADER.exec_module(named_places)
 
 WALK = """
@@ -45,7 +47,10 @@ class NamedPlaces(unittest.TestCase):
 
     def test_a_way_names_both_its_ends(self):
         found = names("x = to.start-from-At-loop c")
-        self.assertIn("\n\nabbrev pub start-from-At-loop : at.At-loop → at.Start\nstart-from-At-loop c = c .before .before\n", found.ways_file())
+        self.assertIn(
+            "\n\nabbrev pub start-from-At-loop : at.At-loop → at.Start\nstart-from-At-loop c = c .before .before\n",
+            found.ways_file(),
+        )
         self.assertEqual((found.types, found.wrong), ({"At-loop", "Start"}, []))
 
     def test_what_is_not_known_is_told(self):

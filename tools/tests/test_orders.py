@@ -5,8 +5,9 @@ import unittest
 
 from tests import pages, scenes
 from tests.pages import DAYS, FOCUS, leads_of, words_of
-from zolfigar import history, page
+from zolfigar import history
 from zolfigar.page import lives, orders
+from zolfigar.page.view import View
 
 
 class Words(unittest.TestCase):
@@ -37,17 +38,18 @@ class Words(unittest.TestCase):
             self.assertEqual(words_of(*orders.payee_words(self.day, self.orders[txid])), words)
 
     def test_a_row(self):
-        row = orders.order_row(page.View(self.day), self.orders["RENT-7"])
+        row = orders.order_row(View(self.day), self.orders["RENT-7"])
         words = ["1", "RENT-7", "BBBBLV22", "CCCCLT2X", "25.00", "refused after 10 s"]
         self.assertEqual([words_of(cell) for cell in row][:6], words)
         leads = ["#o1", "#t5", "#p1", "#p2", "#t5", "#t5", "#t6"]
         self.assertEqual([lead for _, lead in leads_of(row)], leads)
 
     def test_marks_without_room_are_behind_a_fold(self):
-        view = page.View(history.read(*DAYS["big"]))
+        view = View(history.read(*DAYS["big"]))
         cells = [orders.life_cell(view, order) for order in view.day.orders]
         at = next(n for n, cell in enumerate(cells) if cell.find("details") is not None)
         fold, events = cells[at].find("details"), view.day.orders[at].events
+        assert fold is not None
         self.assertEqual(words_of(fold[0]), "2 marks more; all 7 tickets")
         self.assertEqual([lead for _, lead in leads_of(fold)], [f"#t{event.number}" for event in events])
 

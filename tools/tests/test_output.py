@@ -10,7 +10,7 @@ class Reading(unittest.TestCase):
     def test_case_d(self):
         out = output.read(scenes.output("case-d"))
         self.assertEqual(out.problems, [])
-        answers = [(a.number, a.refusal, a.count, a.rows) for a in out.answers]
+        answers = [(a.number, a.refusal, a.report_count, a.rows) for a in out.answers]
         self.assertEqual(answers, [(0, 0, 0, 0), (1, 0, 1, 1), (2, 0, 2, 0), (3, 0, 1, 0)])
         reports = [tuple(r)[:4] for a in out.answers for r in a.reports]
         self.assertEqual(reports, [(1, 1, 0, 400), (0, 2, 0, 400), (1, 2, 0, 400), (0, 2, 0, 400)])

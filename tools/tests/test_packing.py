@@ -48,10 +48,18 @@ CASE_D_BYTES = bytes.fromhex(
 # A line, the column of its mistake, and what is said.
 MALFORMED = (
     ("participant", 12, "expected a BIC, found the line's end"),
-    ("participant AAAALV2 bank", 13, f'expected a BIC, found "AAAALV2"; a BIC is {A_BIC}; `but bic ..` writes one that is wrong'),
+    (
+        "participant AAAALV2 bank",
+        13,
+        f'expected a BIC, found "AAAALV2"; a BIC is {A_BIC}; `but bic ..` writes one that is wrong',
+    ),
     ("participant AAAALV22", 21, "expected bank or linked, or opening, found the line's end"),
     ("participant AAAALV22 Bank", 22, 'expected bank or linked, or opening, found "Bank"'),
-    ("participant AAAALV22 bank linked", 27, "expected opening, but, or the line's end, found \"linked\": kind is given already"),
+    (
+        "participant AAAALV22 bank linked",
+        27,
+        'expected opening, but, or the line\'s end, found "linked": kind is given already',
+    ),
     ("participant AAAALV22 bank opening", 34, f"expected {AMOUNT}, found the line's end"),
     ("participant AAAALV22 bank opening 5.00", 35, f'expected {AMOUNT}, found "5.00"'),
     ("participant AAAALV22 bank opening EUR 5", 39, 'expected euros with two decimals like 4.00, found "5"'),
@@ -70,15 +78,15 @@ MALFORMED = (
     ("route AAAALV22 to 65536", 19, 'expected a number from 0 to 65535, found "65536"'),
     ("route AAAALV22 to BBBBLV22", 19, 'no participant has the BIC "BBBBLV22"; a number may stand here instead'),
     ("route AAAALV22 via BBBBLV22", 20, 'no route row has the BIC "BBBBLV22"; a number may stand here instead'),
-    ("route AAAALV22 to 0 via 0", 21, "expected but, or the line's end, found \"via\": k is given already"),
+    ("route AAAALV22 to 0 via 0", 21, 'expected but, or the line\'s end, found "via": k is given already'),
     ("route AAAALV22 but k 5", 16, 'expected to or via, found "but"'),
     ("route AAAALV22 but kind 5", 16, 'expected to or via, found "but"'),
     ("08:00:00", 9, f"expected a kind of ticket: {KINDS}, found the line's end"),
     ("08:00:00 oder", 10, f'expected a kind of ticket: {KINDS}, found "oder"'),
     ("8:0:0 tick", 1, 'expected a time like 08:00:05 or 28805, found "8:0:0"'),
     ("  4294967296 tick", 3, 'expected a time of at most 4294967295 seconds, found "4294967296"'),
-    ("1 tick tock", 8, "expected but, or the line's end, found \"tock\""),
-    ("1 cut from AAAALV22", 7, "expected but, or the line's end, found \"from\""),
+    ("1 tick tock", 8, 'expected but, or the line\'s end, found "tock"'),
+    ("1 cut from AAAALV22", 7, 'expected but, or the line\'s end, found "from"'),
     ("1 confirm from AAAALV22 4.00", 25, f'expected {AMOUNT}, found "4.00"'),
     ("1 confirm EUR 4.00", 19, "expected from, found the line's end"),
     ("1 confirm from AAAALV22 EUR", 28, "expected euros like 4.00, found the line's end"),
@@ -91,7 +99,11 @@ MALFORMED = (
     ("1 order", 8, "expected a TxId, found the line's end"),
     ("1 order TX1", 12, f"expected from, to, {AMOUNT}, or iban, found the line's end"),
     ("1 order TX1 by AAAALV22", 13, f'expected from, to, {AMOUNT}, or iban, found "by"'),
-    ("1 order TX1 from AAAALV22 from AAAALV22", 27, f'expected to, {AMOUNT}, or iban, found "from": sender is given already'),
+    (
+        "1 order TX1 from AAAALV22 from AAAALV22",
+        27,
+        f'expected to, {AMOUNT}, or iban, found "from": sender is given already',
+    ),
     ("1 order TX1 EUR 4.00 cents 400", 22, 'expected from, to, or iban, found "cents": amount is given already'),
     (
         "1 order TX1 from AAAALV12",
@@ -102,7 +114,7 @@ MALFORMED = (
     (
         "1 order T_1 from AAAALV22",
         9,
-        "expected a TxId, found \"T_1\"; a TxId is 1 to 35 of A-Z a-z 0-9 / - ? : ( ) . , ' +; "
+        'expected a TxId, found "T_1"; a TxId is 1 to 35 of A-Z a-z 0-9 / - ? : ( ) . , \' +; '
         "`but txid ..` writes one that is wrong",
     ),
     (
@@ -133,7 +145,7 @@ MALFORMED = (
     ("header", 7, "expected participants, routes, tickets, participants-at, routes-at or tickets-at, found the line's end"),
     ("header tickets", 15, "expected a number, found the line's end"),
     ("header tickets 65536", 16, 'expected a number from 0 to 65535, found "65536"'),
-    ("header tickets 1 2", 18, "expected the line's end, found \"2\""),
+    ("header tickets 1 2", 18, 'expected the line\'s end, found "2"'),
     (
         "Route AAAALV22",
         1,
@@ -142,7 +154,7 @@ MALFORMED = (
     (
         "day one",
         1,
-        "expected header, participant, route, raw, bytes, or a time like 08:00:05 or 28805, found \"day\"; "
+        'expected header, participant, route, raw, bytes, or a time like 08:00:05 or 28805, found "day"; '
         "many days in one text need --many",
     ),
 )
@@ -272,7 +284,9 @@ class Packing(unittest.TestCase):
         given = ticket(f"1 order T from {A} to {B} EUR 1.00 iban {IBAN} but txid empty")
         self.assertEqual(given["txid"], b"")
         self.assertEqual(ticket(f"1 order from {A} to {B} EUR 1.00 iban {IBAN} but txid empty"), given)
-        self.assertEqual(ticket("1 order but txid empty sender AAAALV22XXX payee BBBBLV22XXX amount 100 iban " + IBAN), given)
+        self.assertEqual(
+            ticket("1 order but txid empty sender AAAALV22XXX payee BBBBLV22XXX amount 100 iban " + IBAN), given
+        )
         self.assertEqual(ticket(f"1 answer from {B} but txid but flag 2"), ticket(f"1 answer X no from {B} but txid but"))
 
     def test_words_that_are_never_a_txid(self):
@@ -344,7 +358,10 @@ class Packing(unittest.TestCase):
 
     def test_a_name_is_not_missed_where_its_line_is_wrong(self):
         self.wrong(
-            'x.day:1:22: expected bank or linked, or opening, found "bnk"', f"participant {A} bnk", f"route {A} to {A}", "1 tick"
+            'x.day:1:22: expected bank or linked, or opening, found "bnk"',
+            f"participant {A} bnk",
+            f"route {A} to {A}",
+            "1 tick",
         )
         with self.assertRaises(text.TextError) as caught:
             pack(f"route {A} to {B}", "1 tock")

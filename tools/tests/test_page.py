@@ -46,8 +46,8 @@ class Text(unittest.TestCase):
     def test_policy_allows_the_page_itself_and_nothing_else(self):
         for name, html in PAGES.items():
             policy = next(meta["content"] for meta in READ[name].named("meta") if "http-equiv" in meta)
-            script = re.search(r"<script>(.*)</script>", html, re.S)[1]
-            style = re.search(r"<style>(.*)</style>", html, re.S)[1]
+            [script] = re.findall(r"<script>(.*)</script>", html, re.S)
+            [style] = re.findall(r"<style>(.*)</style>", html, re.S)
             for kind, text in (("script", script), ("style", style)):
                 digest = base64.b64encode(hashlib.sha256(text.encode()).digest()).decode()
                 self.assertIn(f"{kind}-src 'sha256-{digest}';", policy, name)
@@ -76,7 +76,9 @@ class Text(unittest.TestCase):
             self.assertLess(len(PAGES[name].encode()), 3_000_000, name)
 
     def test_nothing_moves_by_itself(self):
-        self.assertIsNone(re.search("transition|animation|smooth|@keyframes", page.beside("page.css") + page.beside("page.js")))
+        self.assertIsNone(
+            re.search("transition|animation|smooth|@keyframes", page.beside("page.css") + page.beside("page.js"))
+        )
 
 
 def luminance(colour):
@@ -94,7 +96,9 @@ class Colours(unittest.TestCase):
     def test_contrast(self):
         """Each colour of text on each ground that it may stand on, light, dark and printed."""
         style = page.beside("page.css")
-        schemes = [dict(re.findall(r"--([\w-]+): (#\w{6});", block)) for block in re.findall(r":root \{(.*?)\}", style, re.S)]
+        schemes = [
+            dict(re.findall(r"--([\w-]+): (#\w{6});", block)) for block in re.findall(r":root \{(.*?)\}", style, re.S)
+        ]
         self.assertEqual(len(schemes), 3)
         for scheme in schemes:
             for text in ("ink", "soft", "accent", "good", "bad", "late"):
@@ -107,7 +111,9 @@ REPORT = re.compile(r"to (\S+): [^(]+ \((\d+)\), (?:order (\d+) \S+, )?EUR ([\d,
 
 
 def report_of(text, numbers):
-    to, code, order, amount = REPORT.fullmatch(text).groups()
+    found = REPORT.fullmatch(text)
+    assert found is not None, text
+    to, code, order, amount = found.groups()
     return numbers[to], int(code), 65535 if order is None else int(order), cents(amount)
 
 
@@ -120,7 +126,9 @@ class Seen(pages.InBrowser):
             self.assertEqual((self.browser.complaints(), self.browser.requests()), ([], []), name)
 
     def test_the_driver_hears_what_a_page_says_and_asks_for(self):
-        bad = "<img src='http://127.0.0.1:9/x.png'><script>console.log('a'); fetch('http://127.0.0.1:9/y'); nothing()</script>"
+        bad = (
+            "<img src='http://127.0.0.1:9/x.png'><script>console.log('a'); fetch('http://127.0.0.1:9/y'); nothing()</script>"
+        )
         self.browser.show(bad)
         said = " ".join(self.browser.complaints())
         for word in ("console: a", "exception: Uncaught", "ERR_"):
@@ -128,7 +136,9 @@ class Seen(pages.InBrowser):
         self.assertEqual(self.browser.requests(), ["http://127.0.0.1:9/x.png", "http://127.0.0.1:9/y"])
 
     def test_no_browser_is_an_error(self):
-        with mock.patch.dict("os.environ", PATH="/nowhere"), self.assertRaisesRegex(BrowserError, "apt-get install -y chromium"):
+        with mock.patch.dict("os.environ", PATH="/nowhere"), self.assertRaisesRegex(
+            BrowserError, "apt-get install -y chromium"
+        ):
             chromium()
 
     def test_hostile_names_do_nothing(self):
@@ -169,7 +179,9 @@ class Seen(pages.InBrowser):
 
     def closed(self):
         figures = "['available', 'reserved', 'held'].map(part => body.querySelector(`.${part} .figure`).textContent)"
-        return [list(map(cents, row)) for row in self.js(f"[...document.querySelectorAll('.closed')].map(body => {figures})")]
+        return [
+            list(map(cents, row)) for row in self.js(f"[...document.querySelectorAll('.closed')].map(body => {figures})")
+        ]
 
     def last_lines(self, count):
         """Available, reserved and held on the last line of each statement; zero where there is none."""
@@ -223,7 +235,9 @@ class Seen(pages.InBrowser):
     def test_no_sideways_scrolling(self):
         for name in PAGES:
             self.open(name)
-            self.js(UNFOLD + "; document.querySelectorAll('section').forEach(part => part.style.contentVisibility = 'visible')")
+            self.js(
+                UNFOLD + "; document.querySelectorAll('section').forEach(part => part.style.contentVisibility = 'visible')"
+            )
             for width in {"big": (360,), "full": (360, 700)}.get(name, (360, 500, 700, 1000, 1280, 1920)):
                 self.browser.size(width, 800)
                 self.assertLessEqual(self.js("document.documentElement.scrollWidth"), width, (name, width))
@@ -277,7 +291,7 @@ class Seen(pages.InBrowser):
                 self.assertGreater(found["read"], 3)
                 self.assertEqual(found["weak"], [], (scheme, name))
             grounds.append(self.js("getComputedStyle(document.body).backgroundColor"))
-        self.assertNotEqual(*grounds)
+        self.assertNotEqual(grounds[0], grounds[1])
 
     def test_without_script(self):
         self.browser.script_off(True)
@@ -287,7 +301,7 @@ class Seen(pages.InBrowser):
         self.assertEqual(len(self.js(SHOWN)), 49)
         self.assertFalse(self.js("document.getElementById('filter').checkVisibility()"))
         grounds = [self.js(f"getComputedStyle(document.getElementById('{row}')).backgroundColor") for row in ("t10", "t11")]
-        self.assertNotEqual(*grounds)
+        self.assertNotEqual(grounds[0], grounds[1])
 
     def test_print_has_everything(self):
         self.open("big")

@@ -4,14 +4,15 @@ import unittest
 
 from tests import pages, scenes
 from tests.pages import DAYS, FOCUS, cents, leads_of, printed, rows_of
-from zolfigar import history, page
+from zolfigar import history
 from zolfigar.page import participants
+from zolfigar.page.view import View
 
 
 class Parts(unittest.TestCase):
     def setUp(self):
         self.day = scenes.day("busy")
-        self.view = page.View(self.day)
+        self.view = View(self.day)
 
     def test_closing_positions(self):
         table = participants.closing(self.day)
@@ -25,7 +26,7 @@ class Parts(unittest.TestCase):
     def test_a_position_that_is_not_in_the_output(self):
         day = scenes.day("case-d", scenes.changed(scenes.output("case-d"), "C 1 400 0 0", None))
         self.assertEqual(rows_of(participants.closing(day))[2], ["BBBBLV22", "bank", "none", "not in the output"])
-        table = participants.equation(page.View(day), day.participants[1])
+        table = participants.equation(View(day), day.participants[1])
         self.assertEqual(rows_of(table)[-1], ["The output has no closing position", "", ""])
 
     def test_equation(self):
@@ -47,7 +48,7 @@ class Parts(unittest.TestCase):
 
     def test_statements_are_open_on_a_small_day(self):
         for name, is_open in (("case D", True), ("busy", True), ("big", False)):
-            view = page.View(history.read(*DAYS[name]))
+            view = View(history.read(*DAYS[name]))
             self.assertEqual(participants.statement(view, 0).get("open") is not None, is_open, name)
 
 

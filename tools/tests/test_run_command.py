@@ -49,11 +49,12 @@ class Run(unittest.TestCase):
 
     def run_day(self, *words):
         """The exit status, standard output and standard error."""
-        out, err = io.TextIOWrapper(io.BytesIO(), encoding="utf-8", write_through=True), io.StringIO()
+        written, err = io.BytesIO(), io.StringIO()
+        out = io.TextIOWrapper(written, encoding="utf-8", write_through=True)
         path = self.path("bin") + os.pathsep + os.environ["PATH"]
         with mock.patch.dict(os.environ, PATH=path), contextlib.redirect_stdout(out), contextlib.redirect_stderr(err):
             status = files.guarded("run", lambda: run_command.run(run_command.arguments(words), self.root))
-        return status, out.buffer.getvalue().decode(), err.getvalue()
+        return status, written.getvalue().decode(), err.getvalue()
 
     def example(self, name):
         return os.path.join(scenes.EXAMPLES, name + ".day")
@@ -76,8 +77,7 @@ class Run(unittest.TestCase):
     def test_building_shows_how_far_it_is(self):
         """On a terminal, the last line that rt said of a crate."""
         shown = io.StringIO()
-        shown.isatty = lambda: True
-        with contextlib.redirect_stderr(shown):
+        with mock.patch.object(shown, "isatty", return_value=True), contextlib.redirect_stderr(shown):
             said = run_command.followed(["fn f: proved\n", "rt: fields proved (10 s)\n"])
         self.assertEqual(said, "fn f: proved\nrt: fields proved (10 s)\n")
         self.assertEqual(shown.getvalue(), "\rrt: fields proved (10 s)\x1b[K\r\x1b[K")

@@ -35,8 +35,8 @@ class Telling(unittest.TestCase):
     def test_reports(self):
         told = [telling.report(self.day, report) for report in self.day.events[37].reports]
         self.assertEqual(told[1], "to BBBBLV22: the cut left an open debit (10), EUR 140.00")
-        told = telling.report(self.day, self.day.events[3].reports[0])
-        self.assertEqual(told, "to BBBBLV22: an order to answer (1), order 0 SALARY-1, EUR 40.00")
+        first = telling.report(self.day, self.day.events[3].reports[0])
+        self.assertEqual(first, "to BBBBLV22: an order to answer (1), order 0 SALARY-1, EUR 40.00")
 
     def test_moves(self):
         told = [telling.move(self.day, move) for move, _ in self.day.statement(1)]
@@ -46,7 +46,12 @@ class Telling(unittest.TestCase):
         self.assertEqual(told, due + ["order 9 NIGHT settled, from AAAALV22", "confirmed debit"])
 
     def test_equation(self):
-        terms = [("cover-ins", 30000), ("confirmed debits", 10000), ("orders settled to it", 10500), ("returns by it", -4000)]
+        terms = [
+            ("cover-ins", 30000),
+            ("confirmed debits", 10000),
+            ("orders settled to it", 10500),
+            ("returns by it", -4000),
+        ]
         self.assertEqual(telling.equation(self.day, 1), (terms, 46500))
 
     def test_one_who_is_no_participant(self):

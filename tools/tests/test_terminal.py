@@ -27,7 +27,9 @@ class Whole(unittest.TestCase):
         text = scenes.changed(scenes.output("case-d"), "C 0 600 0 0", "C 0 601 0 0")
         lines = shown("case-d", text)
         self.assertEqual(lines[1], "One thing doesn't add up:")
-        self.assertIn("  6.01 available + 0.00 reserved + 0.00 held = 6.01, the program's line C 0: it doesn't add up", lines)
+        self.assertIn(
+            "  6.01 available + 0.00 reserved + 0.00 held = 6.01, the program's line C 0: it doesn't add up", lines
+        )
 
     def test_a_refused_file(self):
         day = scenes.day("refused-4")

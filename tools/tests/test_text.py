@@ -49,7 +49,9 @@ class Values(unittest.TestCase):
         for word in ("4294967295", "1193046:28:15", "0" * 5000 + "4294967295"):
             self.assertEqual(text.time(word), 2**32 - 1)
         self.refused(text.time, "4294967296", "1193046:28:16", "9" * 5000, "9" * 5000 + ":00:00")
-        self.refused(text.time, "", "1:2", "1:2:3", "1:60:00", "1:00:60", "1:00:00:00", "-1", "+1", "1.0", ":00:00", "\u0661")
+        self.refused(
+            text.time, "", "1:2", "1:2:3", "1:60:00", "1:00:60", "1:00:00:00", "-1", "+1", "1.0", ":00:00", "\u0661"
+        )
 
     def test_amounts(self):
         for word, cents in (("4.00", 400), ("0.00", 0), ("0.01", 1), ("000.10", 10), ("184467440737095516.15", 2**64 - 1)):
@@ -95,7 +97,9 @@ class Values(unittest.TestCase):
         self.assertEqual(text.literal("hex:00fFa1", 3), b"\x00\xff\xa1")
         self.assertEqual(text.literal("hex:", 3), b"")
         self.assertEqual(text.literal("Hex:1", 5), b"Hex:1")
-        self.refused(lambda word: text.literal(word, 3), "abcd", "hex:00000000", "hex:0", "hex:0g", 'a"', "a#", "\u00e4", "\x7f")
+        self.refused(
+            lambda word: text.literal(word, 3), "abcd", "hex:00000000", "hex:0", "hex:0g", 'a"', "a#", "\u00e4", "\x7f"
+        )
 
 
 class Messages(unittest.TestCase):

@@ -4,13 +4,14 @@ import unittest
 
 from tests import pages, scenes
 from tests.pages import COUNT, DAYS, FOCUS, SHOWN, printed, words_of
-from zolfigar import history, page
+from zolfigar import history
 from zolfigar.page import tickets
+from zolfigar.page.view import View
 
 
 class Rows(unittest.TestCase):
     def setUp(self):
-        self.view = page.View(scenes.day("busy"))
+        self.view = View(scenes.day("busy"))
 
     def row(self, number):
         return tickets.ticket_row(self.view, self.view.day.events[number])
@@ -30,7 +31,7 @@ class Rows(unittest.TestCase):
         self.assertEqual(moved[1:], ["BBBBLV22: open debit 140.00", "DDDDEE2X: available -150.00, held +150.00"])
 
     def test_many_reports_are_folded(self):
-        view = page.View(history.read(*DAYS["big"]))
+        view = View(history.read(*DAYS["big"]))
         for event in view.day.events:
             fold = tickets.ticket_row(view, event)[4].find("details")
             self.assertEqual(fold is not None, len(event.reports) > tickets.FEW)
@@ -38,7 +39,7 @@ class Rows(unittest.TestCase):
                 self.assertEqual(words_of(fold[0]), f"{len(event.reports)} reports")
 
     def test_the_filter_has_the_kinds_and_members_of_the_day(self):
-        choices = {each.get("id"): each for each in tickets.filter_form(page.View(scenes.day("case-d"))).iter("select")}
+        choices = {each.get("id"): each for each in tickets.filter_form(View(scenes.day("case-d"))).iter("select")}
         self.assertEqual([words_of(option) for option in choices["kind"]], ["any", "cover-in", "order", "answer", "inquiry"])
         self.assertEqual([words_of(option) for option in choices["member"]], ["any", "AAAALV22", "BBBBLV22"])
 
@@ -50,7 +51,9 @@ class Rows(unittest.TestCase):
 class Seen(pages.InBrowser):
     def test_the_named_ticket_is_marked(self):
         self.open("big", "#t400")
-        grounds = [self.js(f"getComputedStyle(document.getElementById('{row}')).backgroundColor") for row in ("t400", "t399")]
+        grounds = [
+            self.js(f"getComputedStyle(document.getElementById('{row}')).backgroundColor") for row in ("t400", "t399")
+        ]
         self.assertNotEqual(*grounds)
 
     # The filter

@@ -52,7 +52,9 @@ def some_ticket(chance):
 def some_file(chance):
     participants = [some_row(chance, layout.PARTICIPANT) for _ in range(chance.randrange(4))]
     routes = [some_row(chance, layout.ROUTE) for _ in range(chance.randrange(5))]
-    tickets = [chance.choice((some_ticket, lambda c: some_row(c, layout.TICKET)))(chance) for _ in range(chance.randrange(4))]
+    tickets = [
+        chance.choice((some_ticket, lambda c: some_row(c, layout.TICKET)))(chance) for _ in range(chance.randrange(4))
+    ]
     header = layout.header_of(len(participants), len(routes), len(tickets))
     return b"".join([layout.write(layout.HEADER, header), *participants, *routes, *tickets])
 
@@ -233,8 +235,8 @@ class Texts(unittest.TestCase):
         rows = layout.sections(CASE_D_BYTES).tickets
         self.assertEqual(unpacking.ticket_words(rows[0]), "cover-in from AAAALV22 EUR 10.00")
         self.assertEqual(unpacking.ticket_words(rows[2]), "answer TX1 yes from BBBBLV22")
-        self.assertEqual(unpacking.ticket_words(layout.read(layout.TICKET, bytes(108))), "tick but kind 0")
-        self.assertEqual(unpacking.ticket_words(layout.read(layout.TICKET, b"\xff" * 108))[:18], "raw ff ff ffff fff")
+        self.assertEqual(unpacking.ticket_words(layout.ticket_in(bytes(108))), "tick but kind 0")
+        self.assertEqual(unpacking.ticket_words(layout.ticket_in(b"\xff" * 108))[:18], "raw ff ff ffff fff")
 
 
 if __name__ == "__main__":

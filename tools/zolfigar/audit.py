@@ -5,11 +5,15 @@ No rule of the book is recomputed: which refusal a ticket should have had, how m
 debit is and what an inquiry should have told are not looked at. A problem is a sentence that names the ticket, the order or
 the participant."""
 
+from collections.abc import Iterator
+
 from .figures import counted, euro
+from .history import Day, Event, Order
+from .output import Parts, Report
 from .words import CUT_REPORTS, ENDINGS, LIMIT, NO_ORDER
 
 
-def problems(day):
+def problems(day: Day) -> list[str]:
     """All of them, in the order of the paper's clauses. What the reading found stands first."""
     if day.refusal is not None:
         return list(day.problems)
@@ -26,15 +30,15 @@ RECEIVERS = {1: "payee", 3: "payer", 5: "payee", 6: "payer", 7: "payer", 8: "pay
 CAUSES = {1: (3,), 2: (4, 8), 3: (4, 8), 5: (5,), 6: (6, 8), 7: (7, 8), 8: (8,), 9: (8,), 10: (9,), 11: (9,)}
 
 
-def name_of(order):
+def name_of(order: Order) -> str:
     return f"order {order.number} ({order.txid})"
 
 
-def each_report(day):
+def each_report(day: Day) -> Iterator[tuple[Event, Report]]:
     return ((event, report) for event in day.events for report in event.reports)
 
 
-def addressed(day):
+def addressed(day: Day) -> Iterator[str]:
     """Each report goes to a participant, and each accepted ticket that has a sender comes from one."""
     for event, report in each_report(day):
         if report.to >= len(day.participants):
@@ -44,7 +48,7 @@ def addressed(day):
             yield f"ticket {event.number} was accepted, and its sender is no participant"
 
 
-def about_orders(day):
+def about_orders(day: Day) -> Iterator[str]:
     """Reports 1 to 9 are about an order accepted by then, an ending about one accepted before its ticket; a cut's about none."""
     before = 0
     for event in day.events:
@@ -60,18 +64,18 @@ def about_orders(day):
         before = by_then
 
 
-def to_a_party(day, event, report):
+def to_a_party(day: Day, event: Event, report: Report) -> Iterator[str]:
     """A report about an order goes to the party that its code is for, and carries the order's amount."""
     order = day.orders[report.order]
     told = f"ticket {event.number}: a report {report.code} about {name_of(order)}"
-    parties = {"payer": (order.payer,), "payee": (order.payee,), "either": (order.payer, order.payee)}
-    if report.to not in parties[RECEIVERS.get(report.code, "either")]:
+    receivers = {"payer": [order.payer], "payee": [order.payee]}
+    if report.to not in receivers.get(RECEIVERS.get(report.code, ""), [order.payer, order.payee]):
         yield f"{told} goes to {day.bic(report.to)}, and must not"
     if report.amount != order.amount:
         yield f"{told} tells {euro(report.amount)}, and the order is over {euro(order.amount)}"
 
 
-def caused(day):
+def caused(day: Day) -> Iterator[str]:
     """A report comes from a ticket of a kind that brings it, about the order that the ticket makes or names; a 4 from any."""
     for event, report in each_report(day):
         kinds = CAUSES.get(report.code)
@@ -84,24 +88,27 @@ def caused(day):
             yield f"{told} is about order {report.order}, and the ticket is about another"
 
 
-def refusals(day):
+def refusals(day: Day) -> Iterator[str]:
     """A ticket of a file that is not refused has refusal 0 or 7 to 22: 1 to 5 are a file's, 6 a short buffer's."""
     for event in day.events:
         if event.refusal and not 7 <= event.refusal <= 22:
             yield f"ticket {event.number} has refusal {event.refusal}, and the program gives a ticket 0 or 7 to 22"
 
 
-def answered(day):
+def answered(day: Day) -> Iterator[str]:
     """An accepted recall and inquiry comes from the order's payer, an accepted answer, return and decline from its payee."""
     for event in day.events:
         side = {5: "payer", 8: "payer", 4: "payee", 6: "payee", 7: "payee"}.get(event.ticket["kind"])
-        if event.refusal == 0 and side and event.order is None:
+        if event.refusal or side is None:
+            continue
+        order = None if event.order is None else day.orders[event.order]
+        if order is None:
             yield f"ticket {event.number} was accepted, and no order has its TxId"
-        elif event.refusal == 0 and side and event.sender != getattr(day.orders[event.order], side):
-            yield f"ticket {event.number} was accepted, and its sender is not the {side} of {name_of(day.orders[event.order])}"
+        elif event.sender != (order.payer if side == "payer" else order.payee):
+            yield f"ticket {event.number} was accepted, and its sender is not the {side} of {name_of(order)}"
 
 
-def quiet(day):
+def quiet(day: Day) -> Iterator[str]:
     """A ticket that 6 to 11 turn back tells nobody anything; rows are followed for accepted orders only."""
     for event in day.events:
         if not event.sets_clock() and event.reports:
@@ -110,7 +117,7 @@ def quiet(day):
             yield f"ticket {event.number} is no accepted order, and its line counts {counted(event.rows, 'route row')}"
 
 
-def parties(day):
+def parties(day: Day) -> Iterator[str]:
     """An accepted order has its report 1, a yes its report 2, a return its report 6; a confirm follows a cut's report."""
     needs = {3: 1, 6: 6}
     for event in day.events:
@@ -123,34 +130,34 @@ def parties(day):
             yield f"ticket {event.number} is an accepted confirm, and no cut told its sender of anything before"
 
 
-def is_for_bank(day, order):
+def is_for_bank(day: Day, order: Order) -> bool:
     return order.payee is not None and order.payee < len(day.participants) and day.participants[order.payee].is_bank
 
 
-def due(day, order):
+def due(day: Day, order: Order) -> Event | None:
     """The first ticket that is not turned back by 6 to 11 and comes 20 seconds or more after an order for a bank."""
     after = day.events[order.event.number + 1 :] if is_for_bank(day, order) else []
     return next((event for event in after if event.sets_clock() and event.time - order.time >= LIMIT), None)
 
 
-def expiry(day):
+def expiry(day: Day) -> Iterator[str]:
     """A ticket lets an order expire exactly when it must: the order still waits, it is for a bank, and 20 seconds are over."""
     for order in day.orders:
         must, ended = due(day, order), order.ended
-        if order.code == 4 and ended is not must:
+        if ended is not None and order.code == 4 and ended is not must:
             yield f"ticket {ended.number} lets {name_of(order)} expire {ended.time - order.time} seconds after it, and must not"
         if must and order.code != 4 and (ended is None or ended.number >= must.number):
             late = must.time - order.time
             yield f"ticket {must.number} must let {name_of(order)} expire, {late} seconds after it, and doesn't"
 
 
-def own_endings(order, event):
+def own_endings(order: Order, event: Event) -> list[Report]:
     """The event's endings of the order, but for the repeat of an accepted inquiry about it, which is the last."""
     told = [report for report in event.reports if report.code in ENDINGS and report.order == order.number]
     return told[:-1] if event.is_accepted(8) and event.order == order.number else told
 
 
-def repeated(day):
+def repeated(day: Day) -> Iterator[str]:
     """An end tells each party once, and an inquiry's repeat goes to its sender."""
     for order in day.orders:
         for event in order.events:
@@ -163,7 +170,7 @@ def repeated(day):
                 yield f"ticket {event.number} asks about {name_of(order)}, and its answer goes to {day.bic(told[-1].to)}"
 
 
-def once(day):
+def once(day: Day) -> Iterator[str]:
     """All endings of an order but repeats come from one ticket."""
     for order in day.orders:
         tickets = [event.number for event in order.events if own_endings(order, event)]
@@ -173,7 +180,7 @@ def once(day):
             yield f"{name_of(order)} is told to have ended by ticket {order.ended.number}, and no ticket ended it"
 
 
-def alike(day):
+def alike(day: Day) -> Iterator[str]:
     """All endings of an order carry the same code. (That a report carries the order's amount is `to_a_party`.)"""
     for event, report in each_report(day):
         order = day.orders[report.order] if report.order < len(day.orders) else None
@@ -181,25 +188,25 @@ def alike(day):
             yield f"ticket {event.number} tells ending {report.code} of {name_of(order)}, and it ended with {order.code}"
 
 
-def never_below(day):
+def never_below(day: Day) -> Iterator[str]:
     """No part of a participant's cover is ever below zero."""
     for participant in day.participants:
         for move, after in day.statement(participant.number):
-            for part, amount in zip(("available", "reserved", "held"), after):
+            for part, amount in zip(Parts._fields, after):
                 if amount < 0:
                     yield f"{participant.bic}: ticket {move.event.number} takes {part} to {euro(amount)}"
 
 
-def positions(day):
+def positions(day: Day) -> Iterator[str]:
     """The cover equation, and each of available, reserved and held, against the program's closing position."""
     for participant in day.participants:
         position = day.position(participant.number)
         if position is None:
             continue
-        after = (0, 0, 0)
+        after = Parts()
         for _, after in day.statement(participant.number):
             pass
-        for part, added, printed in zip(("available", "reserved", "held"), after, position[1:4]):
+        for part, added, printed in zip(Parts._fields, after, position.parts()):
             if added != printed:
                 yield f"{participant.bic}: {part} adds up to {euro(added)}, and the output closes it at {euro(printed)}"
         waiting = sum(order.amount for order in day.waiting(participant.number))
@@ -208,5 +215,17 @@ def positions(day):
 
 
 CLAUSES = (
-    refusals, addressed, about_orders, caused, answered, quiet, parties, expiry, once, repeated, alike, never_below, positions,
+    refusals,
+    addressed,
+    about_orders,
+    caused,
+    answered,
+    quiet,
+    parties,
+    expiry,
+    once,
+    repeated,
+    alike,
+    never_below,
+    positions,
 )

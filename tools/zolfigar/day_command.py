@@ -2,8 +2,9 @@
 
 import argparse
 import sys
+from collections.abc import Sequence
 
-from . import files, inputs, many, packing, unpacking
+from . import files, inputs, many, packing, unpacking, version
 
 WHAT = "A day file from text, and text from a day file. docs/DAYS.md has the text form."
 USES = """example:
@@ -14,9 +15,20 @@ USES = """example:
 Nothing is written if there is an error. The exit status is 1 for an error, 2 for wrong usage."""
 
 
-def arguments(words):
+class Words(argparse.Namespace):
+    """What the command line says."""
+
+    command: str
+    file: str
+    out: str
+    many: bool
+    inputs: bool
+
+
+def arguments(words: Sequence[str]) -> Words:
     form = argparse.RawDescriptionHelpFormatter
     parser = argparse.ArgumentParser("day", description=WHAT, epilog=USES, formatter_class=form)
+    version.told(parser)
     commands = parser.add_subparsers(dest="command", required=True, metavar="pack|unpack")
     for command, what in (("pack", "text to a day file"), ("unpack", "a day file, of any bytes, to text")):
         added = commands.add_parser(command, help=what, description=what, epilog=USES, formatter_class=form)
@@ -26,22 +38,22 @@ def arguments(words):
         forms.add_argument("--many", action="store_true", help="many named days, as the program days reads them")
         if command == "pack":
             forms.add_argument("--inputs", action="store_true", help="tickets with buffers, as the program hands reads them")
-    return parser.parse_args(words)
+    return parser.parse_args(words, Words())
 
 
-def packed(name, data, words):
-    form = inputs if words.inputs else many if words.many else packing
-    return form.pack(name, packing.decoded(name, data))
+def packed(name: str, data: bytes, words: Words) -> bytes:
+    pack = inputs.pack if words.inputs else many.pack if words.many else packing.pack
+    return pack(name, packing.decoded(name, data))
 
 
-def unpacked(name, data, words):
+def unpacked(name: str, data: bytes, words: Words) -> bytes:
     try:
-        return (many if words.many else unpacking).unpack(data).encode()
+        return (many.unpack(data) if words.many else unpacking.unpack(data)).encode()
     except many.NotMany as error:
         raise files.Failed(f"{name}: {error}") from None
 
 
-def look_at_streams(words):
+def look_at_streams(words: Words) -> None:
     """A stream that the caller has closed is None."""
     if words.file == "-" and sys.stdin is None:
         raise files.Failed("standard input is closed")
@@ -51,7 +63,7 @@ def look_at_streams(words):
         raise files.Failed("a day file isn't written to a terminal: use -o OUT, or a pipe")
 
 
-def carry_out(words):
+def carry_out(words: Words) -> int:
     look_at_streams(words)
     name = "standard input" if words.file == "-" else words.file
     work = packed if words.command == "pack" else unpacked
@@ -59,6 +71,6 @@ def carry_out(words):
     return 0
 
 
-def main():
+def main() -> int:
     words = arguments(sys.argv[1:])
     return files.guarded("day", lambda: carry_out(words))

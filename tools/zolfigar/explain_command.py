@@ -4,8 +4,11 @@ import argparse
 import datetime
 import os
 import sys
+from collections.abc import Sequence
+from typing import TextIO
 
-from . import audit, files, history, journal, page, terminal
+from . import audit, files, history, journal, page, terminal, version
+from .history import Day, Order
 
 USES = """examples:
   tools/explain day.bin day.out                      all of it, on the terminal
@@ -17,31 +20,49 @@ USES = """examples:
 The exit status is 0 if everything adds up, 1 if something doesn't or can't be read, 2 for wrong usage."""
 
 
-def followed(parser):
+class Followed(argparse.Namespace):
+    """What is followed through a day."""
+
+    day: str
+    member: str | None
+    order: str | None
+
+
+class Words(Followed):
+    """What the command line says."""
+
+    output: str
+    page: str | None
+    journal: str | None
+    date: datetime.date
+
+
+def followed(parser: argparse.ArgumentParser) -> None:
     """The two ways to follow one thing through a day."""
     shown = parser.add_mutually_exclusive_group()
     shown.add_argument("--member", metavar="BIC", help="follow one participant")
     shown.add_argument("--order", metavar="TXID", help="follow one order")
 
 
-def arguments(words):
+def arguments(words: Sequence[str]) -> Words:
     form = argparse.RawDescriptionHelpFormatter
     parser = argparse.ArgumentParser("explain", description=__doc__, epilog=USES, formatter_class=form)
+    version.told(parser)
     parser.add_argument("day", help="the day file, as tools/day packs it")
     parser.add_argument("output", help="what the clearing program printed of it; - is standard input")
     followed(parser)
     parser.add_argument("--page", metavar="FILE", help="write one self-contained HTML page")
     parser.add_argument("--journal", metavar="FILE", help="write a journal for hledger; - is standard output")
-    date = {"type": datetime.date.fromisoformat, "default": journal.DATE}
-    parser.add_argument("--date", **date, help="the date of second 0, for the journal; 2000-01-01 if it isn't given")
-    return parser.parse_args(words)
+    date = "the date of second 0, for the journal; 2000-01-01 if it isn't given"
+    parser.add_argument("--date", type=datetime.date.fromisoformat, default=journal.DATE, help=date)
+    return parser.parse_args(words, Words())
 
 
-def coloured(stream):
+def coloured(stream: TextIO) -> bool:
     return stream.isatty() and "NO_COLOR" not in os.environ
 
 
-def wanted(day, words):
+def wanted(day: Day, words: Followed) -> tuple[int | None, Order | None]:
     """The participant's number and the order that are to be followed."""
     member = order = None
     if words.member:
@@ -57,7 +78,7 @@ def wanted(day, words):
     return member, order
 
 
-def show(day, problems, words):
+def show(day: Day, problems: Sequence[str], words: Followed) -> None:
     """The day on standard output."""
     style = terminal.Style(coloured(sys.stdout))
     if day.refusal is not None:
@@ -67,7 +88,7 @@ def show(day, problems, words):
     files.write("-", "".join(line + "\n" for line in found).encode())
 
 
-def explain(words):
+def explain(words: Words) -> int:
     name = os.path.splitext(os.path.basename(words.day))[0]
     day = history.read(name, files.read(words.day), files.text(words.output))
     problems = audit.problems(day)
@@ -82,6 +103,6 @@ def explain(words):
     return 1 if problems else 0
 
 
-def main():
+def main() -> int:
     words = arguments(sys.argv[1:])
     return files.guarded("explain", lambda: explain(words))

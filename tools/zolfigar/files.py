@@ -1,8 +1,10 @@
 """Reading and writing files for the commands: whole files, errors in one line, nothing half written."""
 
+import io
 import os
 import sys
 import tempfile
+from collections.abc import Callable
 
 STANDARD = "-"
 
@@ -13,11 +15,11 @@ class Failed(Exception):
     begins_with_place = False
 
 
-def reason(error):
+def reason(error: OSError) -> str:
     return error.strerror or str(error)
 
 
-def read(name):
+def read(name: str) -> bytes:
     """A file's bytes; - is standard input."""
     try:
         if name == STANDARD:
@@ -28,12 +30,12 @@ def read(name):
         raise Failed(f"can't read {name}: {reason(error)}") from error
 
 
-def text(name):
+def text(name: str) -> str:
     """The program's output as text. It is ASCII; any other byte is shown by its number, and no line of the program has one."""
     return read(name).decode("ascii", errors="backslashreplace")
 
 
-def write(name, data):
+def write(name: str, data: bytes) -> None:
     """Writes a file whole or not at all; - is standard output. A device or a pipe can't be replaced, and is written through."""
     try:
         if name == STANDARD:
@@ -50,7 +52,7 @@ def write(name, data):
         raise Failed(f"can't write {'to standard output' if name == STANDARD else name}: {reason(error)}") from error
 
 
-def replace(name, data):
+def replace(name: str, data: bytes) -> None:
     """Puts a file with the data where the name is, with the rights of the one before it."""
     handle, beside = tempfile.mkstemp(dir=os.path.dirname(name), prefix=".part-")
     try:
@@ -63,17 +65,17 @@ def replace(name, data):
         raise
 
 
-def mask():
+def mask() -> int:
     """The rights that a new file doesn't get."""
     found = os.umask(0)
     os.umask(found)
     return found
 
 
-def guarded(command, work):
+def guarded(command: str, work: Callable[[], int]) -> int:
     """Runs a command's work and gives its exit status. A closed pipe ends it without a word."""
     if sys.stderr is None:
-        sys.stderr = open(os.devnull, "w")
+        sys.stderr = io.StringIO()
     try:
         return work()
     except Failed as error:

@@ -3,16 +3,21 @@
 Nothing here is decided by a rule of the book: that a ticket was accepted, an order expired or cover was set aside is read
 off answers and reports, in the terms of 01 'Demand 3, word by word'."""
 
+from collections.abc import Iterator, Sequence
 from dataclasses import dataclass, field
 from typing import NamedTuple
 
 from . import layout, output
 from .figures import counted
+from .layout import ParticipantRow, TicketRow
+from .output import Answer, Parts, Position, Report
 from .progress import over
 from .words import CUT_REPORTS, ENDINGS
 
 
 class Participant(NamedTuple):
+    """A participant; `opening` is the opening cover that it wishes, if it does."""
+
     number: int
     bic: str
     is_bank: bool
@@ -23,27 +28,27 @@ class Event(NamedTuple):
     """A ticket with its answer. `order` is the number of the order that it makes or names, if there is one."""
 
     number: int
-    ticket: dict
+    ticket: TicketRow
     refusal: int
     rows: int
-    reports: list
+    reports: list[Report]
     sender: int | None
     order: int | None
 
     @property
-    def time(self):
+    def time(self) -> int:
         return self.ticket["time"]
 
-    def is_accepted(self, kind):
+    def is_accepted(self, kind: int) -> bool:
         return self.refusal == 0 and self.ticket["kind"] == kind
 
-    def is_yes(self):
+    def is_yes(self) -> bool:
         return self.is_accepted(4) and self.ticket["flag"] == 1
 
-    def sets_clock(self):
+    def sets_clock(self) -> bool:
         return not 6 <= self.refusal <= 11
 
-    def first(self, code):
+    def first(self, code: int) -> Report | None:
         """The first report with the code, if there is one."""
         return next((report for report in self.reports if report.code == code), None)
 
@@ -60,10 +65,10 @@ class Order:
     amount: int
     ended: Event | None = None
     code: int | None = None
-    events: list = field(default_factory=list)
+    events: list[Event] = field(default_factory=list)
 
     @property
-    def time(self):
+    def time(self) -> int:
         return self.event.time
 
 
@@ -79,6 +84,9 @@ class Move(NamedTuple):
     held: int = 0
     order: int | None = None
     other: int | None = None
+
+    def parts(self) -> Parts:
+        return Parts(self.available, self.reserved, self.held)
 
 
 # The terms of the cover equation, with their sign: what comes in and what goes out. Other moves are within the cover.
@@ -96,24 +104,26 @@ TERMS = {
 
 @dataclass
 class Day:
+    """A day as it was seen, and what the reading of it found wrong."""
+
     name: str
     refusal: int | None
-    participants: list
-    events: list
-    orders: list
-    moves: list
-    positions: list
-    problems: list
+    participants: list[Participant]
+    events: list[Event]
+    orders: list[Order]
+    moves: list[Move]
+    positions: list[Position]
+    problems: list[str]
 
-    def statement(self, number):
+    def statement(self, number: int) -> Iterator[tuple[Move, Parts]]:
         """The participant's moves, each with available, reserved and held after it."""
         available = reserved = held = 0
         for move in self.moves:
             if move.participant == number:
                 available, reserved, held = available + move.available, reserved + move.reserved, held + move.held
-                yield move, (available, reserved, held)
+                yield move, Parts(available, reserved, held)
 
-    def sums(self, number):
+    def sums(self, number: int) -> dict[str, int]:
         """For each term of the cover equation, the amounts of the participant's moves under it."""
         totals = dict.fromkeys(TERMS, 0)
         for move in self.moves:
@@ -121,37 +131,41 @@ class Day:
                 totals[move.term] += move.amount
         return totals
 
-    def waiting(self, number):
+    def waiting(self, number: int) -> list[Order]:
         """The waiting orders that the participant pays."""
         return [order for order in self.orders if order.payer == number and order.ended is None]
 
-    def position(self, number):
+    def position(self, number: int) -> Position | None:
         return next((p for p in self.positions if p.number == number), None)
 
-    def bic(self, number):
+    def bic(self, number: int | None) -> str:
         """A participant's name, for one who is none too."""
-        known = number is not None and 0 <= number < len(self.participants)
-        return self.participants[number].bic if known else f"participant {number}"
+        if number is not None and 0 <= number < len(self.participants):
+            return self.participants[number].bic
+        return f"participant {number}"
 
 
-def text_of(value):
+def text_of(value: bytes) -> str:
     """A text field as text; bytes that are no ASCII are shown as hex."""
     return value.decode("ascii") if value.isascii() and value.decode("ascii").isprintable() else "hex:" + value.hex()
 
 
-def participant_of(number, row):
+def participant_of(number: int, row: ParticipantRow) -> Participant:
     return Participant(number, text_of(row["bic"]), row["kind"] == 0, row["opening"] if row["wish"] else None)
 
 
 class Reader:
     """Takes a day's tickets and answers one after the other."""
 
-    def __init__(self, participants):
+    def __init__(self, participants: Sequence[Participant]) -> None:
         self.numbers = {p.bic: p.number for p in reversed(participants)}
-        self.orders, self.by_txid, self.moves, self.events = [], {}, [], []
-        self.last_cut = {}
+        self.orders: list[Order] = []
+        self.by_txid: dict[bytes, int] = {}
+        self.moves: list[Move] = []
+        self.events: list[Event] = []
+        self.last_cut: dict[int, int] = {}  # the code of the last report of a cut to each participant
 
-    def take(self, number, ticket, answer):
+    def take(self, number: int, ticket: TicketRow, answer: Answer) -> None:
         sender = self.numbers.get(text_of(ticket["sender"]))
         named = self.by_txid.get(ticket["txid"]) if 3 <= ticket["kind"] <= 8 else None
         event = Event(number, ticket, answer.refusal, answer.rows, answer.reports, sender, named)
@@ -165,16 +179,25 @@ class Reader:
         if event.refusal == 0:
             self.own_step(event)
 
-    def touched(self, event):
+    def touched(self, event: Event) -> list[Order]:
         """The orders that the ticket names or its reports are about, each once."""
         numbers = [event.order] + [report.order for report in event.reports if report.code not in CUT_REPORTS]
         return [self.orders[n] for n in dict.fromkeys(numbers) if n is not None and n < len(self.orders)]
 
-    def move(self, event, participant, term, amount, **changes):
+    def move(
+        self,
+        event: Event,
+        participant: int | None,
+        term: str,
+        amount: int,
+        changes: Parts,
+        order: int | None = None,
+        other: int | None = None,
+    ) -> None:
         if participant is not None:
-            self.moves.append(Move(event, participant, term, amount, **changes))
+            self.moves.append(Move(event, participant, term, amount, *changes, order, other))
 
-    def told(self, event, report):
+    def told(self, event: Event, report: Report) -> None:
         """What a report tells of cover: an order's first ending, and the cut's."""
         if report.code in ENDINGS and report.order < len(self.orders):
             order = self.orders[report.order]
@@ -182,26 +205,24 @@ class Reader:
                 order.ended, order.code = event, report.code
                 self.ending(event, order)
         elif report.code == 11:
-            changes = {"available": -report.amount, "held": report.amount}
-            self.move(event, report.to, "held", report.amount, **changes)
+            self.move(event, report.to, "held", report.amount, Parts(available=-report.amount, held=report.amount))
         elif report.code == 10:
-            self.move(event, report.to, "open debit", report.amount)
+            self.move(event, report.to, "open debit", report.amount, Parts())
         if report.code in CUT_REPORTS:
             self.last_cut[report.to] = report.code
 
-    def ending(self, event, order):
+    def ending(self, event: Event, order: Order) -> None:
         """A wait that ended without a settlement frees the cover; a settlement is the accepted yes' own step."""
-        term = {3: "refused", 4: "expired"}.get(order.code)
-        if term:
-            changes = {"available": order.amount, "reserved": -order.amount}
-            self.move(event, order.payer, term, order.amount, **changes, order=order.number, other=order.payee)
+        if order.code in (3, 4):
+            term, freed = "refused" if order.code == 3 else "expired", Parts(available=order.amount, reserved=-order.amount)
+            self.move(event, order.payer, term, order.amount, freed, order.number, order.payee)
 
-    def own_step(self, event):
+    def own_step(self, event: Event) -> None:
         kind, sender, amount = event.ticket["kind"], event.sender, event.ticket["amount"]
         if kind == 1:
-            self.move(event, sender, "cover-ins", amount, available=amount)
+            self.move(event, sender, "cover-ins", amount, Parts(available=amount))
         elif kind == 2:
-            self.move(event, sender, "cover-outs", amount, available=-amount)
+            self.move(event, sender, "cover-outs", amount, Parts(available=-amount))
         elif kind == 3:
             self.ordered(event)
         elif event.is_yes():
@@ -211,40 +232,39 @@ class Reader:
         elif kind == 10:
             self.confirmed(event)
 
-    def ordered(self, event):
+    def ordered(self, event: Event) -> None:
         told = event.first(1)
         txid, amount = event.ticket["txid"], event.ticket["amount"]
-        order = Order(event.order, event, text_of(txid), event.sender, told.to if told else None, amount, events=[event])
-        self.orders.append(order)
-        self.by_txid.setdefault(txid, order.number)
-        changes = {"available": -amount, "reserved": amount}
-        self.move(event, order.payer, "reserved", amount, **changes, order=order.number, other=order.payee)
+        number, payee = len(self.orders), told.to if told else None
+        self.orders.append(Order(number, event, text_of(txid), event.sender, payee, amount, events=[event]))
+        self.by_txid.setdefault(txid, number)
+        self.move(event, event.sender, "reserved", amount, Parts(available=-amount, reserved=amount), number, payee)
 
-    def settled(self, event):
+    def settled(self, event: Event) -> None:
         """From the one to whom the first report 2 goes, to the ticket's sender."""
         told = event.first(2)
         if told:
-            about = {"order": told.order}
-            self.move(event, told.to, "orders settled from it", told.amount, reserved=-told.amount, **about, other=event.sender)
-            self.move(event, event.sender, "orders settled to it", told.amount, available=told.amount, **about, other=told.to)
+            paid, got, sender = Parts(reserved=-told.amount), Parts(available=told.amount), event.sender
+            self.move(event, told.to, "orders settled from it", told.amount, paid, told.order, sender)
+            self.move(event, sender, "orders settled to it", told.amount, got, told.order, told.to)
 
-    def returned(self, event):
+    def returned(self, event: Event) -> None:
         """By its sender, to the one to whom its report 6 goes, with its own amount."""
         told, amount = event.first(6), event.ticket["amount"]
-        payer, about = (told.to, {"order": told.order}) if told else (None, {})
-        self.move(event, event.sender, "returns by it", amount, available=-amount, **about, other=payer)
-        self.move(event, payer, "returns to it", amount, available=amount, **about, other=event.sender)
+        payer, order = (told.to, told.order) if told else (None, None)
+        self.move(event, event.sender, "returns by it", amount, Parts(available=-amount), order, payer)
+        self.move(event, payer, "returns to it", amount, Parts(available=amount), order, event.sender)
 
-    def confirmed(self, event):
+    def confirmed(self, event: Event) -> None:
         """A debit if the last report 10 or 11 to the sender was 10, a credit if 11."""
-        amount, cut = event.ticket["amount"], self.last_cut.get(event.sender)
+        amount, cut = event.ticket["amount"], None if event.sender is None else self.last_cut.get(event.sender)
         if cut == 10:
-            self.move(event, event.sender, "confirmed debits", amount, available=amount)
+            self.move(event, event.sender, "confirmed debits", amount, Parts(available=amount))
         elif cut == 11:
-            self.move(event, event.sender, "confirmed credits", amount, held=-amount)
+            self.move(event, event.sender, "confirmed credits", amount, Parts(held=-amount))
 
 
-def read(name, file, text):
+def read(name: str, file: bytes, text: str) -> Day:
     """The day of a file's bytes and the text that the program printed of it."""
     out = output.read(text)
     problems = list(out.problems)
@@ -263,7 +283,7 @@ def read(name, file, text):
     return day
 
 
-def answered(day, tickets, answers):
+def answered(day: Day, tickets: int, answers: int) -> None:
     """Each ticket has an answer, each participant a closing position."""
     if answers != tickets:
         day.problems.append(f"the day file has {counted(tickets, 'ticket')}, and the output answers {answers}")

@@ -12,31 +12,32 @@ MOST = 8192  # the program ends at a longer ticket or buffer
 A_LENGTH = partial(text.number, most=MOST)
 
 
-def number(value):
+def number(value: int) -> bytes:
     return value.to_bytes(4, "big")
 
 
-def read_buffer(cursor):
+def read_buffer(cursor: text.Cursor) -> tuple[bytes, bytes]:
     length = cursor.take("a length", A_LENGTH)
     fill = cursor.take("the byte that it is filled with", partial(text.number, most=255))
     cursor.finish()
     return number(length), bytes([fill])
 
 
-def read_length(cursor):
+def read_length(cursor: text.Cursor) -> int:
     length = cursor.take("a length", A_LENGTH)
     cursor.finish()
     return length
 
 
-class Case(many.Named):
+class Case:
     """A day's line and the lines below it. Its tickets are inputs and no part of the day file."""
 
-    def __init__(self, line):
-        super().__init__(line)
-        self.buffer, self.length, self.inputs = (number(6528), b"\0"), layout.length(layout.TICKET), []
+    def __init__(self, line: text.Line) -> None:
+        self.named = many.Named(line)
+        self.buffer, self.length = (number(6528), b"\0"), layout.length(layout.TICKET)
+        self.inputs: list[bytes] = []
 
-    def add(self, line):
+    def add(self, line: text.Line) -> None:
         cursor, word = text.Cursor(line), line.words[0].text
         try:
             if word in ("buffer", "length"):
@@ -45,32 +46,33 @@ class Case(many.Named):
             elif word == "raw" or word[0] in "0123456789":
                 self.add_ticket(line)
             else:
-                self.day.add(line)
+                self.named.day.add(line)
         except text.Mistake as mistake:
-            self.day.mistakes.append(mistake)
+            self.named.day.mistakes.append(mistake)
 
-    def set(self, word, cursor):
+    def set(self, word: str, cursor: text.Cursor) -> None:
         if word == "buffer":
             self.buffer = read_buffer(cursor)
         else:
             self.length = read_length(cursor)
 
-    def add_ticket(self, line):
+    def add_ticket(self, line: text.Line) -> None:
         alone = packing.Day()
         alone.add(line)
-        self.day.mistakes += alone.mistakes
-        for row in alone.read["ticket"]:
+        self.named.day.mistakes += alone.mistakes
+        for row in alone.rows["ticket"]:
             ticket = layout.write(layout.TICKET, row)[: self.length].ljust(self.length, b"\0")
             self.inputs.append(b"".join((number(self.length), *self.buffer, ticket)))
 
-    def packed(self):
-        name, file = super().packed()
+    def packed(self) -> bytes:
+        name, file = self.named.packed()
         return b"".join((number(len(name)), number(len(file)), number(len(self.inputs)), name, file, *self.inputs))
 
 
-def pack(name, cases_text):
+def pack(name: str, cases_text: str) -> bytes:
     """The bytes of the cases that the text has. TextError says what is wrong with it, with the name given."""
-    cases, mistakes = [], []
+    cases: list[Case] = []
+    mistakes: list[text.Mistake] = []
     for line in over(text.lines(cases_text), f"lines of {name}"):
         if line.words[0].text == "day":
             cases.append(Case(line))
@@ -79,7 +81,7 @@ def pack(name, cases_text):
         elif not mistakes:
             mistakes.append(text.Cursor(line).expected("a line `day NAME` before all others"))
     data = b"".join([case.packed() for case in cases])
-    mistakes += [mistake for case in cases for mistake in case.day.mistakes]
+    mistakes += [mistake for case in cases for mistake in case.named.day.mistakes]
     if mistakes:
         raise text.TextError(name, mistakes)
     return data

@@ -2,18 +2,61 @@
 
 A row is a dict from field names to values: an int for a number, bytes for a text field, its trailing zero bytes left off."""
 
-from typing import NamedTuple
+from collections.abc import Mapping, Sequence
+from typing import NamedTuple, TypedDict, cast
+
+Value = int | bytes
 
 
 class Field(NamedTuple):
+    """A field of a row: its place, its size in bytes, and whether it is a text or a number."""
+
     name: str
     at: int
     size: int
     is_text: bool = False
 
-    def most(self):
+    def most(self) -> int:
         """The largest number that the field can hold."""
-        return 256**self.size - 1
+        return (1 << 8 * self.size) - 1
+
+
+Fields = Sequence[Field]
+Header = dict[str, int]
+
+
+class ParticipantRow(TypedDict):
+    """A participant's row."""
+
+    bic: bytes
+    kind: int
+    opening: int
+    wish: int
+    spare: int
+
+
+class RouteRow(TypedDict):
+    """A route's row."""
+
+    bic: bytes
+    kind: int
+    k: int
+    spare: int
+
+
+class TicketRow(TypedDict):
+    """A ticket."""
+
+    kind: int
+    flag: int
+    spare: int
+    time: int
+    amount: int
+    sender: bytes
+    payee: bytes
+    txid: bytes
+    iban: bytes
+    last: int
 
 
 HEADER = (
@@ -51,49 +94,75 @@ TICKET = (
 )
 
 
-def length(fields):
+def length(fields: Fields) -> int:
     return sum(field.size for field in fields)
 
 
-def read(fields, row):
+def read(fields: Fields, row: bytes) -> dict[str, Value]:
     """The values of a row's bytes."""
     parts = ((field, row[field.at : field.at + field.size]) for field in fields)
     return {f.name: part.rstrip(b"\0") if f.is_text else int.from_bytes(part, "big") for f, part in parts}
 
 
-def write(fields, values):
+def write(fields: Fields, values: Mapping[str, object]) -> bytes:
     """The bytes of a row; a field that isn't named is zero. Every value has to fit its field."""
     row = b""
     for field in fields:
-        value = values.get(field.name, b"" if field.is_text else 0)
-        row += value.ljust(field.size, b"\0") if field.is_text else value.to_bytes(field.size, "big")
+        row += encoded(field, values.get(field.name, b"" if field.is_text else 0))
         assert len(row) == field.at + field.size, field.name
     return row
+
+
+def encoded(field: Field, value: object) -> bytes:
+    if field.is_text:
+        assert isinstance(value, bytes), field.name
+        return value.ljust(field.size, b"\0")
+    assert isinstance(value, int), field.name
+    return value.to_bytes(field.size, "big")
+
+
+def header_in(file: bytes) -> Header:
+    """The header's numbers."""
+    return {field.name: int.from_bytes(file[field.at : field.at + field.size], "big") for field in HEADER}
+
+
+def ticket_in(row: bytes) -> TicketRow:
+    return cast(TicketRow, read(TICKET, row))
 
 
 class Sections(NamedTuple):
     """A file taken apart: as many whole rows as its header counts and its bytes hold, and the bytes behind them."""
 
-    header: dict
-    participants: list
-    routes: list
-    tickets: list
+    header: Header
+    participants: list[ParticipantRow]
+    routes: list[RouteRow]
+    tickets: list[TicketRow]
     rest: bytes
 
 
-def sections(file):
+def sections(file: bytes) -> Sections:
     """The sections of a file of 12 bytes or more, each behind the one before, whatever the header's offsets are."""
-    header = read(HEADER, file)
-    at, rows = length(HEADER), []
-    for name, fields in (("participants", PARTICIPANT), ("routes", ROUTE), ("tickets", TICKET)):
-        size = length(fields)
-        count = min(header[name], (len(file) - at) // size)
-        rows.append([read(fields, file[at + i * size : at + (i + 1) * size]) for i in range(count)])
-        at += count * size
-    return Sections(header, *rows, file[at:])
+    header, rest = header_in(file), file[length(HEADER) :]
+    participants, rest = rows_in(PARTICIPANT, header["participants"], rest)
+    routes, rest = rows_in(ROUTE, header["routes"], rest)
+    tickets, rest = rows_in(TICKET, header["tickets"], rest)
+    return Sections(
+        header,
+        cast("list[ParticipantRow]", participants),
+        cast("list[RouteRow]", routes),
+        cast("list[TicketRow]", tickets),
+        rest,
+    )
 
 
-def header_of(participants, routes, tickets):
+def rows_in(fields: Fields, most: int, data: bytes) -> tuple[list[dict[str, Value]], bytes]:
+    """The whole rows that the bytes begin with, at most so many, and the bytes behind them."""
+    size = length(fields)
+    count = min(most, len(data) // size)
+    return [read(fields, data[i * size : (i + 1) * size]) for i in range(count)], data[count * size :]
+
+
+def header_of(participants: int, routes: int, tickets: int) -> Header:
     """The header that the layout gives for so many rows: sections follow with no gap. An offset may not fit two bytes."""
     routes_at = length(HEADER) + participants * length(PARTICIPANT)
     return {

@@ -2,33 +2,38 @@
 
 Each day has the lengths of its name and of its bytes, 4 bytes each, then the name, then the bytes."""
 
+from collections.abc import Iterable
+
 from . import packing, text, unpacking
 from .progress import over
 
 MOST_NAME = 256
 MOST_DAY = 57101  # the program ends at a longer name or day
 
+NamedDay = tuple[bytes, bytes]  # a name, and the bytes of the day file
+
 
 class NotMany(Exception):
     """The bytes aren't those of many days."""
 
 
-def part(data, at, size, what):
+def part(data: bytes, at: int, size: int, what: str) -> bytes:
     if at + size > len(data):
         raise NotMany(f"cut off: {what} at byte {at} has {len(data) - at} bytes of {size}")
     return data[at : at + size]
 
 
-def length(data, at, most, what):
+def length(data: bytes, at: int, most: int, what: str) -> int:
     value = int.from_bytes(part(data, at, 4, f"the length of {what}"), "big")
     if value > most:
         raise NotMany(f"not many days: the length at byte {at} gives {what} {value} bytes, above {most}")
     return value
 
 
-def split(data):
+def split(data: bytes) -> list[NamedDay]:
     """The names and bytes of the days."""
-    days, at = [], 0
+    days: list[NamedDay] = []
+    at = 0
     while at < len(data):
         count = len(days)
         named = length(data, at, MOST_NAME, f"the name of day {count}")
@@ -39,11 +44,11 @@ def split(data):
     return days
 
 
-def join(days):
+def join(days: Iterable[NamedDay]) -> bytes:
     return b"".join(len(name).to_bytes(4, "big") + len(day).to_bytes(4, "big") + name + day for name, day in days)
 
 
-def name_words(name):
+def name_words(name: bytes) -> str:
     """A name as its line has it: in hex unless it is printable words with one space between, none of them beginning with #."""
     try:
         written = name.decode()
@@ -54,7 +59,7 @@ def name_words(name):
     return written if plain and not written.startswith("hex:") else f"hex:{name.hex()}"
 
 
-def read_name(cursor):
+def read_name(cursor: text.Cursor) -> bytes:
     if (cursor.next() or "").startswith("hex:"):
         name = cursor.take("", text.hex_literal)
         cursor.finish()
@@ -70,7 +75,7 @@ def read_name(cursor):
 class Named:
     """A day's line and the lines below it."""
 
-    def __init__(self, line):
+    def __init__(self, line: text.Line) -> None:
         self.line, self.name = line, b""
         self.day = packing.Day(line.number, line.end())
         cursor = text.Cursor(line)
@@ -80,7 +85,7 @@ class Named:
         except text.Mistake as mistake:
             self.day.mistakes.append(mistake)
 
-    def packed(self):
+    def packed(self) -> NamedDay:
         file = self.day.packed()
         if len(file) > MOST_DAY:
             message = f"the day has {len(file)} bytes, and the program days reads at most {MOST_DAY}"
@@ -88,9 +93,10 @@ class Named:
         return self.name, file
 
 
-def pack(name, days_text):
+def pack(name: str, days_text: str) -> bytes:
     """The bytes of the days that the text has. TextError says what is wrong with it, with the name given."""
-    days, mistakes = [], []
+    days: list[Named] = []
+    mistakes: list[text.Mistake] = []
     for line in over(text.lines(days_text), f"lines of {name}"):
         if line.words[0].text == "day":
             days.append(Named(line))
@@ -105,10 +111,9 @@ def pack(name, days_text):
     return data
 
 
-def unpack(data):
+def unpack(data: bytes) -> str:
     """The text of the days. It is packed again and compared before it is handed out."""
-    days = over(split(data), "days")
-    unpacked = "\n".join(f"day {name_words(name)}\n{unpacking.text_of(day)}" for name, day in days)
+    unpacked = "\n".join(f"day {name_words(name)}\n{unpacking.text_of(day)}" for name, day in over(split(data), "days"))
     if pack("the text", unpacked) != data:
         raise RuntimeError("internal error: packing the text doesn't give the days")
     return unpacked

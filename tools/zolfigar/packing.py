@@ -1,7 +1,8 @@
 """Text to a day file. docs/DAYS.md has the text form."""
 
+from collections.abc import Callable, Iterable, Mapping, Sequence
 from functools import partial
-from typing import Callable, NamedTuple
+from typing import NamedTuple, TypeVar
 
 from . import layout, text, words
 from .progress import over
@@ -12,26 +13,6 @@ KIND_NUMBERS = {word: number for number, word in words.KINDS.items()}
 AMOUNT_READERS = {"EUR": ("euros like 4.00", text.euros), "cents": ("cents like 400", text.cents)}
 
 
-class Item(NamedTuple):
-    """A part of a line that a word begins: the fields that it gives, its name in a message, how the words behind it are read."""
-
-    fields: tuple
-    phrase: str
-    read: Callable
-
-
-class Form(NamedTuple):
-    """A line's parts: the field that comes first, if any, its name and reader, then items by their words, in any order."""
-
-    fields: dict
-    first: str
-    phrase: str
-    read: Callable
-    items: dict
-    needed: tuple
-    never_first: frozenset
-
-
 class Reference(NamedTuple):
     """The row with a BIC, a participant's or a route's."""
 
@@ -40,15 +21,41 @@ class Reference(NamedTuple):
     mistake: text.Mistake
 
 
-def one_of(choices):
+T = TypeVar("T")
+Given = int | bytes | Reference  # a field's value; a reference until all rows are read
+Row = dict[str, Given]
+Reader = Callable[[text.Cursor], Row]
+
+
+class Item(NamedTuple):
+    """A part of a line that a word begins: the fields that it gives, its name in a message, how the words behind it are read."""
+
+    fields: tuple[str, ...]
+    phrase: str
+    read: Reader
+
+
+class Form(NamedTuple):
+    """A line's parts: the field that comes first, if any, its name and reader, then items by their words, in any order."""
+
+    fields: dict[str, layout.Field]
+    first: str
+    phrase: str
+    read: Callable[[str], bytes]
+    items: dict[str, Item]
+    needed: tuple[str, ...]
+    never_first: frozenset[str]
+
+
+def one_of(choices: Sequence[str]) -> str:
     """How one of some words is asked for."""
     return " or ".join(filter(None, (", ".join(choices[:-1]), choices[-1])))
 
 
-def chosen(table, what):
+def chosen(table: Mapping[str, T], what: str) -> Callable[[str], T]:
     """A reader for one of the table's words."""
 
-    def read(word):
+    def read(word: str) -> T:
         if word not in table:
             raise text.expected(what, word)
         return table[word]
@@ -56,30 +63,31 @@ def chosen(table, what):
     return read
 
 
-def by_name(fields):
+def by_name(fields: layout.Fields) -> dict[str, layout.Field]:
     return {field.name: field for field in fields}
 
 
-def fixed(**values):
+def fixed(**values: Given) -> Reader:
     return lambda cursor: values
 
 
-def valued(field, what, read):
+def valued(field: str, what: str, read: Callable[[str], Given]) -> Reader:
     return lambda cursor: {field: cursor.take(what, read)}
 
 
-def opening(cursor):
-    if cursor.next() not in AMOUNT_READERS:
+def opening(cursor: text.Cursor) -> Row:
+    word = cursor.next()
+    if word not in AMOUNT_READERS:
         raise cursor.expected(text.AN_AMOUNT)
-    what, read = AMOUNT_READERS[cursor.next()]
+    what, read = AMOUNT_READERS[word]
     cursor.skip()
     return {"opening": cursor.take(what, read), "wish": 1}
 
 
-def leading(kind, place, a_row):
+def leading(kind: int, place: str, a_row: str) -> Reader:
     """A reader for where a route leads: a row's number or its BIC."""
 
-    def row(word):
+    def row(word: str) -> int | bytes:
         if text.DIGITS.fullmatch(word):
             return text.number(word, 65535)
         bic = text.filled(word)
@@ -87,7 +95,7 @@ def leading(kind, place, a_row):
             raise text.Wrong(f"expected a BIC or the number of a {a_row}, found {text.quoted(word)}; a BIC is {text.A_BIC}")
         return bic
 
-    def read(cursor):
+    def read(cursor: text.Cursor) -> Row:
         missing = cursor.mistake(f"no {a_row} has the BIC {text.quoted(cursor.next())}; a number may stand here instead")
         k = cursor.take(f"a BIC or the number of a {a_row}", row)
         return {"kind": kind, "k": k if isinstance(k, int) else Reference(place, k, missing)}
@@ -95,7 +103,7 @@ def leading(kind, place, a_row):
     return read
 
 
-def bic_form(fields, items, needed):
+def bic_form(fields: layout.Fields, items: dict[str, Item], needed: tuple[str, ...]) -> Form:
     read = partial(text.bic, field="bic")
     return Form(by_name(fields), "bic", "a BIC", read, items, needed, frozenset((*items, "but")))
 
@@ -124,19 +132,21 @@ TICKET_ITEMS = {
 }
 
 
-def ticket_form(kind):
+def ticket_form(kind: int) -> Form:
     listed, flags = words.LISTED[kind], words.FLAGS.get(kind, {})
     phrase = one_of(list(flags.values())) if flags else ""
     items = {word: Item(("flag",), phrase, fixed(flag=flag)) for flag, word in flags.items()}
     items |= {word: item for word, item in TICKET_ITEMS.items() if item.fields[0] in listed}
     first = "txid" if "txid" in listed else ""
-    return Form(by_name(layout.TICKET), first, "a TxId", text.txid, items, listed, frozenset((*FIELD_WORDS, *flags.values())))
+    return Form(
+        by_name(layout.TICKET), first, "a TxId", text.txid, items, listed, frozenset((*FIELD_WORDS, *flags.values()))
+    )
 
 
 TICKETS = {kind: ticket_form(kind) for kind in words.KINDS}
 
 
-def asked_for(form, row):
+def asked_for(form: Form, row: Row) -> str:
     """What may come next in a line that has given the row so far."""
     phrases = list(dict.fromkeys(item.phrase for item in form.items.values() if not set(item.fields) <= set(row)))
     if all(field in row for field in form.needed if field != form.first):
@@ -144,13 +154,14 @@ def asked_for(form, row):
     return ", or ".join(filter(None, (", ".join(phrases[:-1]), phrases[-1])))
 
 
-def read_row(cursor, form):
+def read_row(cursor: text.Cursor, form: Form) -> Row:
     """The fields of a row, those behind `but` in place of the others."""
-    row, first = {}, cursor.at
+    row: Row = {}
+    first = cursor.at
     if form.first and cursor.next() is not None and cursor.next() not in form.never_first:
         row[form.first] = cursor.take(form.phrase, form.read)
-    while cursor.next() not in ("but", None):
-        item = form.items.get(cursor.next())
+    while (word := cursor.next()) is not None and word != "but":
+        item = form.items.get(word)
         if item is None or item.fields[0] in row:
             raise cursor.expected(asked_for(form, row), f": {item.fields[0]} is given already" if item else "")
         cursor.skip()
@@ -164,17 +175,19 @@ def read_row(cursor, form):
     return row | overridden
 
 
-def lacking(cursor, form, missing, row):
+def lacking(cursor: text.Cursor, form: Form, missing: Sequence[str], row: Row) -> text.Mistake:
     """The mistake of a line that doesn't give all that it has to."""
     if form.first not in missing:
         return cursor.expected(asked_for(form, row))
     spelled = form.first == "txid" and cursor.next() is not None
-    return cursor.expected(form.phrase, f"; a TxId of these letters is written `but txid {cursor.next()}`" if spelled else "")
+    return cursor.expected(
+        form.phrase, f"; a TxId of these letters is written `but txid {cursor.next()}`" if spelled else ""
+    )
 
 
-def overrides(cursor, fields):
+def overrides(cursor: text.Cursor, fields: Mapping[str, layout.Field]) -> Row:
     """The fields behind `but`."""
-    values = {}
+    values: Row = {}
     if cursor.next() is None:
         return values
     cursor.skip()
@@ -183,12 +196,18 @@ def overrides(cursor, fields):
         if cursor.next() in values:
             raise cursor.mistake(f"{cursor.next()} is given twice behind `but`")
         field = cursor.take(what, chosen(fields, what))
-        read = partial(text.literal, size=field.size) if field.is_text else partial(text.number, most=field.most())
-        values[field.name] = cursor.take(f"a value for {field.name}", read)
+        values[field.name] = cursor.take(f"a value for {field.name}", literal_of(field))
     return values
 
 
-def read_header(cursor):
+def literal_of(field: layout.Field) -> Callable[[str], Given]:
+    """How a field's value behind `but` is read."""
+    if field.is_text:
+        return partial(text.literal, size=field.size)
+    return partial(text.number, most=field.most())
+
+
+def read_header(cursor: text.Cursor) -> tuple[str, int]:
     fields = by_name(layout.HEADER)
     what = one_of(list(fields))
     field = cursor.take(what, chosen(fields, what))
@@ -197,73 +216,80 @@ def read_header(cursor):
     return field.name, value
 
 
-def read_raw(cursor):
+def read_raw(cursor: text.Cursor) -> Row:
     value, size = text.hex_bytes(cursor), layout.length(layout.TICKET)
     if len(value) != size:
         raise cursor.mistake(f"expected {2 * size} hex digits, found {2 * len(value)}")
-    return layout.read(layout.TICKET, value)
+    return {**layout.read(layout.TICKET, value)}
 
 
-def read_ticket(cursor):
+def read_ticket(cursor: text.Cursor) -> Row:
     time = cursor.take(text.A_TIME, text.time)
     what = "a kind of ticket: " + one_of(list(KIND_NUMBERS))
     kind = cursor.take(what, chosen(KIND_NUMBERS, what))
-    return {"time": time, "kind": kind} | read_row(cursor, TICKETS[kind])
+    return {"time": time, "kind": kind, **read_row(cursor, TICKETS[kind])}
 
 
-# The first word of a line: its place in the order, and how the words behind it are read.
-BEGINNINGS = {
-    "header": ("header", read_header),
-    "participant": ("participant", partial(read_row, form=PARTICIPANT)),
-    "route": ("route", partial(read_row, form=ROUTE)),
-    "raw": ("ticket", read_raw),
-    "bytes": ("bytes", text.hex_bytes),
+# The first word of a line and its place in the order; any other line is a ticket, and begins with its time.
+BEGINNINGS = {"header": "header", "participant": "participant", "route": "route", "raw": "ticket", "bytes": "bytes"}
+# How the words of a row's line are read, behind the first word.
+ROW_READERS: dict[str, Reader] = {
+    "participant": partial(read_row, form=PARTICIPANT),
+    "route": partial(read_row, form=ROUTE),
+    "raw": read_raw,
 }
 
 
 class Day:
     """The lines of a text, read one after the other."""
 
-    def __init__(self, line=1, column=1):
-        self.read = {place: [] for place in ORDER}
-        self.begun = {}  # the number of the first line of each place
+    def __init__(self, line: int = 1, column: int = 1) -> None:
+        self.given: layout.Header = {}  # what header lines give
+        self.rows: dict[str, list[Row]] = {"participant": [], "route": [], "ticket": []}
+        self.rest = b""  # the bytes behind the rows
+        self.begun: dict[str, int] = {}  # the number of the first line of each place
         self.last = (line, column)  # behind the last line read
         self.rows_known = True  # no line before the tickets is wrong
-        self.mistakes = []
+        self.mistakes: list[text.Mistake] = []
 
-    def add(self, line):
+    def add(self, line: text.Line) -> None:
         try:
-            place, value = self.line(text.Cursor(line))
-            self.read[place].append(value)
+            self.line(text.Cursor(line))
         except text.Mistake as mistake:
             self.mistakes.append(mistake)
             self.rows_known = self.rows_known and "ticket" in self.begun
         self.last = (line.number, line.end())
 
-    def line(self, cursor):
-        word = cursor.next()
-        if word in BEGINNINGS:
-            place, read = BEGINNINGS[word]
-        elif word[0] in "0123456789":
-            place, read = "ticket", read_ticket
-        else:
+    def line(self, cursor: text.Cursor) -> None:
+        word = cursor.line.words[0].text
+        if word not in BEGINNINGS and word[0] not in "0123456789":
             note = "; many days in one text need --many" if word == "day" else ""
             raise cursor.expected(f"{', '.join(BEGINNINGS)}, or {text.A_TIME}", note)
+        place = BEGINNINGS.get(word, "ticket")
         self.in_order(cursor, place)
         if word in BEGINNINGS:
             cursor.skip()
-        if place == "header" and cursor.next() in dict(self.read["header"]):
-            raise cursor.mistake(f"header {cursor.next()} is given twice")
-        return place, read(cursor)
+        if place == "header":
+            self.header_line(cursor)
+        elif place == "bytes":
+            self.rest += text.hex_bytes(cursor)
+        else:
+            self.rows[place].append(ROW_READERS.get(word, read_ticket)(cursor))
 
-    def in_order(self, cursor, place):
+    def header_line(self, cursor: text.Cursor) -> None:
+        if cursor.next() in self.given:
+            raise cursor.mistake(f"header {cursor.next()} is given twice")
+        name, value = read_header(cursor)
+        self.given[name] = value
+
+    def in_order(self, cursor: text.Cursor, place: str) -> None:
         self.begun.setdefault(place, cursor.line.number)
         before = [p for p in ORDER[ORDER.index(place) + 1 :] if p in self.begun]
         if before:
             found = f"a {before[0]} line came before, line {self.begun[before[0]]}"
             raise cursor.mistake(f"this {place} line comes too late: {found}; the order is {', '.join(ORDER)}")
 
-    def packed(self):
+    def packed(self) -> bytes:
         """The file's bytes; none where there is a mistake."""
         if not self.begun and not self.mistakes:
             self.wrong("expected a line of a day, found none; `bytes` alone is an empty file")
@@ -273,26 +299,26 @@ class Day:
         if self.mistakes:
             return b""
         written = ((layout.PARTICIPANT, "participant"), (layout.ROUTE, "route"), (layout.TICKET, "ticket"))
-        rows = [layout.write(fields, row) for fields, place in written for row in self.read[place]]
-        return b"".join([head, *rows, *self.read["bytes"]])
+        rows = [layout.write(fields, row) for fields, place in written for row in self.rows[place]]
+        return b"".join([head, *rows, self.rest])
 
-    def wrong(self, message):
+    def wrong(self, message: str) -> None:
         """A mistake that only the text as a whole shows."""
         self.mistakes.append(text.Mistake(*self.last, message))
 
-    def refer(self):
+    def refer(self) -> None:
         """Puts numbers for the BICs that routes lead to."""
-        numbers = {place: first_with(self.read[place]) for place in ("participant", "route")}
-        for row in self.read["route"]:
-            if isinstance(row["k"], Reference):
-                number = numbers[row["k"].place].get(row["k"].bic)
+        numbers = {place: first_with([row["bic"] for row in self.rows[place]]) for place in ("participant", "route")}
+        for row in self.rows["route"]:
+            if isinstance(reference := row["k"], Reference):
+                number = numbers[reference.place].get(reference.bic)
                 if number is None:
-                    self.mistakes.append(row["k"].mistake)
-                row["k"] = number
+                    self.mistakes.append(reference.mistake)
+                else:
+                    row["k"] = number
 
-    def header(self):
-        counts = [len(self.read[place]) for place in ("participant", "route", "ticket")]
-        values = layout.header_of(*counts) | dict(self.read["header"])
+    def header(self) -> bytes:
+        values = layout.header_of(*(len(rows) for rows in self.rows.values())) | self.given
         above = [field for field in layout.HEADER if values[field.name] > field.most()]
         if above:
             found = f"{above[0].name} would be {values[above[0].name]}, above {above[0].most()}"
@@ -301,15 +327,15 @@ class Day:
         return layout.write(layout.HEADER, values)
 
 
-def first_with(rows):
-    """The number of the first row with each BIC."""
-    numbers = {}
-    for number, row in enumerate(rows):
-        numbers.setdefault(row["bic"], number)
+def first_with(bics: Iterable[T]) -> dict[T, int]:
+    """The number of the first row with each BIC, from the BICs of all rows."""
+    numbers: dict[T, int] = {}
+    for number, bic in enumerate(bics):
+        numbers.setdefault(bic, number)
     return numbers
 
 
-def decoded(name, data):
+def decoded(name: str, data: bytes) -> str:
     """A file's text; TextError says where it isn't UTF-8."""
     try:
         return data.decode()
@@ -319,7 +345,7 @@ def decoded(name, data):
         raise text.TextError(name, [text.Mistake(line, column, f"not UTF-8: byte {data[error.start]:02x}")]) from None
 
 
-def pack(name, day_text):
+def pack(name: str, day_text: str) -> bytes:
     """The day file that the text stands for. TextError says what is wrong with it, with the name given."""
     day = Day()
     for line in over(text.lines(day_text), f"lines of {name}"):

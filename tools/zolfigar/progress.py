@@ -2,9 +2,13 @@
 
 import sys
 import time
+from collections.abc import Generator, Iterable
+from typing import TextIO, TypeVar
+
+T = TypeVar("T")
 
 
-def over(items, what, stream=None, total=None):
+def over(items: Iterable[T], what: str, stream: TextIO | None = None, total: int | None = None) -> Generator[T, None, None]:
     """The items one after the other, with a line that tells how many are done. The line is gone when they are. Where a total
     is given, the items are taken as they come."""
     stream = stream or sys.stderr
@@ -28,7 +32,7 @@ def over(items, what, stream=None, total=None):
         stream.flush()
 
 
-def show(words, stream=None):
+def show(words: str, stream: TextIO | None = None) -> None:
     """A line that the next one takes the place of; without words, none."""
     stream = stream or sys.stderr
     if stream.isatty():

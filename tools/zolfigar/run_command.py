@@ -4,8 +4,11 @@ import argparse
 import os
 import subprocess
 import sys
+from collections.abc import Iterable, Sequence
 
-from . import audit, explain_command, files, history, journal, packing, page, progress
+from . import audit, explain_command, files, history, journal, packing, page, progress, version
+from .explain_command import Followed
+from .history import Day
 
 USES = """examples:
   tools/run examples/busy.day
@@ -19,15 +22,16 @@ expected, 1 if not or if something can't be read, 2 for wrong usage."""
 ROOT = os.path.dirname(os.path.dirname(os.path.dirname(os.path.realpath(__file__))))
 
 
-def arguments(words):
+def arguments(words: Sequence[str]) -> Followed:
     form = argparse.RawDescriptionHelpFormatter
     parser = argparse.ArgumentParser("run", description=__doc__, epilog=USES, formatter_class=form)
+    version.told(parser)
     parser.add_argument("day", help="a day as text, in a file whose name ends in .day; any other file is taken as packed")
     explain_command.followed(parser)
-    return parser.parse_args(words)
+    return parser.parse_args(words, Followed())
 
 
-def program(root):
+def program(root: str) -> str:
     """The clearing program, proved and built: rt does what is not done yet."""
     built = os.path.join(root, "target", "bin", "clearing")
     if not os.path.exists(built):
@@ -38,13 +42,13 @@ def program(root):
     except OSError as error:
         raise files.Failed(f"can't run rt, the Rattle kit's command: {files.reason(error)}") from error
     with rt:
-        said = followed(rt.stdout)
+        said = followed(rt.stdout or ())
     if rt.returncode:
         raise files.Failed(f"rt check clearing failed:\n{said[-4000:]}")
     return built
 
 
-def followed(stream):
+def followed(stream: Iterable[str]) -> str:
     """All that rt says; on a terminal its last line on a crate is shown meanwhile."""
     said = []
     for line in stream:
@@ -55,21 +59,21 @@ def followed(stream):
     return "".join(said)
 
 
-def cleared(built, file):
+def cleared(built: str, file: bytes) -> bytes:
     """What the program prints of a day file."""
-    ran = subprocess.run([built], input=file, capture_output=True)
+    ran = subprocess.run([built], input=file, capture_output=True, check=False)
     if ran.returncode:
         raise files.Failed(f"the clearing program ended with status {ran.returncode}")
     return ran.stdout
 
 
-def packed(name):
+def packed(name: str) -> bytes:
     """The day file of a day's text; a name that doesn't end in .day is a day file already."""
     data = files.read(name)
     return packing.pack(name, packing.decoded(name, data)) if name.endswith(".day") else data
 
 
-def expected(name, output):
+def expected(name: str, output: bytes) -> str | None:
     """A sentence on the first line in which the output differs from the one expected, where there is one."""
     beside = os.path.splitext(name)[0] + ".out"
     if not os.path.exists(beside):
@@ -81,7 +85,7 @@ def expected(name, output):
     return None
 
 
-def kept(root, name, day, file, output):
+def kept(root: str, name: str, day: Day, file: bytes, output: bytes) -> str:
     """The day file, the output, the page and the journal under target/run/; their names without the ending."""
     folder = os.path.join(root, "target", "run")
     os.makedirs(folder, exist_ok=True)
@@ -93,7 +97,7 @@ def kept(root, name, day, file, output):
     return os.path.relpath(base)
 
 
-def run(words, root=ROOT):
+def run(words: Followed, root: str = ROOT) -> int:
     file = packed(words.day)
     output = cleared(program(root), file)
     name = os.path.splitext(os.path.basename(words.day))[0]
@@ -101,13 +105,15 @@ def run(words, root=ROOT):
     problems = audit.problems(day)
     explain_command.show(day, problems, words)
     base = kept(root, name, day, file, output)
-    sys.stdout.write(f"\nWritten: {base}.bin, .out, .html (open it in a browser), .journal (hledger -f {base}.journal balance)\n")
+    sys.stdout.write(
+        f"\nWritten: {base}.bin, .out, .html (open it in a browser), .journal (hledger -f {base}.journal balance)\n"
+    )
     differs = expected(words.day, output)
     if differs:
         raise files.Failed(differs)
     return 1 if problems else 0
 
 
-def main():
+def main() -> int:
     words = arguments(sys.argv[1:])
     return files.guarded("run", lambda: run(words))

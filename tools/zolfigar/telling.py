@@ -1,7 +1,10 @@
 """A day in sentences: what became of a ticket, what a report tells, what moved a cover, how an order ended."""
 
+from collections import Counter
+
 from .figures import counted, euro
-from .history import TERMS
+from .history import TERMS, Day, Event, Move, Order
+from .output import Report
 from .words import CUT_REPORTS, MEANING_BY_KIND, REFUSALS, REPORTS
 
 MOVES = {
@@ -23,23 +26,24 @@ MOVES = {
 STATUSES = {2: "settled", 3: "refused", 4: "expired", None: "waiting"}
 
 
-def short(bic):
+def short(bic: str) -> str:
     """A BIC as people write it: XXX, which names no branch, is left off."""
     return bic[:8] if len(bic) == 11 and bic.endswith("XXX") else bic
 
 
-def member(day, number):
+def member(day: Day, number: int | None) -> str:
     return short(day.bic(number))
 
 
-def refusal(number, kind=None):
+def refusal(number: int, kind: int | None = None) -> str:
     """A refusal with its code and meaning: 18 XT75: the order's status .."""
     code, meaning = REFUSALS.get(number, ("", "a number that the paper doesn't have"))
-    meaning = MEANING_BY_KIND.get((number, kind), meaning)
+    if kind is not None:
+        meaning = MEANING_BY_KIND.get((number, kind), meaning)
     return f"{number} {code}: {meaning}" if code else f"{number}: {meaning}"
 
 
-def outcome(event):
+def outcome(event: Event) -> str:
     """What became of a ticket."""
     if event.refusal:
         return f"turned back, {refusal(event.refusal, event.ticket['kind'])}"
@@ -48,50 +52,51 @@ def outcome(event):
     return "carried out"
 
 
-def order_name(day, number):
-    known = number is not None and number < len(day.orders)
-    return f"order {number} {day.orders[number].txid}" if known else f"order {number}"
+def order_name(day: Day, number: int | None) -> str:
+    if number is not None and number < len(day.orders):
+        return f"order {number} {day.orders[number].txid}"
+    return f"order {number}"
 
 
-def report(day, told):
+def report(day: Day, told: Report) -> str:
     """What a report tells, and to whom."""
     meaning = REPORTS.get(told.code, "a code that the paper doesn't have")
     about = "" if told.code in CUT_REPORTS else f"{order_name(day, told.order)}, "
     return f"to {member(day, told.to)}: {meaning} ({told.code}), {about}EUR {euro(told.amount)}"
 
 
-def move(day, entry):
+def move(day: Day, entry: Move) -> str:
     """What moved a cover: the order, what became of it, and the other party."""
     order = "" if entry.order is None else order_name(day, entry.order)
     return MOVES[entry.term].format(order=order, other=member(day, entry.other), amount=euro(entry.amount))
 
 
-def is_returned(order):
+def is_returned(order: Order) -> bool:
     return any(event.is_accepted(6) and event.order == order.number for event in order.events)
 
 
-def status(order):
+def status(order: Order) -> str:
     """How an order stands at the end of the day."""
     return "returned" if is_returned(order) else STATUSES.get(order.code, "waiting")
 
 
-def ended_after(order):
+def ended_after(order: Order) -> int | None:
     """The seconds from the order to its end, if it ended."""
     return None if order.ended is None else order.ended.time - order.time
 
 
-def summary(day):
+def summary(day: Day) -> str:
     """The day in one line."""
     turned = sum(event.refusal != 0 for event in day.events)
-    counts = {}
-    for order in day.orders:
-        counts[status(order)] = counts.get(status(order), 0) + 1
-    ways = ", ".join(f"{counts[way]} {way}" for way in ("settled", "returned", "refused", "expired", "waiting") if way in counts)
+    counts = Counter(status(order) for order in day.orders)
+    ways = ", ".join(
+        f"{counts[way]} {way}" for way in ("settled", "returned", "refused", "expired", "waiting") if way in counts
+    )
     tickets = f"{counted(len(day.events), 'ticket')}: {len(day.events) - turned} carried out, {turned} turned back"
     return f"{tickets}; {counted(len(day.orders), 'order')}{': ' + ways if ways else ''}"
 
 
-def equation(day, number):
+def equation(day: Day, number: int) -> tuple[list[tuple[str, int]], int]:
     """The cover equation of a participant: (term, amount with its sign) for each term that occurs, and the sum."""
     sums = day.sums(number)
     terms = [(term, sign * sums[term]) for term, sign in TERMS.items() if sums[term]]

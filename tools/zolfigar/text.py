@@ -1,9 +1,12 @@
 """A day's text: its lines, their words with columns, the values that words stand for, and what is wrong with them."""
 
 import re
-from typing import NamedTuple
+from collections.abc import Callable, Iterable, Iterator
+from typing import NamedTuple, TypeVar
 
 from . import files
+
+T = TypeVar("T")
 
 MOST_SHOWN = 10  # mistakes in one message
 MOST_QUOTED = 40  # characters of a word in a message
@@ -34,7 +37,7 @@ class Wrong(Exception):
 class Mistake(Exception):
     """What is wrong in a line, and in which column."""
 
-    def __init__(self, line, column, message):
+    def __init__(self, line: int, column: int, message: str) -> None:
         super().__init__(message)
         self.line, self.column, self.message = line, column, message
 
@@ -44,7 +47,7 @@ class TextError(files.Failed):
 
     begins_with_place = True
 
-    def __init__(self, name, mistakes):
+    def __init__(self, name: str, mistakes: Iterable[Mistake]) -> None:
         ordered = sorted(mistakes, key=lambda m: (m.line, m.column))
         shown = [f"{name}:{m.line}:{m.column}: {m.message}" for m in ordered[:MOST_SHOWN]]
         if len(ordered) > MOST_SHOWN:
@@ -53,27 +56,31 @@ class TextError(files.Failed):
 
 
 class Word(NamedTuple):
+    """A word, and the column that it begins in."""
+
     text: str
     column: int
 
 
 class Line(NamedTuple):
-    number: int
-    words: list
+    """The words of a line, counted from 1."""
 
-    def end(self):
+    number: int
+    words: list[Word]
+
+    def end(self) -> int:
         """The column behind the last word."""
         return self.words[-1].column + len(self.words[-1].text)
 
 
-def words_of(line):
+def words_of(line: str) -> Iterator[Word]:
     for match in WORD.finditer(line.removesuffix("\r")):
         if match.group().startswith("#"):
             return
         yield Word(match.group(), match.start() + 1)
 
 
-def lines(text):
+def lines(text: str) -> list[Line]:
     """The lines that have words, counted from 1."""
     numbered = enumerate(text.removeprefix("\ufeff").split("\n"), 1)
     parted = (Line(number, list(words_of(line))) for number, line in numbered)
@@ -83,75 +90,76 @@ def lines(text):
 class Cursor:
     """The words of a line, read from left to right."""
 
-    def __init__(self, line):
+    def __init__(self, line: Line) -> None:
         self.line, self.at = line, 0
 
-    def next(self):
+    def next(self) -> str | None:
         """The next word, None at the line's end."""
         return self.line.words[self.at].text if self.at < len(self.line.words) else None
 
-    def column(self):
+    def column(self) -> int:
         return self.line.words[self.at].column if self.at < len(self.line.words) else self.line.end()
 
-    def skip(self):
+    def skip(self) -> None:
         self.at += 1
 
-    def mistake(self, message):
+    def mistake(self, message: str) -> Mistake:
         return Mistake(self.line.number, self.column(), message)
 
-    def expected(self, what, note=""):
+    def expected(self, what: str, note: str = "") -> Mistake:
         return self.mistake(f"expected {what}, found {quoted(self.next())}{note}")
 
-    def take(self, what, read):
+    def take(self, what: str, read: Callable[[str], T]) -> T:
         """The value of the next word; what it should be is said if there is none."""
-        if self.next() is None:
+        word = self.next()
+        if word is None:
             raise self.expected(what)
         try:
-            value = read(self.next())
+            value = read(word)
         except Wrong as wrong:
             raise self.mistake(str(wrong)) from None
         self.skip()
         return value
 
-    def finish(self):
+    def finish(self) -> None:
         if self.next() is not None:
             raise self.expected("the line's end")
 
-    def rest(self):
+    def rest(self) -> list[Word]:
         """All words that are left."""
         words, self.at = self.line.words[self.at :], len(self.line.words)
         return words
 
 
-def quoted(word):
+def quoted(word: str | None) -> str:
     if word is None:
         return "the line's end"
     cut = word if len(word) <= MOST_QUOTED else word[:MOST_QUOTED] + ".."
     return '"' + "".join(c if c.isprintable() else c.encode("unicode_escape").decode() for c in cut) + '"'
 
 
-def expected(what, word):
+def expected(what: str, word: str) -> Wrong:
     return Wrong(f"expected {what}, found {quoted(word)}")
 
 
-def whole(digits, most):
+def whole(digits: str, most: int) -> int | None:
     """The number that the digits are, None above the most."""
     digits = digits.lstrip("0") or "0"
     return int(digits) if len(digits) <= len(str(most)) and int(digits) <= most else None
 
 
-def number(word, most):
+def number(word: str, most: int) -> int:
     value = whole(word, most) if DIGITS.fullmatch(word) else None
     if value is None:
         raise expected(f"a number from 0 to {most}", word)
     return value
 
 
-def time(word):
+def time(word: str) -> int:
     clock = CLOCK.fullmatch(word)
     if clock:
-        hours, minutes, seconds = (whole(part, MOST_TIME) for part in clock.groups())
-        value = None if hours is None else hours * 3600 + minutes * 60 + seconds
+        hours = whole(clock[1], MOST_TIME)
+        value = None if hours is None else hours * 3600 + int(clock[2]) * 60 + int(clock[3])
     elif DIGITS.fullmatch(word):
         value = whole(word, MOST_TIME)
     else:
@@ -161,49 +169,49 @@ def time(word):
     return value
 
 
-def cents(word):
+def cents(word: str) -> int:
     if not DIGITS.fullmatch(word):
         raise expected("whole cents like 400", word)
     return fitting(whole(word, MOST_CENTS), word)
 
 
-def euros(word):
+def euros(word: str) -> int:
     parts = EUROS.fullmatch(word)
     if not parts:
         raise expected("euros with two decimals like 4.00", word)
     return fitting(whole("".join(parts.groups()), MOST_CENTS), word)
 
 
-def fitting(value, word):
+def fitting(value: int | None, word: str) -> int:
     if value is None:
         raise expected(f"at most {MOST_CENTS} cents", word)
     return value
 
 
-def filled(word):
+def filled(word: str) -> bytes | None:
     """The eleven bytes of a BIC, None if it isn't one."""
     return word.ljust(11, "X").encode() if BIC.fullmatch(word) else None
 
 
-def bic(word, field):
+def bic(word: str, field: str) -> bytes:
     value = filled(word)
     if value is None:
         raise Wrong(f"expected a BIC, found {quoted(word)}; a BIC is {A_BIC}; `but {field} ..` writes one that is wrong")
     return value
 
 
-def txid(word):
+def txid(word: str) -> bytes:
     if not TXID.fullmatch(word):
         raise Wrong(f"expected a TxId, found {quoted(word)}; a TxId is {A_TXID}; `but txid ..` writes one that is wrong")
     return word.encode()
 
 
-def remainder(word):
+def remainder(word: str) -> int:
     """What the number of an IBAN leaves on division by 97."""
     return int("".join(str(int(c, 36)) for c in word[4:] + word[:4])) % 97
 
 
-def iban(word):
+def iban(word: str) -> bytes:
     if not IBAN.fullmatch(word):
         raise Wrong(f"expected an IBAN, found {quoted(word)}; an IBAN is {AN_IBAN}; `but iban ..` writes one that is wrong")
     if remainder(word) != 1:
@@ -212,7 +220,7 @@ def iban(word):
     return word.encode()
 
 
-def literal(word, size):
+def literal(word: str, size: int) -> bytes:
     """The bytes of a text field: as they are, in hex, or none."""
     if word == "empty":
         return b""
@@ -227,14 +235,14 @@ def literal(word, size):
     return value
 
 
-def hex_literal(word):
+def hex_literal(word: str) -> bytes:
     digits = word.removeprefix("hex:")
     if len(digits) % 2 or NO_HEX.search(digits):
         raise expected("hex: and two hex digits for each byte", word)
     return bytes.fromhex(digits)
 
 
-def hex_bytes(cursor):
+def hex_bytes(cursor: Cursor) -> bytes:
     """The bytes that all words left of the line give in hex, white space anywhere between the digits."""
     words = cursor.rest()
     for word in words:

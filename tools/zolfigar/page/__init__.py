@@ -5,37 +5,27 @@ the script, which serves the filter and the keys. All text goes through `node`, 
 
 import base64
 import hashlib
-from collections import defaultdict
+from collections.abc import Sequence
 from pathlib import Path
-from xml.etree.ElementTree import tostring
+from xml.etree.ElementTree import Element, tostring
 
 from .. import audit
-from . import head, lives, orders, participants, tickets
+from ..history import Day
+from . import head, orders, participants, tickets
 from .markup import node
+from .view import View
 
 
-class View:
-    """A day with what the sections look up: the number of each movement, and those of each ticket."""
-
-    def __init__(self, day):
-        self.day = day
-        self.move_number = {id(move): n for n, move in enumerate(day.moves)}
-        self.moves_of = defaultdict(list)
-        for move in day.moves:
-            self.moves_of[move.event.number].append(move)
-        self.life = lives.life_scale(day)
-
-
-def beside(name):
+def beside(name: str) -> str:
     return (Path(__file__).parent / name).read_text(encoding="utf-8")
 
 
-def source(text):
+def source(text: str) -> str:
     """A text as the policy names it: by its hash."""
     return f"'sha256-{base64.b64encode(hashlib.sha256(text.encode()).digest()).decode()}'"
 
 
-def page_head(title, style, script):
+def page_head(title: str, style: str, script: str) -> Element:
     policy = f"default-src 'none'; style-src {source(style)}; script-src {source(script)}; img-src data:"
     policy += "; base-uri 'none'; form-action 'none'"
     return node(
@@ -50,19 +40,19 @@ def page_head(title, style, script):
     )
 
 
-def title_of(day, problems):
+def title_of(day: Day, problems: Sequence[str]) -> str:
     if day.refusal is not None:
         return f"{head.shown_name(day)}: refused"
     return f"{head.shown_name(day)}: {'does not add up' if problems else 'everything adds up'}"
 
 
-def whole(day, problems):
+def whole(day: Day, problems: Sequence[str]) -> list[Element]:
     view = View(day)
     main = node("main", participants.participants(view), orders.orders(view), tickets.tickets(view))
     return [head.head(day, problems), head.bar(day), main, tickets.help_box()]
 
 
-def page(day):
+def page(day: Day) -> str:
     """The page of a day, as text."""
     problems = audit.problems(day)
     parts = head.refused(day, problems) if day.refusal is not None else whole(day, problems)

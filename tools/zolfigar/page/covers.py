@@ -2,13 +2,27 @@
 
 It takes the width that it is given: positions are percentages, or lie in a part that is stretched."""
 
+from collections.abc import Callable, Iterable, Iterator, Sequence
 from typing import NamedTuple
+from xml.etree.ElementTree import Element
 
 from .. import telling
 from ..figures import clock, euro
-from .markup import PARTS, node, percent, short
+from ..history import Day, Event, Move
+from ..output import Parts
+from .markup import PARTS, Attribute, node, percent, short
 
 WIDTH, HEIGHT = 1000, 100  # of the stretched part
+
+Point = tuple[float, float]
+
+
+class Step(NamedTuple):
+    """What one ticket did to a participant's cover: its moves, and available, reserved and held after them."""
+
+    event: Event
+    moves: list[Move]
+    after: Parts
 
 
 # The scales of a cover chart
@@ -19,14 +33,14 @@ class Scale(NamedTuple):
 
     low: int
     high: int
-    marks: list
+    marks: list[tuple[int, str]]
 
-    def part(self, value):
+    def part(self, value: int) -> float:
         """Where a value lies, from 0 to 1."""
         return (value - self.low) / (self.high - self.low)
 
 
-def round_step(span, most):
+def round_step(span: int, most: int) -> int:
     """The least of 1, 2, 5, 10, 20 .. that goes into the span at most so many times."""
     step = 1
     while span > step * most:
@@ -37,17 +51,17 @@ def round_step(span, most):
 CLOCK_STEPS = (1, 2, 5, 10, 15, 30, 60, 120, 300, 600, 900, 1800, 3600, 7200, 10800, 14400, 21600, 43200, 86400)
 
 
-def clock_step(span, most):
+def clock_step(span: int, most: int) -> int:
     """The same in seconds, minutes, hours and days."""
     fitting = (step for step in CLOCK_STEPS if span <= step * most)
     return next(fitting, 86400 * round_step(span // 86400 + 1, most))
 
 
-def multiples(low, high, step):
+def multiples(low: int, high: int, step: int) -> range:
     return range(-(-low // step) * step, high + 1, step)
 
 
-def time_scale(day):
+def time_scale(day: Day) -> Scale:
     """The time of the book's clock, and a little more so that the last step has a width."""
     times = [event.time for event in day.events if event.sets_clock()]
     low, last = min(times, default=0), max(times, default=0)
@@ -56,19 +70,19 @@ def time_scale(day):
     return Scale(low, high, [(at, time_label(at, step)) for at in multiples(low, high, step)])
 
 
-def time_label(seconds, step):
+def time_label(seconds: int, step: int) -> str:
     """hh:mm:ss, hh:mm where every mark is at a whole hour, days where every mark is at a whole day."""
     if step % 86400 == 0:
         return f"day {seconds // 86400:,}"
     return clock(seconds) if step % 3600 else clock(seconds)[:-3]
 
 
-def ticket_scale(day):
+def ticket_scale(day: Day) -> Scale:
     high = max(1, len(day.events))
     return Scale(0, high, [(at, str(at)) for at in multiples(0, high - 1, round_step(high, 8))])
 
 
-def amount_scale(steps):
+def amount_scale(steps: Sequence[Step]) -> Scale:
     """From zero, or from the lowest sum where something is below zero, to a round amount above the highest."""
     sums = [total for step in steps for total in tops(step.after)]
     low, high = min([0, *sums]), max([0, *sums])
@@ -82,16 +96,8 @@ def amount_scale(steps):
 # A participant's cover
 
 
-class Step(NamedTuple):
-    """What one ticket did to a participant's cover: its moves, and available, reserved and held after them."""
-
-    event: object
-    moves: list
-    after: tuple
-
-
-def steps_of(day, number):
-    steps = []
+def steps_of(day: Day, number: int) -> list[Step]:
+    steps: list[Step] = []
     for move, after in day.statement(number):
         if steps and steps[-1].event is move.event:
             steps[-1] = steps[-1]._replace(moves=steps[-1].moves + [move], after=after)
@@ -100,48 +106,48 @@ def steps_of(day, number):
     return steps
 
 
-def tops(after):
+def tops(after: Parts) -> Parts:
     """The upper edges of the three areas, each on the one before."""
     available, reserved, held = after
-    return available, available + reserved, available + reserved + held
+    return Parts(available, available + reserved, available + reserved + held)
 
 
-def edge(points):
+def edge(points: Iterable[Point]) -> str:
     """A line of steps through (x, y): it stays at a height until the next point's x."""
     return "".join(f"H{short(x)}V{short(y)}" for x, y in points)
 
 
-def area(name, upper, lower, first, last):
+def area(name: str, upper: Sequence[Point], lower: Sequence[Point], first: float, last: float) -> Element:
     """What lies between two edges of the same steps. Each begins with the first point, at the left side."""
     back = "".join(f"V{short(y)}H{short(x)}" for x, y in reversed(lower))
     start = f"M{short(first)} {short(upper[0][1])}"
     return node("path", class_=name, d=f"{start}{edge(upper[1:])}H{short(last)}{back}Z")
 
 
-def heights(steps, xs, amounts):
+def heights(steps: Sequence[Step], xs: Sequence[float], amounts: Scale) -> list[list[Point]]:
     """The edges from the bottom up: zero and the tops of the three areas, as points (x, y). At first all is zero."""
-    afters = [(0, 0, 0)] + [step.after for step in steps]
+    afters = [Parts()] + [step.after for step in steps]
     sums = [(0, *tops(after)) for after in afters]
     return [[(x, HEIGHT * (1 - amounts.part(total))) for x, total in zip([0, *xs], edges)] for edges in zip(*sums)]
 
 
-def step_words(day, step):
+def step_words(day: Day, step: Step) -> str:
     """What the link of a step says."""
     told = telling.move(day, step.moves[0]) if len(step.moves) == 1 else f"{len(step.moves)} movements"
     after = ", ".join(f"{part} {euro(amount)}" for part, amount in zip(PARTS, step.after))
     return f"Ticket {step.event.number}, {clock(step.event.time)}: {told}. Then {after}"
 
 
-def step_link(day, step, x, until):
-    place = {"x": short(x), "y": 0, "width": short(max(until - x, 0)), "height": HEIGHT}
+def step_link(day: Day, step: Step, x: float, until: float) -> Element:
+    place: dict[str, Attribute] = {"x": short(x), "y": 0, "width": short(max(until - x, 0)), "height": HEIGHT}
     return node("a", node("title", step_words(day, step)), node("rect", **place), href=f"#t{step.event.number}")
 
 
-def across(scale, value):
+def across(scale: Scale, value: int) -> float:
     return WIDTH * scale.part(value)
 
 
-def plot(day, steps, xs, amounts):
+def plot(day: Day, steps: Sequence[Step], xs: Sequence[float], amounts: Scale) -> Element:
     """The stretched part: the areas, their top line, and a link over each step up to the next."""
     edges = heights(steps, xs, amounts)
     areas = [area(name, edges[n + 1], edges[n], 0, WIDTH) for n, name in enumerate(PARTS)]
@@ -154,14 +160,14 @@ def plot(day, steps, xs, amounts):
 PLOT_HEIGHT = 190  # in pixels, with the labels of the x axis below
 
 
-def rulers(amounts):
+def rulers(amounts: Scale) -> Iterator[Element]:
     """A line across for each marked amount."""
     for at, _ in amounts.marks:
         y = short(PLOT_HEIGHT * (1 - amounts.part(at)))
         yield node("line", class_="zero" if at == 0 else "ruler", x1=0, x2="100%", y1=y, y2=y)
 
 
-def x_labels(scale):
+def x_labels(scale: Scale) -> Iterator[Element]:
     """The labels below; every second one may be left out where there is little room."""
     for n, (at, label) in enumerate(scale.marks):
         part = scale.part(at)
@@ -171,13 +177,13 @@ def x_labels(scale):
         yield node("text", label, class_="second" if n % 2 else None, x=place, y=PLOT_HEIGHT + 16, text_anchor=anchor)
 
 
-AXES = {
+AXES: dict[str, tuple[Callable[[Day], Scale], Callable[[Event], int]]] = {
     "ticket": (ticket_scale, lambda event: event.number),
     "time": (time_scale, lambda event: event.time),
 }
 
 
-def cover_chart(day, number, axis):
+def cover_chart(day: Day, number: int, axis: str) -> Element:
     """A participant's available, reserved and held, one on the other, by time or by ticket."""
     scale_of, value_of = AXES[axis]
     scale, steps = scale_of(day), steps_of(day, number)

@@ -1,9 +1,12 @@
 """The head of the page: whether the day adds up, that a file is refused, and the bar that stays in sight."""
 
 import re
+from collections.abc import Mapping, Sequence
+from xml.etree.ElementTree import Element
 
 from .. import telling
-from .markup import folded, link, node, ticket_link
+from ..history import Day
+from .markup import Child, folded, link, node, ticket_link
 
 ADDS_UP = (
     "each participant's cover is the sum of what moved it and closes as the program says, nothing is ever below zero, "
@@ -15,17 +18,17 @@ NOT_LOOKED_AT = (
 )
 
 
-def targets(day):
+def targets(day: Day) -> dict[str, str]:
     """What a problem's sentence may name, longest first, with the place that it leads to."""
     names = {f"{p.bic}": f"p{p.number}" for p in reversed(day.participants)}
     names |= {f"order {o.number} ({o.txid})": f"o{o.number}" for o in day.orders}
     return dict(sorted(names.items(), key=lambda entry: -len(entry[0])))
 
 
-def linked(day, names, sentence):
+def linked(day: Day, names: Mapping[str, str], sentence: str) -> list[Child]:
     """A problem's sentence, in which tickets, orders and participants lead to their places."""
     known = "|".join(re.escape(name) for name in names) or "(?!)"
-    parts = []
+    parts: list[Child] = []
     for part in re.split(rf"({known}|\btickets? \d+(?:, \d+)*)", sentence):
         if part in names:
             parts.append(link(names[part], part))
@@ -36,36 +39,37 @@ def linked(day, names, sentence):
     return parts
 
 
-def numbered(day, word):
+def numbered(day: Day, word: str) -> Child:
     return ticket_link(int(word), word) if word.isdigit() and int(word) < len(day.events) else word
 
 
-def verdict(day, problems):
+def verdict(day: Day, problems: Sequence[str]) -> Element:
     if not problems:
         told = node("p", node("strong", "Everything adds up:"), " ", ADDS_UP)
         return node("div", told, node("p", NOT_LOOKED_AT, class_="soft"), class_="verdict good")
     count = "One thing doesn't add up." if len(problems) == 1 else f"{len(problems)} things don't add up."
     names = targets(day)
     found = folded([linked(day, names, problem) for problem in problems], 20, "problem")
-    if found.tag == "details":
+    if found is not None and found.tag == "details":
         found.set("open", "")
     return node("div", node("p", node("strong", count)), found, class_="verdict bad", role="group", aria_label="Problems")
 
 
-def refused(day, problems):
+def refused(day: Day, problems: Sequence[str]) -> list[Element]:
     """The page of a refused file."""
+    assert day.refusal is not None
     told = node("p", node("strong", "The file is refused."), f" Refusal {telling.refusal(day.refusal)}.")
     rest = node("p", "The book is empty: it has no participants, and no ticket was looked at.")
     boxes = [node("div", told, rest, class_="verdict bad")] + ([verdict(day, problems)] if problems else [])
     return [node("header", node("h1", shown_name(day)), class_="head"), node("main", *boxes, id="top")]
 
 
-def shown_name(day):
+def shown_name(day: Day) -> str:
     """The day's name. What can't be written as UTF-8 is replaced."""
     return day.name.encode("utf-8", "replace").decode()
 
 
-def bar(day):
+def bar(day: Day) -> Element:
     """The line that stays in sight: the day, the sections, and the keys."""
     top = link("top", shown_name(day), class_="top")
     names = (link(name.lower(), name) for name in ("Participants", "Orders", "Tickets"))
@@ -73,6 +77,6 @@ def bar(day):
     return node("nav", top, *names, keys, class_="bar", aria_label="Sections")
 
 
-def head(day, problems):
+def head(day: Day, problems: Sequence[str]) -> Element:
     summary = node("p", telling.summary(day) + ".", class_="summary")
     return node("header", node("h1", shown_name(day)), summary, verdict(day, problems), class_="head", id="top")

@@ -3,9 +3,12 @@
 It takes the width that it is given: positions are percentages."""
 
 import math
+from collections.abc import Iterator, Sequence
 from typing import NamedTuple
+from xml.etree.ElementTree import Element
 
 from .. import telling
+from ..history import Day, Event, Order
 from ..words import FLAGS, KINDS, LIMIT
 from .markup import node, percent
 
@@ -32,13 +35,13 @@ class Life(NamedTuple):
     far: int
     clock: int
 
-    def part(self, age):
+    def part(self, age: int) -> float:
         """Where so many seconds after the order lie, from 0 to 1."""
         if age <= LIMIT:
             return LIMIT_AT * max(age, 0) / LIMIT
         return LIMIT_AT + (1 - LIMIT_AT) * math.log(age / LIMIT) / math.log(self.far / LIMIT)
 
-    def marks(self):
+    def marks(self) -> list[tuple[int, str]]:
         """The ages that are labelled, with their labels; those too near to one before are left out."""
         found = [(age, f"{age} s") for age in (0, 5, 10, 15, 20)]
         for age, label in LATER:
@@ -47,7 +50,7 @@ class Life(NamedTuple):
         return found
 
 
-def life_scale(day):
+def life_scale(day: Day) -> Life:
     stopped = max((event.time for event in day.events if event.sets_clock()), default=0)
     ages = [stopped - order.time for order in day.orders if order.ended is None]
     ages += [event.time - order.time for order in day.orders for event in order.events]
@@ -57,7 +60,7 @@ def life_scale(day):
 class Mark(NamedTuple):
     """A ticket in an order's life. The sign is one of SIGNS."""
 
-    event: object
+    event: Event
     age: int
     sign: str
     words: str
@@ -85,73 +88,78 @@ SHAPES = {
 LETTERS = {"recall": "R", "decline": "D", "inquiry": "?", "turned": "!", "told": "i"}
 
 
-def kind_words(event):
+def kind_words(event: Event) -> str:
     """A ticket's kind with its flag: answer yes."""
     kind = event.ticket["kind"]
     name = KINDS.get(kind, f"kind {kind}")
     return " ".join(filter(None, (name, FLAGS.get(kind, {}).get(event.ticket["flag"]))))
 
 
-def signs_of(order, event):
+def signs_of(order: Order, event: Event) -> Iterator[str]:
     """What an event is in the order's life: its end, a ticket that names it, or one that was only told of it."""
-    if event is order.ended:
+    if event is order.ended and order.code is not None:
         yield ENDS[order.code]
     if event.order == order.number and event is not order.event:
-        sign = "turned" if event.refusal else KINDS.get(event.ticket["kind"])
-        if sign in SIGNS:
-            yield sign
+        name = "turned" if event.refusal else KINDS.get(event.ticket["kind"])
+        if name in SIGNS:
+            yield name
     elif event is not order.ended and event is not order.event:
         yield "told"
 
 
-def marks_of(order):
+def marks_of(order: Order) -> list[Mark]:
     marks = []
     for event in order.events:
-        for sign in signs_of(order, event):
+        for name in signs_of(order, event):
             age = event.time - order.time
-            why = f": {telling.refusal(event.refusal)}" if sign == "turned" else ""
-            marks.append(Mark(event, age, sign, f"{age:,} s: {SIGNS[sign]}, ticket {event.number} ({kind_words(event)}){why}"))
+            why = f": {telling.refusal(event.refusal)}" if name == "turned" else ""
+            marks.append(
+                Mark(event, age, name, f"{age:,} s: {SIGNS[name]}, ticket {event.number} ({kind_words(event)}){why}")
+            )
     return marks
 
 
-def lanes_of(life, marks):
+def lanes_of(life: Life, marks: Sequence[Mark]) -> list[tuple[Mark, int | None]]:
     """The marks with a lane each: the first in which none lies too near, and None where there is no lane left. The order's
     end is placed first, and so lies at its bar."""
-    lanes, placed = [[] for _ in range(MOST_LANES)], {}
+    lanes: list[list[float]] = [[] for _ in range(MOST_LANES)]
+    placed: dict[int, int | None] = {}
     for at in sorted(range(len(marks)), key=lambda at: marks[at].sign not in ENDS.values()):
         part = life.part(marks[at].age)
         free = (n for n, lane in enumerate(lanes) if all(abs(part - other) >= CLOSE for other in lane))
-        placed[at] = next(free, None)
-        if placed[at] is not None:
-            lanes[placed[at]].append(part)
+        chosen = placed[at] = next(free, None)
+        if chosen is not None:
+            lanes[chosen].append(part)
     return [(mark, placed[at]) for at, mark in enumerate(marks)]
 
 
-def sign(name, x, y):
+def sign(name: str, x: str | int, y: int) -> Element:
     """A sign in its circle, at a place."""
     inside = node("path", d=SHAPES[name]) if name in SHAPES else node("text", LETTERS[name], y=4, text_anchor="middle")
     return node("svg", node("circle", r=8), inside, class_=f"sign {name}", x=x, y=y, overflow="visible")
 
 
-def mark_link(life, mark, lane):
+def mark_link(life: Life, mark: Mark, lane: int) -> Element:
     drawn = sign(mark.sign, percent(life.part(mark.age)), TOP + LANE * lane)
     return node("a", node("title", mark.words), drawn, href=f"#t{mark.event.number}")
 
 
-def waited(life, order):
+def waited(life: Life, order: Order) -> Element:
     """The bar from the order to its end, or to the end of the day where it still waits."""
     end = life.clock if order.ended is None else order.ended.time
     kind = ENDS[order.code] if order.code else "waiting"
     return node("rect", class_=f"wait {kind}", x=0, y=TOP - 4, width=percent(life.part(end - order.time)), height=8)
 
 
-def begun(order):
+def begun(order: Order) -> Element:
     """The order's own ticket, at the left end of the bar."""
     words = node("title", f"0 s: the order, ticket {order.event.number}")
-    return node("a", words, node("rect", class_="begin", x=-3, y=TOP - 9, width=6, height=18), href=f"#t{order.event.number}")
+    return node(
+        "a", words, node("rect", class_="begin", x=-3, y=TOP - 9, width=6, height=18), href=f"#t{order.event.number}"
+    )
 
 
-def life_chart(life, order, has_limit):
+def life_chart(life: Life, order: Order, has_limit: bool) -> tuple[Element, int]:
     """An order's wait, how it ended and what came later, and how many marks had no room."""
     placed = lanes_of(life, marks_of(order))
     shown = [(mark, lane) for mark, lane in placed if lane is not None]
@@ -164,7 +172,7 @@ def life_chart(life, order, has_limit):
     return svg, len(placed) - len(shown)
 
 
-def life_lines(life, has_limit):
+def life_lines(life: Life, has_limit: bool) -> Iterator[Element]:
     for age, _ in life.marks():
         place = percent(life.part(age))
         kind = "ruler" if age != LIMIT else "limit" if has_limit else None
@@ -172,24 +180,24 @@ def life_lines(life, has_limit):
             yield node("line", class_=kind, x1=place, x2=place, y1=0, y2="100%")
 
 
-def life_grids(life):
+def life_grids(life: Life) -> Element:
     """The lines behind the lives, drawn once: with the limit, and without it for linked systems."""
     grids = ((name, life_lines(life, name == "limited")) for name in ("limited", "unlimited"))
     symbols = [node("symbol", *lines, id=name, overflow="visible") for name, lines in grids]
     return node("svg", *symbols, class_="defs", width=0, height=0, aria_hidden="true")
 
 
-def always_shown(life):
+def always_shown(life: Life) -> list[int]:
     """The ages whose labels are shown even where there is little room, a fifth of the width or more from each other: the
     limit, and then from the last backwards."""
-    shown = []
+    shown: list[int] = []
     for age, _ in sorted(life.marks(), key=lambda mark: (mark[0] != LIMIT, -mark[0])):
         if all(abs(life.part(age) - life.part(other)) >= 0.2 for other in shown):
             shown.append(age)
     return shown
 
 
-def life_axis(life):
+def life_axis(life: Life) -> Element:
     """The labels above the lives."""
     labels, always = [], always_shown(life)
     for age, label in life.marks():

@@ -1,40 +1,43 @@
 """The section of the orders: a table, and in each row the order's life."""
 
+from xml.etree.ElementTree import Element
+
 from .. import audit, telling
 from ..figures import counted, euro
-from ..history import text_of
+from ..history import Day, Order, text_of
 from . import lives
-from .markup import comma_separated, head_row, link, member_link, node, section, ticket_link
+from .markup import Child, comma_separated, head_row, link, member_link, node, section, ticket_link
+from .view import View
 
 
-def payee_words(day, order):
+def payee_words(day: Day, order: Order) -> list[Child]:
     """The payee, and the BIC that the order names where its route leads on from it."""
     named = telling.short(text_of(order.event.ticket["payee"]))
     reached = member_link(day, order.payee) if order.payee is not None else "nobody"
     return [reached] if named == telling.member(day, order.payee) else [reached, " ", node("small", f"for {named}")]
 
 
-def status_word(status):
+def status_word(status: str) -> Element:
     return node("span", status, class_=f"status {status}")
 
 
-def ended_words(order):
+def ended_words(order: Order) -> list[Child]:
     """How the order stands, and after how long its wait ended: settled after 4 s, returned."""
     status, after = telling.status(order), telling.ended_after(order)
     if after is None:
         return [status_word(status)]
     end = telling.STATUSES[order.code]
-    words = [status_word(end), " ", node("span", f"after {after:,} s", class_="after")]
+    words: list[Child] = [status_word(end), " ", node("span", f"after {after:,} s", class_="after")]
     return words if status == end else [*words, ", ", status_word(status)]
 
 
-def status_words(day, order):
+def status_words(day: Day, order: Order) -> list[Child]:
     """How the order stands, and that a linked system has no limit."""
     words = ended_words(order)
     return words if audit.is_for_bank(day, order) else [*words, " ", node("small", "no limit: linked system")]
 
 
-def life_cell(view, order):
+def life_cell(view: View, order: Order) -> Element:
     drawing, left_out = lives.life_chart(view.life, order, audit.is_for_bank(view.day, order))
     if not left_out:
         return node("td", drawing, class_="lived")
@@ -43,7 +46,7 @@ def life_cell(view, order):
     return node("td", drawing, node("details", summary, node("p", *links)), class_="lived")
 
 
-def order_row(view, order):
+def order_row(view: View, order: Order) -> Element:
     cells = [
         node("th", link(f"o{order.number}", str(order.number)), scope="row"),
         node("td", ticket_link(order.event.number, order.txid), class_="txid"),
@@ -56,18 +59,18 @@ def order_row(view, order):
     return node("tr", *cells, id=f"o{order.number}")
 
 
-def signs_legend():
+def signs_legend() -> Element:
     """The signs that stand on the lives of a day's orders."""
     entries = [node("span", sign_alone(name), words) for name, words in lives.SIGNS.items() if name != "told"]
     waiting = node("span", node("i", class_="swatch waiting"), "still waiting")
     return node("p", *entries, waiting, class_="legend")
 
 
-def sign_alone(name):
+def sign_alone(name: str) -> Element:
     return node("svg", lives.sign(name, 9, 9), width=18, height=18, aria_hidden="true", class_="life")
 
 
-def orders(view):
+def orders(view: View) -> Element:
     if not view.day.orders:
         return section("orders", "Orders", node("p", "None was accepted."))
     header = head_row("Order", "TxId", "Payer", "Payee", "Amount#", "Status", "")

@@ -1,52 +1,72 @@
 """The section of the tickets: the list with its filter, and the help on the keys."""
 
+from collections.abc import Iterable
+from xml.etree.ElementTree import Element
+
 from .. import telling
 from ..figures import clock, euro
+from ..history import Day, Event, Move
+from ..output import Report
 from ..unpacking import ticket_words
 from ..words import CUT_REPORTS, KINDS
-from .markup import changes, folded, head_row, is_member, link, node, section, signed, ticket_link, with_order
+from .markup import (
+    Attribute,
+    Child,
+    changes,
+    folded,
+    head_row,
+    is_member,
+    link,
+    node,
+    section,
+    signed,
+    ticket_link,
+    with_order,
+)
+from .view import View
 
 FEW = 4  # reports or movements that a ticket shows at once; more are folded
 
 
-def report_item(day, told):
+def report_item(day: Day, told: Report) -> list[Child]:
     return with_order(day, telling.report(day, told), None if told.code in CUT_REPORTS else told.order)
 
 
-def moved_item(view, move):
+def moved_item(view: View, move: Move) -> list[Child]:
     """Whose cover moved and how; it leads to the line of the statement."""
     changed = ", ".join(f"{part} {signed(cents)}" for part, cents in changes(move)) or f"{move.term} {euro(move.amount)}"
     return [link(f"m{view.move_number[id(move)]}", f"{telling.member(view.day, move.participant)}: {changed}")]
 
 
-def members_of(view, event):
+def members_of(view: View, event: Event) -> list[int]:
     """The participants that a ticket concerns: its sender, those told, those whose cover it moved."""
     told = [report.to for report in event.reports]
     moved = [move.participant for move in view.moves_of[event.number]]
     order = view.day.orders[event.order] if event.order is not None else None
     parties = [order.payer, order.payee] if order else []
-    return sorted({number for number in [event.sender, *told, *moved, *parties] if is_member(view.day, number)})
+    concerned = {event.sender, *told, *moved, *parties}
+    return sorted(number for number in concerned if number is not None and is_member(view.day, number))
 
 
-def ticket_cell(view, event):
-    words = [node("code", ticket_words(event.ticket))]
+def ticket_cell(event: Event) -> Element:
+    words: list[Child] = [node("code", ticket_words(event.ticket))]
     if event.order is not None:
         words += [" ", node("small", link(f"o{event.order}", f"order {event.order}"))]
     return node("td", *words, class_="words")
 
 
-def ticket_row(view, event):
+def ticket_row(view: View, event: Event) -> Element:
     moves = [moved_item(view, move) for move in view.moves_of[event.number] if is_member(view.day, move.participant)]
     reports = [report_item(view.day, told) for told in event.reports]
     cells = [
         node("th", ticket_link(event.number), scope="row"),
         node("td", clock(event.time), class_="time"),
-        ticket_cell(view, event),
+        ticket_cell(event),
         node("td", telling.outcome(event), class_="outcome"),
         node("td", folded(reports, FEW, "report"), class_="reports"),
         node("td", folded(moves, FEW, "movement"), class_="moved"),
     ]
-    facts = {
+    facts: dict[str, Attribute] = {
         "data_kind": kind_word(event),
         "data_members": " ".join(map(str, members_of(view, event))),
         "data_reports": len(reports),
@@ -54,24 +74,28 @@ def ticket_row(view, event):
     return node("tr", *cells, id=f"t{event.number}", class_="turned" if event.refusal else None, **facts)
 
 
-def kind_word(event):
+def kind_word(event: Event) -> str:
     return KINDS.get(event.ticket["kind"], "other")
 
 
-def chosen(name, label, entries):
+def chosen(name: str, label: str, entries: Iterable[tuple[str, str]]) -> Element:
     """A list to choose one of, the first of which stands for all."""
     options = [node("option", words, value=value) for value, words in entries]
     return node("label", label, " ", node("select", *options, id=name))
 
 
-def filter_form(view):
+def filter_form(view: View) -> Element:
     day = view.day
-    kinds = dict.fromkeys(kind for kind in (*KINDS.values(), "other") if any(kind_word(event) == kind for event in day.events))
+    kinds = dict.fromkeys(
+        kind for kind in (*KINDS.values(), "other") if any(kind_word(event) == kind for event in day.events)
+    )
     members = [(str(p.number), telling.short(p.bic)) for p in day.participants]
     shows = []
     for value, label in (("all", "all"), ("turned", "turned back"), ("told", "with reports")):
         shows.append(node("label", node("input", type="radio", name="show", value=value, checked=value == "all"), label))
-    text = node("input", type="search", id="text", autocomplete="off", spellcheck="false", placeholder="any part of a ticket")
+    text = node(
+        "input", type="search", id="text", autocomplete="off", spellcheck="false", placeholder="any part of a ticket"
+    )
     parts = [
         node("label", "Filter ", text),
         node("fieldset", node("legend", "Show", class_="unseen"), *shows),
@@ -82,7 +106,7 @@ def filter_form(view):
     return node("form", *parts, id="filter", role="search", aria_label="Tickets", autocomplete="off", hidden=True)
 
 
-def tickets(view):
+def tickets(view: View) -> Element:
     if not view.day.events:
         return section("tickets", "Tickets", node("p", "There are none."))
     header = head_row("Ticket", "Time", "What it says", "What became of it", "Reports", "Cover moved")
@@ -101,7 +125,7 @@ KEYS = (
 )
 
 
-def help_box():
+def help_box() -> Element:
     entries = [part for key, words in KEYS for part in (node("dt", node("kbd", key)), node("dd", words))]
     parts = node("h2", "Keys", id="help-title"), node("dl", *entries), node("button", "Close", type="button", id="close")
     return node("dialog", *parts, id="help", aria_labelledby="help-title")

@@ -1,6 +1,9 @@
 //! The check: random days, and random tickets handed in one by one, through this book and through the proved programs, which must
 //! print the same lines.
 
+// Random numbers are cut to the width of the field that they are for.
+#![allow(clippy::cast_possible_truncation)]
+
 mod codes;
 mod damage;
 mod days;

@@ -13,6 +13,9 @@
 #include <stddef.h>
 #include <stdint.h>
 
+/* The file VERSION has it too. */
+#define ZOLFIGAR_VERSION "1.0.0"
+
 #ifdef __cplusplus
 extern "C" {
 #endif
