@@ -3,7 +3,7 @@
 //!     host [ROOM]    ROOM is how many bytes the host has for the text at first; where they are too few it asks again.
 use std::io::{self, Read, Write};
 
-#[link(name = "host", kind = "static")]
+#[link(name = "foreign", kind = "static")]
 extern "C" {
     fn zolfigar_day(file: *const u8, file_length: usize, text: *mut u8, text_length: usize) -> usize;
 }

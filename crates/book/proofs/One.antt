@@ -22,8 +22,8 @@ use Rattle.rules.specs.Step.{untouched, stepOf, stepRead, handed, Outcome, hand
 use Rattle.rules.specs.Taken.{answerOf, answersOf, reportsIn}
 use Rattle.rules.specs.Sound.{Sound}
 use Rattle.rules.specs.declared.Book.{Book}
-use Rattle.intake.specs.Running.{ranTo, ran, Ran}
-use Rattle.intake.proofs.Printing.{ran-printable}
+use Rattle.course.specs.Running.{ranTo, ran, Ran}
+use Rattle.course.proofs.Printing.{ran-printable}
 
 -- without room for an answer no ticket is taken
 no-answer : (m : ℕ) (b : Book) (tickets : List ℕ) (reports : ℕ) → ranTo m b tickets 0 reports ≡ []

@@ -21,8 +21,8 @@ use Rattle.rules.specs.Sound.{Sound}
 use Rattle.rules.specs.declared.Book.{Book}
 use Rattle.rules.proofs.Stepping.{file-sound}
 use Rattle.rules.proofs.Reporting.{step-few}
-use Rattle.intake.specs.Running.{roomLeft, ranTo, ran, Ran}
-use Rattle.intake.proofs.Printing.{ran-printable}
+use Rattle.course.specs.Running.{roomLeft, ranTo, ran, Ran}
+use Rattle.course.proofs.Printing.{ran-printable}
 use Rattle.book.specs.Handing.{handedIn}
 use Rattle.book.specs.declared.opening.Opened.{Opened}
 use Rattle.audit.specs.History.{History, from, _▹_}

@@ -10,7 +10,7 @@ use Rattle.rules.proofs.Stepping.{file-sound}
 use Rattle.audit.specs.History.{History, from}
 use Rattle.audit.specs.Claim.{Claim}
 use Rattle.audit.proofs.Carrying.{carried-start, carried-claim}
-use Rattle.steps.specs.Stepped.{ticketBytes, taken, Stepped}
+use Rattle.foreign.specs.Stepped.{ticketBytes, taken, Stepped}
 use Rattle.calls.specs.Kept.{readOn}
 use Rattle.calls.proofs.Keeping.{carried-bytes}
 

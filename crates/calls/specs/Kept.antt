@@ -14,7 +14,7 @@ use Rattle.rules.specs.Book.{bookOf}
 use Rattle.rules.specs.Inputs.{Input}
 use Rattle.rules.specs.Sound.{Sound}
 use Rattle.rules.specs.declared.Book.{Book}
-use Rattle.intake.specs.Running.{Ran}
+use Rattle.course.specs.Running.{Ran}
 use Rattle.book.specs.Opening.{Opens}
 use Rattle.book.specs.Handing.{Hands}
 use Rattle.book.specs.declared.opening.Opened.{Opened}

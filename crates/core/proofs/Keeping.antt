@@ -13,10 +13,10 @@ use Rattle.report.specs.declared.answer.Answer.{Answer}
 use Rattle.rules.specs.Step.{stepOf}
 use Rattle.rules.specs.Taken.{answerOf}
 use Rattle.rules.specs.declared.Book.{Book}
-use Rattle.intake.specs.Running.{roomLeft}
-use Rattle.intake.specs.Expiry.{Passed}
-use Rattle.intake.proofs.Running.{Going}
-use Rattle.intake.proofs.Summing.{allOf}
+use Rattle.course.specs.Running.{roomLeft}
+use Rattle.course.specs.Expiry.{Passed}
+use Rattle.course.proofs.Running.{Going}
+use Rattle.course.proofs.Summing.{allOf}
 use Rattle.index.specs.Words.{txidWords}
 use Rattle.index.specs.Chains.{rowBucket}
 use Rattle.turns.proofs.Index.{TxidIndex}

@@ -13,9 +13,9 @@ use borrow.Author.Tests.{eqb-true}
 use Rattle.fields.specs.declared.search.Found.{Found}
 use Rattle.rules.specs.Find.{senderIn, orderIn, routeIn}
 use Rattle.rules.specs.declared.Book.{Book}
-use Rattle.intake.specs.Entry.{entryOf}
-use Rattle.intake.specs.Seeking.{soughtSender, soughtOrder}
-use Rattle.intake.specs.declared.Entry.{Entry}
+use Rattle.course.specs.Entry.{entryOf}
+use Rattle.course.specs.Seeking.{soughtSender, soughtOrder}
+use Rattle.course.specs.declared.Entry.{Entry}
 use Rattle.sight.specs.Sight.{seenAs, sightOf}
 use Rattle.sight.specs.declared.Seen.{Seen}
 use Rattle.sight.specs.declared.Sight.{Sight}

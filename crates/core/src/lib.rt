@@ -5,7 +5,7 @@ mod taking;
 
 use rules::Book;
 ghost use Rattle.rules.specs.Sound.{Sound};
-ghost use Rattle.intake.specs.Running.{Ran};
+ghost use Rattle.course.specs.Running.{Ran};
 
 // The book afterwards, and how many tickets were taken.
 pub struct Batch {

@@ -23,8 +23,8 @@ use ticket::layout;
 ghost use mathlib.Core.Path.{_≡_};
 ghost use Rattle.rules.specs.Terms.{termsOf};
 ghost use Rattle.rules.specs.Sound.{Sound};
-ghost use Rattle.intake.specs.Seeking.{seeksOpen};
-ghost use Rattle.intake.specs.Running.{Ran};
+ghost use Rattle.course.specs.Seeking.{seeksOpen};
+ghost use Rattle.course.specs.Running.{Ran};
 ghost use Rattle.core.specs.Directory.{Directs};
 
 // Whether a kind looks for held and open debit anywhere.

@@ -7,7 +7,7 @@ ghost use mathlib.Core.Path.{_≡_};
 ghost use mathlib.Core.Bool.{cond};
 ghost use lib.Dec.{ltb};
 ghost use Rattle.rules.specs.Refusal.{leastBuffer};
-ghost use Rattle.intake.specs.Running.{roomLeft};
+ghost use Rattle.course.specs.Running.{roomLeft};
 
 // Whether one ticket more is taken, by the bytes that are left of tickets, answers and reports.
 pub fn room_left(tickets: usize, answers: usize, reports: usize) -> bool

@@ -22,8 +22,8 @@ use Rattle.ticket.proofs.Laws.{read-malformed, read-formed, read-named}
 use Rattle.ticket.proofs.Refusals.{unknown-refused}
 use Rattle.rules.specs.Terms.{termsOf, namesSender, opensOrder}
 use Rattle.rules.specs.declared.terms.Subject.{Subject}
-use Rattle.intake.specs.Entry.{readEntry, entryOf}
-use Rattle.intake.specs.Seeking.{if, seeksOrder}
+use Rattle.course.specs.Entry.{readEntry, entryOf}
+use Rattle.course.specs.Seeking.{if, seeksOrder}
 use Rattle.sight.specs.Sight.{seenAs, sightAs, sightOf}
 use Rattle.shapes.specs.Amounts.{amountsOf}
 use Rattle.shapes.specs.Subject.{TicketNaming}

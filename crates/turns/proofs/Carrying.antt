@@ -25,11 +25,11 @@ use Rattle.rules.specs.declared.Cover.{Cover}
 use Rattle.rules.specs.declared.Book.{Book}
 use Rattle.rules.proofs.Moving.{nobody-moves}
 use Rattle.verdict.specs.Step.{refusedVerdict}
-use Rattle.intake.specs.Room.{mostNumber, Room}
-use Rattle.intake.specs.declared.Entry.{Entry}
-use Rattle.intake.proofs.Applying.{listed-few}
-use Rattle.intake.proofs.Fitting.{any-whole}
-use Rattle.intake.proofs.Summing.{allOf, all-changed, change-fits, change-few, whole-grows}
+use Rattle.course.specs.Room.{mostNumber, Room}
+use Rattle.course.specs.declared.Entry.{Entry}
+use Rattle.course.proofs.Applying.{listed-few}
+use Rattle.course.proofs.Fitting.{any-whole}
+use Rattle.course.proofs.Summing.{allOf, all-changed, change-fits, change-few, whole-grows}
 use Rattle.verdict.specs.Meaning.{transferBy, toldBy}
 use Rattle.verdict.proofs.Moving.{moved-by}
 use Rattle.turns.proofs.Turn.{Expired, after-sound, told-few, text-long, after-all, all-few}

@@ -22,11 +22,11 @@ use Rattle.rules.specs.Sound.{Sound}
 use Rattle.rules.specs.declared.Book.{Book}
 use Rattle.rules.proofs.Reporting.{step-few}
 use Rattle.rules.proofs.Stepping.{step-sound}
-use Rattle.intake.specs.Entry.{entryOf}
-use Rattle.intake.specs.Expiry.{Passed}
-use Rattle.intake.specs.Running.{roomLeft}
-use Rattle.intake.proofs.Running.{Going, room-left, taken-on}
-use Rattle.intake.proofs.Summing.{allOf}
+use Rattle.course.specs.Entry.{entryOf}
+use Rattle.course.specs.Expiry.{Passed}
+use Rattle.course.specs.Running.{roomLeft}
+use Rattle.course.proofs.Running.{Going, room-left, taken-on}
+use Rattle.course.proofs.Summing.{allOf}
 use Rattle.turns.proofs.Index.{TxidIndex}
 use Rattle.turns.proofs.Turn.{refused-turn}
 

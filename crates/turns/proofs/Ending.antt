@@ -35,13 +35,13 @@ use Rattle.rules.specs.declared.Book.{Book}
 use Rattle.rules.proofs.Reporting.{step-few}
 use Rattle.rules.proofs.Stepping.{step-sound}
 use Rattle.index.specs.Chains.{buckets}
-use Rattle.intake.specs.Room.{Applicable}
-use Rattle.intake.specs.Expiry.{Passed}
-use Rattle.intake.specs.Seeking.{soughtOrder, sought}
-use Rattle.intake.specs.declared.Entry.{Entry}
-use Rattle.intake.proofs.Applying.{passed-applied, count-grows}
-use Rattle.intake.proofs.Summing.{allOf, applied-all}
-use Rattle.intake.proofs.Naming.{KeepsName, other-txid, written-txid, kept-txid}
+use Rattle.course.specs.Room.{Applicable}
+use Rattle.course.specs.Expiry.{Passed}
+use Rattle.course.specs.Seeking.{soughtOrder, sought}
+use Rattle.course.specs.declared.Entry.{Entry}
+use Rattle.course.proofs.Applying.{passed-applied, count-grows}
+use Rattle.course.proofs.Summing.{allOf, applied-all}
+use Rattle.course.proofs.Naming.{KeepsName, other-txid, written-txid, kept-txid}
 use Rattle.verdict.specs.Judgement.{verdictOf}
 use Rattle.verdict.specs.Meaning.{factsOf, decidedBy}
 use Rattle.turns.proofs.Index.{TxidIndex, same-index, more-index}

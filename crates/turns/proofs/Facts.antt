@@ -31,11 +31,11 @@ use Rattle.rules.specs.declared.verdict.Facts.{Facts}
 use Rattle.rules.specs.declared.Status.the-variants.{Waiting}
 use Rattle.rules.specs.declared.Order.{Order}
 use Rattle.rules.specs.declared.Book.{Book}
-use Rattle.intake.specs.Seeking.{seeksOrder, seeksOpen, soughtSender, soughtOrder, sought}
-use Rattle.intake.specs.declared.Entry.{Entry}
-use Rattle.intake.proofs.Seeking.{way-if, open-sum, made}
-use Rattle.intake.proofs.Fitting.{any-payee, sender-below, order-below}
-use Rattle.intake.proofs.Summing.{allOf, all-total}
+use Rattle.course.specs.Seeking.{seeksOrder, seeksOpen, soughtSender, soughtOrder, sought}
+use Rattle.course.specs.declared.Entry.{Entry}
+use Rattle.course.proofs.Seeking.{way-if, open-sum, made}
+use Rattle.course.proofs.Fitting.{any-payee, sender-below, order-below}
+use Rattle.course.proofs.Summing.{allOf, all-total}
 use Rattle.verdict.specs.Meaning.{aboutOf, factsOf}
 use Rattle.turns.proofs.Turn.{Expired, after-sound, after-count, after-roster, after-txid, after-all}
 

@@ -22,10 +22,10 @@ use Rattle.rules.specs.declared.verdict.Mover.{Mover}
 use Rattle.rules.specs.declared.verdict.Verdict.{Verdict}
 use Rattle.rules.specs.declared.Cover.{Cover}
 use Rattle.rules.specs.declared.Book.{Book}
-use Rattle.intake.specs.Room.{Room}
-use Rattle.intake.specs.Seeking.{sought}
-use Rattle.intake.specs.declared.Entry.{Entry}
-use Rattle.intake.proofs.Fitting.{any-payer, any-payee, sender-below, order-below, reached-below}
+use Rattle.course.specs.Room.{Room}
+use Rattle.course.specs.Seeking.{sought}
+use Rattle.course.specs.declared.Entry.{Entry}
+use Rattle.course.proofs.Fitting.{any-payer, any-payee, sender-below, order-below, reached-below}
 use Rattle.verdict.specs.Step.{cutVerdict}
 use Rattle.verdict.specs.Judgement.{verdictOf}
 use Rattle.verdict.specs.Meaning.{factsOf, transferBy, toldBy, decidedBy}

@@ -33,20 +33,20 @@ use Rattle.rules.specs.declared.verdict.Verdict.{Verdict}
 use Rattle.rules.specs.declared.Book.{Book}
 use Rattle.rules.proofs.Sweeping.{swept}
 use Rattle.rules.proofs.Reporting.{swept-few}
-use Rattle.intake.specs.Room.{Applicable}
-use Rattle.intake.specs.Entry.{timedEntry, readEntry, entryOf}
-use Rattle.intake.specs.Expiry.{Passed}
-use Rattle.intake.specs.Seeking.{sought}
-use Rattle.intake.specs.Judging.{judged}
-use Rattle.intake.specs.Taking.{sweptFor, carried, takenAs}
-use Rattle.intake.specs.declared.Entry.{Entry}
-use Rattle.intake.specs.declared.Judged.{Judged}
-use Rattle.intake.proofs.Taking.{step-taken}
-use Rattle.intake.proofs.Turning as turning
-use Rattle.intake.proofs.Looping.{Sweeping, begun, all-swept}
-use Rattle.intake.proofs.Seeking.{swept-txid}
-use Rattle.intake.proofs.Fitting.{Entered, entered, judged-applicable}
-use Rattle.intake.proofs.Summing.{allOf, all-total, swept-all}
+use Rattle.course.specs.Room.{Applicable}
+use Rattle.course.specs.Entry.{timedEntry, readEntry, entryOf}
+use Rattle.course.specs.Expiry.{Passed}
+use Rattle.course.specs.Seeking.{sought}
+use Rattle.course.specs.Judging.{judged}
+use Rattle.course.specs.Taking.{sweptFor, carried, takenAs}
+use Rattle.course.specs.declared.Entry.{Entry}
+use Rattle.course.specs.declared.Judged.{Judged}
+use Rattle.course.proofs.Taking.{step-taken}
+use Rattle.course.proofs.Turning as turning
+use Rattle.course.proofs.Looping.{Sweeping, begun, all-swept}
+use Rattle.course.proofs.Seeking.{swept-txid}
+use Rattle.course.proofs.Fitting.{Entered, entered, judged-applicable}
+use Rattle.course.proofs.Summing.{allOf, all-total, swept-all}
 use Rattle.verdict.specs.Judgement.{verdictOf}
 use Rattle.verdict.specs.Meaning.{factsOf, decisionBy, judgedBy}
 use Rattle.verdict.proofs.Meaning.{judged-verdict}

@@ -1,4 +1,4 @@
--- A verdict stands for what `intake` judges: `judged-verdict`. Kind by kind the first refusal that applies is that of the chain of checks,
+-- A verdict stands for what `course` judges: `judged-verdict`. Kind by kind the first refusal that applies is that of the chain of checks,
 -- and the step's verdict stands for the step's decision. Assumes nothing.
 use mathlib.Core.Path.{_≡_, refl, sym, _∙_, ap}
 use mathlib.Core.Bool.{Bool, true, false, _&&_, not, cond}
@@ -34,8 +34,8 @@ use Rattle.rules.specs.declared.decision.Move.the-variants.{Give, Draw, Spend, 
 use Rattle.rules.specs.declared.decision.Told.the-variants.{Nobody, One, Two}
 use Rattle.rules.specs.declared.verdict.About.{About}
 use Rattle.rules.specs.declared.verdict.Verdict.{Verdict}
-use Rattle.intake.specs.Judging.{judged, decidedUnless}
-use Rattle.intake.specs.declared.Judged.{Judged}
+use Rattle.course.specs.Judging.{judged, decidedUnless}
+use Rattle.course.specs.declared.Judged.{Judged}
 use Rattle.verdict.specs.Step.{notice, none, unless, refusedVerdict, coverMoved, opened, settled, turnedDown, recalled, declined, returned, answered, cutVerdict, answerTold, answerAlso}
 use Rattle.verdict.specs.Judgement.{coverInRefusal, coverOutRefusal, orderRefusal, answerRefusal, recallRefusal, returnRefusal, declineRefusal, inquiryRefusal, verdictOf}
 use Rattle.verdict.specs.Meaning.{aboutOf, factsOf, reportBy, toldBy, decisionBy, judgedBy}

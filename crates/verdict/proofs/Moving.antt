@@ -26,7 +26,7 @@ use Rattle.rules.specs.declared.verdict.Facts.{Facts}
 use Rattle.rules.specs.declared.verdict.Mover.{Mover}
 use Rattle.rules.specs.declared.verdict.Notice.{Notice}
 use Rattle.rules.specs.declared.verdict.Verdict.{Verdict}
-use Rattle.intake.specs.Room.{Room}
+use Rattle.course.specs.Room.{Room}
 use Rattle.verdict.specs.Step.{unless, refusedVerdict, coverMoved}
 use Rattle.verdict.specs.Judgement.{verdictFor, verdictOf}
 use Rattle.verdict.specs.Meaning.{movesBy, transferBy, reportBy, toldBy}

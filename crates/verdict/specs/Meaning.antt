@@ -26,7 +26,7 @@ use Rattle.rules.specs.declared.verdict.Does.the-variants.{Nothing, Opens, Beco
 use Rattle.rules.specs.declared.verdict.Mover.{Mover}
 use Rattle.rules.specs.declared.verdict.Notice.{Notice}
 use Rattle.rules.specs.declared.verdict.Verdict.{Verdict}
-use Rattle.intake.specs.declared.Judged.{Judged}
+use Rattle.course.specs.declared.Judged.{Judged}
 
 abbrev pub aboutOf : Order → About
 aboutOf o = record { payer = o .payer; payee = o .payee; amount = o .amount; status = o .status }

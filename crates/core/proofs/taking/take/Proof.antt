@@ -39,8 +39,8 @@
 use mathlib.Core.Path.{_≡_}
 use native.Mathlib.Omega.{arith}
 use borrow.Author.Needs.{needs}
-use Rattle.intake.proofs.Running.{ended}
-use Rattle.intake.proofs.Seeking.{total-sum}
+use Rattle.course.proofs.Running.{ended}
+use Rattle.course.proofs.Seeking.{total-sum}
 use Rattle.turns.proofs.Turn.{loop-begun}
 use Rattle.turns.proofs.Done.{answer-is}
 use Rattle.core.proofs.Keeping.{kept-on}

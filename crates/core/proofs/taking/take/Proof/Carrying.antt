@@ -7,7 +7,7 @@ use lib.ListN.{length, set}
 use Rattle.rules.specs.Book.{coverOf}
 use Rattle.rules.specs.Cover.{whole}
 use Rattle.rules.specs.declared.Cover.{Cover}
-use Rattle.intake.specs.Room.{mostNumber, Room}
+use Rattle.course.specs.Room.{mostNumber, Room}
 use Rattle.turns.proofs.Fitting.{reportsOf}
 use Rattle.turns.proofs.Carrying.{Carried, first-fits, second-room, second-fits, carried, told-room}
 use Rattle.core.proofs.taking.take.Proof.Loop.{reports₀, long-reports, room}

@@ -16,12 +16,12 @@ use Rattle.rules.specs.Tell.{listed}
 use Rattle.rules.specs.Sound.{Sound}
 use Rattle.rules.specs.declared.Book.{Book}
 use Rattle.rules.specs.declared.Cover.{Cover}
-use Rattle.intake.specs.Expiry.{expiryOf, expiryIn, lapsed, Passed}
-use Rattle.intake.specs.declared.Entry.{Entry}
-use Rattle.intake.specs.declared.Expiry.{Expiry}
-use Rattle.intake.proofs.Looping.{Sweeping, at-sound, at-count, at-roster, at-few, one-more}
-use Rattle.intake.proofs.Fitting.{Freeable, expiry-fits}
-use Rattle.intake.proofs.Applying.{listed-few}
+use Rattle.course.specs.Expiry.{expiryOf, expiryIn, lapsed, Passed}
+use Rattle.course.specs.declared.Entry.{Entry}
+use Rattle.course.specs.declared.Expiry.{Expiry}
+use Rattle.course.proofs.Looping.{Sweeping, at-sound, at-count, at-roster, at-few, one-more}
+use Rattle.course.proofs.Fitting.{Freeable, expiry-fits}
+use Rattle.course.proofs.Applying.{listed-few}
 use Rattle.sight.specs.declared.Seen.{Seen}
 use Rattle.turns.proofs.Turn.{Taken, start-sound, loop-count, Expired, expiries-done}
 use Rattle.core.proofs.Seeing.{entryBy, Sighted, sight-read}

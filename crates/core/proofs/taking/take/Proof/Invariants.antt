@@ -3,7 +3,7 @@ use mathlib.Core.Path.{_≡_}
 use Prim.Native.Nat.{ℕ, _-_, _*_, _≤_}
 use lib.ListN.{length}
 use Rattle.rules.specs.Tick.{atTime}
-use Rattle.intake.proofs.Looping.{Sweeping}
+use Rattle.course.proofs.Looping.{Sweeping}
 use Rattle.core.proofs.Keeping.{Kept}
 use Rattle.core.proofs.taking.take.Tie as tie
 

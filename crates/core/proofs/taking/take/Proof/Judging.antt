@@ -15,7 +15,7 @@ use Rattle.rules.specs.Find.{isOpen}
 use Rattle.rules.specs.Terms.{termsOf}
 use Rattle.rules.specs.declared.verdict.Facts.{Facts}
 use Rattle.rules.specs.declared.verdict.Verdict.{Verdict}
-use Rattle.intake.specs.Seeking.{seeksOpen, sought}
+use Rattle.course.specs.Seeking.{seeksOpen, sought}
 use Rattle.verdict.specs.Judgement.{verdictOf}
 use Rattle.verdict.specs.Meaning.{aboutOf, factsOf}
 use Rattle.turns.proofs.Facts.{Searched, total-few, sender-in, order-in, payee-in, facts-are}

@@ -11,8 +11,8 @@ use Rattle.fields.proofs.Stores.{length-part}
 use Rattle.ticket.specs.Layout.{txidField}
 use Rattle.rules.specs.Sound.{Sound}
 use Rattle.rules.specs.declared.Book.{Book}
-use Rattle.intake.specs.Running.{roomLeft}
-use Rattle.intake.proofs.Running.{RoomFor, room-left, answers-long, reports-long}
+use Rattle.course.specs.Running.{roomLeft}
+use Rattle.course.proofs.Running.{RoomFor, room-left, answers-long, reports-long}
 use Rattle.index.specs.Words.{Bytes}
 use Rattle.index.proofs.Comparing.{part-bytes, slice-bytes}
 use Rattle.core.proofs.taking.take.Proof.Places as at

@@ -4,7 +4,7 @@ use mathlib.Core.List.{List}
 use Prim.Native.Nat.{ℕ}
 use borrow.Author.Tests.{eqb-false, not-true}
 use Rattle.rules.specs.declared.verdict.Verdict.{Verdict}
-use Rattle.intake.specs.Seeking.{sought}
+use Rattle.course.specs.Seeking.{sought}
 use Rattle.verdict.specs.Step.{refusedVerdict}
 use Rattle.verdict.specs.Judgement.{verdictOf}
 use Rattle.verdict.specs.Meaning.{factsOf}

@@ -8,7 +8,7 @@ use Rattle.report.specs.declared.answer.Answer.{Answer}
 use Rattle.rules.specs.Find.{senderIn, orderIn, routeIn}
 use Rattle.rules.specs.Step.{stepOf}
 use Rattle.rules.specs.Taken.{answerOf}
-use Rattle.intake.specs.Entry.{entryOf}
+use Rattle.course.specs.Entry.{entryOf}
 use Rattle.index.specs.Words.{txidWords}
 use Rattle.index.specs.Chains.{rowBucket}
 use Rattle.sight.specs.Sight.{sightOf, sightRefusal}

@@ -4,9 +4,9 @@ use native.Mathlib.Nat.{not-suc-le-zero}
 use native.Mathlib.Omega.{arith}
 use denote.Ref.{now}
 use Rattle.rules.specs.Book.{orderOf}
-use Rattle.intake.proofs.Running.{started}
-use Rattle.intake.proofs.Seeking.{total-sum}
-use Rattle.intake.proofs.Summing.{all-total}
+use Rattle.course.proofs.Running.{started}
+use Rattle.course.proofs.Seeking.{total-sum}
+use Rattle.course.proofs.Summing.{all-total}
 use Rattle.index.proofs.Lending.{chained-fields}
 use Rattle.core.proofs.taking.take.Tie as tie
 use Rattle.core.proofs.taking.take.Proof.Invariants.{Inv-loop2, μ-loop2, Inv-loop, μ-loop}

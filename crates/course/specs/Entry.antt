@@ -1,0 +1,28 @@
+-- A ticket as the book takes it up.
+--     entryOf      its fields; refused by 7 to 11, that refusal and a tick at the clock
+-- Assumes nothing.
+use Prim.Native.Nat.{ℕ}
+use mathlib.Core.List.{List}
+use Rattle.ticket.specs.Reading.{reading}
+use Rattle.ticket.specs.declared.Fields.{Fields}
+use Rattle.ticket.specs.declared.Reading.{Reading}
+use Rattle.ticket.specs.declared.Reading.the-variants.{Read, Refused}
+use Rattle.ticket.specs.declared.kinds.Kind.the-variants.{Tick}
+use Rattle.rules.specs.Refusal.{timingOf, timingRefusal}
+use Rattle.rules.specs.declared.refusal.Timing.{Timing}
+use Rattle.rules.specs.declared.refusal.Timing.the-variants.{InTime, Early}
+use Rattle.course.specs.declared.Entry.{Entry}
+
+abbrev pub refusedEntry : ℕ → ℕ → Entry
+refusedEntry n clock = record { refusal = n; kind = Tick; time = clock; amount = 0 }
+
+abbrev pub timedEntry : ℕ → Fields → Timing → Entry
+timedEntry clock f InTime = record { refusal = 0; kind = f .kind; time = f .time; amount = f .amount }
+timedEntry clock f Early = refusedEntry (timingRefusal Early) clock
+
+abbrev pub readEntry : ℕ → Reading → Entry
+readEntry clock (Read f) = timedEntry clock f (timingOf clock (f .time))
+readEntry clock (Refused n) = refusedEntry n clock
+
+abbrev pub entryOf : ℕ → List ℕ → Entry
+entryOf clock t = readEntry clock (reading t)

@@ -1,0 +1,3 @@
+mod Lending
+mod Going
+mod Stepping
