@@ -22,15 +22,15 @@ use Rattle.rules.specs.declared.Order.{Order}
 use Rattle.rules.specs.declared.Cover.{Cover}
 use Rattle.rules.specs.declared.Book.{Book}
 use Rattle.rules.proofs.Same.{same-or-not}
-use Rattle.rules.proofs.Moving.{gain, loss, onlyFor, Fitted, fitted, transfer-fitted, transfer-whole, transfer-leaves}
+use Rattle.rules.proofs.CoverMoving.{gain, loss, onlyFor, Fitted, fitted, transfer-fitted, transfer-whole, transfer-leaves}
 use Rattle.rules.proofs.Accepting as accepting
 use Rattle.audit.specs.History.{History}
 use Rattle.audit.specs.Sums.{goesOut, comesIn}
 use Rattle.audit.specs.Orders.{isOrder, asksAbout}
 use Rattle.audit.proofs.Fates.{SameOrder}
 use Rattle.audit.proofs.Events.{OwnOrder, OwnCover, Growth, OwnStep}
-use Rattle.audit.proofs.Telling.{NoCuts}
-use Rattle.audit.proofs.Own.{Taken, takenEvent, order-left, cover-goes, uncut}
+use Rattle.audit.proofs.ReportTelling.{NoCuts}
+use Rattle.audit.proofs.Own.{AcceptedTicket, takenEvent, order-left, cover-goes, uncut}
 
 -- all reports are about order j
 abbrev pub AllAbout : ℕ → List Report → Type 0
@@ -46,7 +46,7 @@ others-quiet i j (r ∷ rs) a differs =
 pub status-same : (o : Order) (s : Status) → SameOrder o (withStatus o s)
 status-same o s = record { amount = refl; time = refl; txid = refl; payer = refl; payee = refl }
 
-module _ {ps : Roster} {h : History} {w : Book} {t : List ℕ} {f : Fields} {rs₀ : List Report} (k : Taken ps h w t f rs₀) (rs : List Report) where
+module _ {ps : Roster} {h : History} {w : Book} {t : List ℕ} {f : Fields} {rs₀ : List Report} (k : AcceptedTicket ps h w t f rs₀) (rs : List Report) where
   pub order-held : namesOrder (termsOf (f .kind) .subject) ≡ true → accepting.orderNumber w f t < w .count
   order-held named = accepting.order-found w f t (k .passed .r16) named .below
 

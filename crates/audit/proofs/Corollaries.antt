@@ -29,7 +29,7 @@ use Rattle.audit.specs.Claim.{AllCarry, codeOf}
 use Rattle.audit.specs.Run.{eventOf, eventsOn, historyOf}
 use Rattle.audit.specs.Demand3.{Holds}
 use Rattle.audit.proofs.Balance.{Balanced}
-use Rattle.audit.proofs.Carrying.{Carried, carried-start, carried-inputs}
+use Rattle.audit.proofs.AlongInputs.{Carried, carried-start, carried-inputs}
 use Rattle.audit.proofs.Theorem.{holds}
 
 -- what was there at the start

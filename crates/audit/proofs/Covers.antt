@@ -21,7 +21,7 @@ use Rattle.rules.specs.declared.decision.Told.{Told}
 use Rattle.rules.specs.declared.Cover.{Cover}
 use Rattle.rules.specs.declared.Book.{Book}
 use Rattle.rules.proofs.Same.{same-or-not}
-use Rattle.rules.proofs.Moving.{onlyFor, for-none, nobody-moves}
+use Rattle.rules.proofs.CoverMoving.{onlyFor, for-none, nobody-moves}
 use Rattle.rules.proofs.Accepting.{fieldsOf}
 use Rattle.rules.proofs.Accepting as accepting
 use Rattle.rules.proofs.Expiring.{AllCode}
@@ -29,8 +29,8 @@ use Rattle.audit.specs.History.{Event, History}
 use Rattle.audit.specs.Sums.{lastCut, goesOut, comesIn}
 use Rattle.audit.specs.Orders.{asksAbout}
 use Rattle.audit.proofs.Events.{Growth, OwnStep}
-use Rattle.audit.proofs.Telling.{cut-after}
-use Rattle.audit.proofs.Own.{order-left, cover-goes, Taken, takenEvent, OwnStepOf, kind-is, amount-is, sent, sender-below, sender-known, steady, orders-kept, uncut, moved-own}
+use Rattle.audit.proofs.ReportTelling.{cut-after}
+use Rattle.audit.proofs.Own.{order-left, cover-goes, AcceptedTicket, takenEvent, OwnStepOf, kind-is, amount-is, sent, sender-below, sender-known, steady, orders-kept, uncut, moved-own}
 
 -- a refused ticket does nothing of its own
 pub nothing-own : (ps : Roster) (h : History) (w : Book) (t : List ℕ) (n : ℕ) (rs₀ : List Report) → AllCode 4 rs₀ → eqb n 0 ≡ false
@@ -56,7 +56,7 @@ only-if who p n test =
     (same-or-not p who)
 
 module _ {ps : Roster} {h : History} {w : Book} {t : List ℕ} {time n : ℕ} {rs₀ : List Report} where
-  pub cover-in-own : Taken ps h w t (fieldsOf kind.CoverIn time n) rs₀
+  pub cover-in-own : AcceptedTicket ps h w t (fieldsOf kind.CoverIn time n) rs₀
       → OwnStepOf ps h w t (fieldsOf kind.CoverIn time n) rs₀
   cover-in-own k =
       let who = accepting.senderNumber w (fieldsOf kind.CoverIn time n) t in
@@ -64,7 +64,7 @@ module _ {ps : Roster} {h : History} {w : Book} {t : List ℕ} {time n : ℕ} {r
       (λ p l. rw (kind-is k) (sym (for-none who p)))
       (λ p l. rw (kind-is k, sent k refl p l, amount-is k) (omega arith))
 
-  pub cover-out-own : Taken ps h w t (fieldsOf kind.CoverOut time n) rs₀
+  pub cover-out-own : AcceptedTicket ps h w t (fieldsOf kind.CoverOut time n) rs₀
       → OwnStepOf ps h w t (fieldsOf kind.CoverOut time n) rs₀
   cover-out-own k =
       let who = accepting.senderNumber w (fieldsOf kind.CoverOut time n) t in
@@ -74,7 +74,7 @@ module _ {ps : Roster} {h : History} {w : Book} {t : List ℕ} {time n : ℕ} {r
       (λ p l. rw (kind-is k) (sym (for-none who p)))
 
   -- with held, a credit; with open debit, a debit: the last cut report tells
-  pub confirm-own : Taken ps h w t (fieldsOf kind.Confirm time n) rs₀
+  pub confirm-own : AcceptedTicket ps h w t (fieldsOf kind.Confirm time n) rs₀
       → OwnStepOf ps h w t (fieldsOf kind.Confirm time n) rs₀
   confirm-own k = go (eqb (c .held) 0) refl (not-false _ (k .passed .r21))
     where
@@ -112,7 +112,7 @@ module _ {ps : Roster} {h : History} {w : Book} {t : List ℕ} {time n : ℕ} {r
           moved-own k (by who Credit n) (sender-below k refl) tt (rw (kind-is k)) (inl refl) (inr refl)
           (λ p l. goes true (rw was) p l ∙ ap (onlyFor who p) all) (comes false (rw was))
 
-  pub tick-own : Taken ps h w t (fieldsOf kind.Tick time n) rs₀
+  pub tick-own : AcceptedTicket ps h w t (fieldsOf kind.Tick time n) rs₀
       → OwnStepOf ps h w t (fieldsOf kind.Tick time n) rs₀
   tick-own k =
       steady k (applied w (orderKept (finding w (fieldsOf kind.Tick time n) t) nobody false Told.Nobody)) [] refl refl (orders-kept k)

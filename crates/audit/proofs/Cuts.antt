@@ -26,15 +26,15 @@ use Rattle.rules.specs.declared.decision.Told.{Told}
 use Rattle.rules.specs.declared.Cover.{Cover}
 use Rattle.rules.specs.declared.Book.{Book}
 use Rattle.rules.proofs.Same.{same-or-not, below-or-not}
-use Rattle.rules.proofs.Moving.{nobody-moves}
+use Rattle.rules.proofs.CoverMoving.{nobody-moves}
 use Rattle.rules.proofs.Cutting.{Closed, cut-right, cut-each}
-use Rattle.rules.proofs.Stepping.{all-closed}
+use Rattle.rules.proofs.StepSound.{all-closed}
 use Rattle.rules.proofs.Accepting.{fieldsOf}
 use Rattle.audit.specs.History.{History, _▹_}
 use Rattle.audit.specs.Sums.{lastCutIn, lastCut}
 use Rattle.audit.proofs.Events.{OwnCover}
-use Rattle.audit.proofs.Telling.{cuts-append, fours-no-cuts, no-cuts}
-use Rattle.audit.proofs.Own.{Taken, takenEvent, OwnStepOf, kind-is, steady, orders-kept}
+use Rattle.audit.proofs.ReportTelling.{cuts-append, fours-no-cuts, no-cuts}
+use Rattle.audit.proofs.Own.{AcceptedTicket, takenEvent, OwnStepOf, kind-is, steady, orders-kept}
 
 -- what a participant is told is no ending
 one-no-ending : (i p : ℕ) (o : Opening) (c : Cover) → endingsIn i (cutReport p o c) ≡ []
@@ -104,7 +104,7 @@ marks-told p told (opening.Cover n) c z = go (ltb n (c .available)) (ltb (c .ava
     go false false = record { held = inl (z .held); debit = inl (z .debit) }
 
 module _ {ps : Roster} {h : History} {w : Book} {t : List ℕ} {time n : ℕ} {rs₀ : List Report}
-    (k : Taken ps h w t (fieldsOf kind.Cut time n) rs₀) where
+    (k : AcceptedTicket ps h w t (fieldsOf kind.Cut time n) rs₀) where
   abbrev rs : List Report
   rs = cutReportsTo (w .roster) (w .covers) (w .roster .size)
 

@@ -15,24 +15,24 @@ use lib.ListN.{length, getD-replicate}
 use Rattle.fields.specs.Text.{same}
 use Rattle.fields.specs.UpTo.{sumTo}
 use Rattle.fields.proofs.UpTo.{sum-same}
-use Rattle.ticket.specs.Layout.{timeOf, txidOf}
+use Rattle.ticket.specs.TicketLayout.{timeOf, txidOf}
 use Rattle.report.specs.Ending.{endingsIn}
 use Rattle.report.specs.declared.Report.{Report}
-use Rattle.dayfile.specs.Limits.{mostParticipants}
+use Rattle.dayfile.specs.FileLimits.{mostParticipants}
 use Rattle.dayfile.specs.declared.roster.Roster.{Roster}
 use Rattle.rules.specs.Book.{noCover, coverOf, bookOf}
 use Rattle.rules.specs.Cover.{whole}
 use Rattle.rules.specs.Inputs.{Input, Seen, seenFrom, bookFrom}
 use Rattle.rules.specs.declared.Order.{Order}
 use Rattle.rules.specs.declared.Book.{Book}
-use Rattle.rules.proofs.Stepping.{file-sound}
+use Rattle.rules.proofs.StepSound.{file-sound}
 use Rattle.audit.specs.History.{Event, History, from, _▹_, participants, Each, sumOver, isKind, isSentBy}
 use Rattle.audit.specs.Sums.{amountIf, coverIn, coverOut, cutBefore, lastCutIn, lastCut, settledTo, settledFrom, returnBy, returnTo, goesOut, comesIn, outgoing, incoming}
 use Rattle.audit.specs.Orders.{isOrder, orderCount, ofOrder, orderAmount, orderTime, isForBank, startEndings, allEndings, isNone, waits, waitingPart, waitingTotal, isFirst4, letsExpire, setsClock, mustExpire, asksAbout, ownEndings, endingTickets, tellsParties}
 use Rattle.audit.specs.Claim.{AllCarry, codeOf, ClaimOf, Claim}
 use Rattle.audit.specs.Run.{eventOf, eventsOn}
 use Rattle.audit.proofs.Nothing as alone
-use Rattle.audit.proofs.Nothing.{rosterOf, ClaimOfEvents}
+use Rattle.audit.proofs.Nothing.{rosterIn, ClaimOfEvents}
 use Rattle.audit.proofs.Theorem.{demand3}
 
 module _ (file : List ℕ) where
@@ -41,7 +41,7 @@ module _ (file : List ℕ) where
   onFresh (e ∷ es) = e ▹ onFresh es
 
   abbrev ps : Roster
-  ps = rosterOf file
+  ps = rosterIn file
 
   same-participants : (es : List Event) → participants (onFresh es) ≡ ps
   same-participants [] = refl
@@ -186,16 +186,16 @@ module _ (file : List ℕ) where
         })
 
 -- the events of what was seen, oldest first, in front of those before
-abbrev pub newestFirst : List Seen → List Event → List Event
-newestFirst [] es = es
-newestFirst (s ∷ later) es = newestFirst later (eventOf s ∷ es)
+abbrev pub seenNewestFirst : List Seen → List Event → List Event
+seenNewestFirst [] es = es
+seenNewestFirst (s ∷ later) es = seenNewestFirst later (eventOf s ∷ es)
 
-on-fresh : (file : List ℕ) (ss : List Seen) (es : List Event) → eventsOn (onFresh file es) ss ≡ onFresh file (newestFirst ss es)
+on-fresh : (file : List ℕ) (ss : List Seen) (es : List Event) → eventsOn (onFresh file es) ss ≡ onFresh file (seenNewestFirst ss es)
 on-fresh file [] es = refl
 on-fresh file (s ∷ later) es = on-fresh file later (eventOf s ∷ es)
 
 pub events-demand3 : (file : List ℕ) (inputs : List Input)
-    → ClaimOfEvents file (newestFirst (seenFrom (bookOf file) inputs) []) (bookFrom (bookOf file) inputs)
+    → ClaimOfEvents file (seenNewestFirst (seenFrom (bookOf file) inputs) []) (bookFrom (bookOf file) inputs)
 events-demand3 file inputs =
-    to-events file (newestFirst (seenFrom (bookOf file) inputs) []) (bookFrom (bookOf file) inputs)
+    to-events file (seenNewestFirst (seenFrom (bookOf file) inputs) []) (bookFrom (bookOf file) inputs)
     (subst (λ (h : History). Claim h (bookFrom (bookOf file) inputs)) (on-fresh file (seenFrom (bookOf file) inputs) []) (demand3 file inputs))

@@ -7,7 +7,7 @@ use native.Mathlib.Omega.{arith}
 use borrow.Author.Tests.{eq-eqb, lt-ltb}
 use Rattle.fields.specs.Text.{same, unpadded}
 use Rattle.fields.proofs.Same.{same-refl, same-true}
-use Rattle.ticket.specs.Layout.{txidField}
+use Rattle.ticket.specs.TicketLayout.{txidField}
 use Rattle.ticket.specs.declared.Fields.{Fields}
 use Rattle.ticket.specs.declared.kinds.Kind.the-variants as kind
 use Rattle.report.specs.Ending.{endingsIn}
@@ -17,7 +17,7 @@ use Rattle.rules.specs.Status.{isWaiting}
 use Rattle.rules.specs.Cover.{transferred}
 use Rattle.rules.specs.Tell.{listed}
 use Rattle.rules.specs.Find.{finding}
-use Rattle.rules.specs.Decision.{nobody, toPayer, toPayee, settledAnswer, answerOf, orderKept, applied}
+use Rattle.rules.specs.Decision.{nobody, toPayer, toPayee, settledAnswer, inquiryAnswer, orderKept, applied}
 use Rattle.rules.specs.declared.finding.Finding.{Finding}
 use Rattle.rules.specs.declared.decision.Told.{Told}
 use Rattle.rules.specs.declared.Recall.{Recall}
@@ -26,18 +26,18 @@ use Rattle.rules.specs.declared.Status.{Status}
 use Rattle.rules.specs.declared.Status.the-variants as status
 use Rattle.rules.specs.declared.Order.{Order}
 use Rattle.rules.specs.declared.Book.{Book}
-use Rattle.rules.proofs.Moving.{for-none}
+use Rattle.rules.proofs.CoverMoving.{for-none}
 use Rattle.rules.proofs.Accepting.{fieldsOf}
 use Rattle.rules.proofs.Accepting as accepting
 use Rattle.audit.specs.History.{History}
 use Rattle.audit.specs.Orders.{orderCount, orderTxid, asksAbout, endCode}
 use Rattle.audit.proofs.Fates.{Fate, SameOrder}
 use Rattle.audit.proofs.Events.{OwnOrder, OwnStep}
-use Rattle.audit.proofs.Telling.{NoCuts}
-use Rattle.audit.proofs.Own.{Taken, takenEvent, OwnStepOf, kind-is, sender-below}
+use Rattle.audit.proofs.ReportTelling.{NoCuts}
+use Rattle.audit.proofs.Own.{AcceptedTicket, takenEvent, OwnStepOf, kind-is, sender-below}
 use Rattle.audit.proofs.About.{AllAbout, about-own, two-covers}
 
-module _ {ps : Roster} {h : History} {w : Book} {t : List ℕ} {time n : ℕ} {rs₀ : List Report} (k : Taken ps h w t (fieldsOf kind.Inquiry time n) rs₀) where
+module _ {ps : Roster} {h : History} {w : Book} {t : List ℕ} {time n : ℕ} {rs₀ : List Report} (k : AcceptedTicket ps h w t (fieldsOf kind.Inquiry time n) rs₀) where
   abbrev f : Fields
   f = fieldsOf kind.Inquiry time n
 
@@ -89,7 +89,7 @@ module _ {ps : Roster} {h : History} {w : Book} {t : List ℕ} {time n : ℕ} {r
       go mark.Asked w′ c = answered _ (refl, (refl, tt)) (refl, (refl, tt)) (repeat-order (toPayer x 2) (toPayee x 8 ∷ []) w′ (simp (eq-eqb j j refl)) c refl)
       go mark.Declined w′ c = answered _ (refl, (refl, tt)) (refl, (refl, tt)) (repeat-order (toPayer x 2) (toPayer x 7 ∷ []) w′ (simp (eq-eqb j j refl)) c refl)
 
-  by-status : (s : Status) → o .status ≡ s → let rs = listed (answerOf x s) in OwnStep ps h (takenEvent t rs₀ rs) w (applied w (orderKept x nobody false Told.Nobody)) rs
+  by-status : (s : Status) → o .status ≡ s → let rs = listed (inquiryAnswer x s) in OwnStep ps h (takenEvent t rs₀ rs) w (applied w (orderKept x nobody false Told.Nobody)) rs
   by-status status.Waiting e = go (x .bank)
     where
       go : (z : Bool) → let rs = cond z (toPayer x 9) (toPayee x 8) ∷ [] in OwnStep ps h (takenEvent t rs₀ rs) w (applied w (orderKept x nobody false Told.Nobody)) rs

@@ -9,10 +9,10 @@ use lib.Dec.{eqb}
 use lib.ListN.{set}
 use lib.Seq.{set-getD}
 use Rattle.fields.specs.Text.{same, unpadded}
-use Rattle.ticket.specs.Layout.{kindByte, amountOf, senderOf}
+use Rattle.ticket.specs.TicketLayout.{kindByte, amountOf, senderOf}
 use Rattle.ticket.specs.Kind.{kindNumber}
 use Rattle.ticket.specs.declared.Fields.{Fields}
-use Rattle.ticket.proofs.Telling.{Tells, tells-bytes}
+use Rattle.ticket.proofs.TicketTelling.{Tells, tells-bytes}
 use Rattle.report.specs.Ending.{endingsIn}
 use Rattle.report.specs.declared.Report.{Report}
 use Rattle.dayfile.specs.Roster.{participantOf}
@@ -29,7 +29,7 @@ use Rattle.rules.specs.declared.decision.Told.{Told}
 use Rattle.rules.specs.declared.Order.{Order}
 use Rattle.rules.specs.declared.Cover.{Cover}
 use Rattle.rules.specs.declared.Book.{Book}
-use Rattle.rules.proofs.Moving.{gain, loss, onlyFor, Fitted, fitted, set-here, set-there, nobody-moves, transfer-whole, transfer-leaves}
+use Rattle.rules.proofs.CoverMoving.{gain, loss, onlyFor, Fitted, fitted, set-here, set-there, nobody-moves, transfer-whole, transfer-leaves}
 use Rattle.rules.proofs.Same.{same-or-not}
 use Rattle.rules.proofs.Refusing.{NoRefusal}
 use Rattle.rules.proofs.Accepting as accepting
@@ -40,7 +40,7 @@ use Rattle.audit.specs.Sums.{lastCut, goesOut, comesIn}
 use Rattle.audit.specs.Orders.{isOrder, orderCount, orderTxid, asksAbout, endCode}
 use Rattle.audit.proofs.Fates.{Fate}
 use Rattle.audit.proofs.Events.{OwnOrder, OwnCover, Growth, OwnStep}
-use Rattle.audit.proofs.Telling.{NoCuts, cut-after}
+use Rattle.audit.proofs.ReportTelling.{NoCuts, cut-after}
 
 -- what is known of the book after the expiries
 pub record Midway (ps : Roster) (h : History) (w : Book) : Type 0 where
@@ -79,7 +79,7 @@ cover-goes ps h e p c c′ adds told held debit = record { adds = adds; held = m
     mark code n n′ (inr same) (inr was) = inr (told ∙ was)
 
 -- a ticket with fields f that no refusal applies to, after the expiries with reports rs₀
-pub record Taken (ps : Roster) (h : History) (w : Book) (t : List ℕ) (f : Fields) (rs₀ : List Report) : Type 0 where
+pub record AcceptedTicket (ps : Roster) (h : History) (w : Book) (t : List ℕ) (f : Fields) (rs₀ : List Report) : Type 0 where
   pub midway : Midway ps h w
   pub tells : Tells t f
   pub clock : w .clock ≡ f .time
@@ -96,7 +96,7 @@ OwnStepOf ps h w t f rs₀ =
     let d = decisionOf (finding w f t) in
     OwnStep ps h (takenEvent t rs₀ (toldBy w d)) w (applied w d) (toldBy w d)
 
-module _ {ps : Roster} {h : History} {w : Book} {t : List ℕ} {f : Fields} {rs₀ : List Report} (k : Taken ps h w t f rs₀) where
+module _ {ps : Roster} {h : History} {w : Book} {t : List ℕ} {f : Fields} {rs₀ : List Report} (k : AcceptedTicket ps h w t f rs₀) where
   pub kind-is : kindByte t ≡ kindNumber (f .kind)
   kind-is = tells-bytes t f (k .tells) .number
 

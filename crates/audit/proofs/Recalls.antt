@@ -23,17 +23,17 @@ use Rattle.rules.specs.declared.Status.{Status}
 use Rattle.rules.specs.declared.Status.the-variants as status
 use Rattle.rules.specs.declared.Order.{Order}
 use Rattle.rules.specs.declared.Book.{Book}
-use Rattle.rules.proofs.Moving.{for-none}
+use Rattle.rules.proofs.CoverMoving.{for-none}
 use Rattle.rules.proofs.Accepting.{fieldsOf}
 use Rattle.rules.proofs.Accepting as accepting
-use Rattle.rules.proofs.Stepping.{unmarked-not-waiting, asked-not-waiting}
+use Rattle.rules.proofs.StepSound.{unmarked-not-waiting, asked-not-waiting}
 use Rattle.audit.specs.History.{History}
 use Rattle.audit.specs.Sums.{firstWith, goesOut, comesIn}
 use Rattle.audit.specs.Orders.{isOrder, asksAbout, endCode}
 use Rattle.audit.proofs.Fates.{Fate}
 use Rattle.audit.proofs.Events.{OwnOrder, OwnStep}
-use Rattle.audit.proofs.Telling.{isCut, first-after}
-use Rattle.audit.proofs.Own.{Taken, takenEvent, OwnStepOf, kind-is, amount-is, sent, sender-below}
+use Rattle.audit.proofs.ReportTelling.{isCut, first-after}
+use Rattle.audit.proofs.Own.{AcceptedTicket, takenEvent, OwnStepOf, kind-is, amount-is, sent, sender-below}
 use Rattle.audit.proofs.About.{status-same, order-held, about-own, two-covers}
 
 -- a settled order was told 2
@@ -57,7 +57,7 @@ marked-order : (asks : Bool) (i : ℕ) (o : Order) (s : Status) (r : Report) →
 marked-order asks i o s r isnt w′ w c =
     record { fate = Fate.kept (rw isnt) (w′ ∙ sym w) c; same = status-same o s; quiet = rw (isnt, w) }
 
-module _ {ps : Roster} {h : History} {w : Book} {t : List ℕ} {f : Fields} {rs₀ : List Report} (k : Taken ps h w t f rs₀)
+module _ {ps : Roster} {h : History} {w : Book} {t : List ℕ} {f : Fields} {rs₀ : List Report} (k : AcceptedTicket ps h w t f rs₀)
     (named : namesOrder (termsOf (f .kind) .subject) ≡ true) (sends : namesSender (termsOf (f .kind) .subject) ≡ true) where
   -- the order's mark changes, one report that is no ending is told, and no cover moves
   mark-own : (s : Status) (r : Report) → r .order ≡ accepting.orderNumber w f t → isEnding (accepting.orderNumber w f t) r ≡ false → isCut r ≡ false
@@ -76,7 +76,7 @@ module _ {ps : Roster} {h : History} {w : Book} {t : List ℕ} {f : Fields} {rs�
       (let z = for-none 0 p in let a = out p in omega arith) (let z = for-none 0 p in let a = in′ p in omega arith))
 
 module _ {ps : Roster} {h : History} {w : Book} {t : List ℕ} {time n : ℕ} {rs₀ : List Report} where
-  pub recall-own : Taken ps h w t (fieldsOf kind.Recall time n) rs₀
+  pub recall-own : AcceptedTicket ps h w t (fieldsOf kind.Recall time n) rs₀
       → OwnStepOf ps h w t (fieldsOf kind.Recall time n) rs₀
   recall-own k =
       let f : Fields = fieldsOf kind.Recall time n in
@@ -86,7 +86,7 @@ module _ {ps : Roster} {h : History} {w : Book} {t : List ℕ} {time n : ℕ} {r
       mark-own k refl refl (status.Settled mark.Asked) (toPayee (finding w f t) 5) refl (and-false (eqb j j)) refl refl
       (unmarked-not-waiting (o .status) right) (sym (unmarked-code (o .status) right)) (rw (kind-is k)) (λ p. rw (kind-is k)) (λ p. rw (kind-is k))
 
-  pub decline-own : Taken ps h w t (fieldsOf kind.Decline time n) rs₀
+  pub decline-own : AcceptedTicket ps h w t (fieldsOf kind.Decline time n) rs₀
       → OwnStepOf ps h w t (fieldsOf kind.Decline time n) rs₀
   decline-own k =
       let f : Fields = fieldsOf kind.Decline time n in
@@ -97,7 +97,7 @@ module _ {ps : Roster} {h : History} {w : Book} {t : List ℕ} {time n : ℕ} {r
       (asked-not-waiting (o .status) right) (sym (asked-code (o .status) right)) (rw (kind-is k)) (λ p. rw (kind-is k)) (λ p. rw (kind-is k))
 
   -- the payee's available falls, the payer's rises, as told by report 6
-  pub return-own : Taken ps h w t (fieldsOf kind.Return time n) rs₀
+  pub return-own : AcceptedTicket ps h w t (fieldsOf kind.Return time n) rs₀
       → OwnStepOf ps h w t (fieldsOf kind.Return time n) rs₀
   return-own k =
       let right = accepting.status-meets w f t (k .passed .r18) in

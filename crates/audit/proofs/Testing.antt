@@ -134,8 +134,8 @@ known-below n (r ∷ rs) k =
 abbrev pub expiryAt : Roster → Event → History → ℕ → Bool
 expiryAt ps e before i = agree (letsExpire i e before) (mustExpire ps i e before)
 
-abbrev pub expiryIn : Roster → ℕ → Event → History → Bool
-expiryIn ps n e before = allTo (expiryAt ps e before) (orderCount before + n)
+abbrev pub expiryTest : Roster → ℕ → Event → History → Bool
+expiryTest ps n e before = allTo (expiryAt ps e before) (orderCount before + n)
 
 abbrev pub knownIn : Event → History → Bool
 knownIn e before = endingsBelow (orderCount before) (e .reports)
@@ -145,7 +145,7 @@ no-other : (ps : Roster) (e : Event) (before : History) (i : ℕ) → orderCount
     → letsExpire i e before ≡ mustExpire ps i e before
 no-other ps e before i l none = simp (none, and-false, le-ltb i (orderCount before) l)
 
-expiry-tells : (ps : Roster) (n : ℕ) (e : Event) (before : History) → (expiryIn ps n e before ≡ true) × Known (orderCount before) (e .reports)
+expiry-tells : (ps : Roster) (n : ℕ) (e : Event) (before : History) → (expiryTest ps n e before ≡ true) × Known (orderCount before) (e .reports)
     → (i : ℕ) → letsExpire i e before ≡ mustExpire ps i e before
 unfolding Known
 expiry-tells ps n e before (t, k) i =
@@ -186,7 +186,7 @@ clauses h b =
     ∷ allTo (reservedAt ps h b) (ps .size)
     ∷ eqb (b .count) (orderCount h)
     ∷ allTo (waitingAt ps h b) (orderCount h)
-    ∷ eachOf (expiryIn ps (orderCount h)) h
+    ∷ eachOf (expiryTest ps (orderCount h)) h
     ∷ eachOf knownIn h
     ∷ allTo (onceAt h) (orderCount h)
     ∷ allTo (alikeAt h) (orderCount h)
@@ -229,10 +229,10 @@ module _ (h : History) (b : Book) where
         held = eqb-true _ _ (c .1 .1 .0);
         waiting = λ i l. agree-true _ _ (all-at (waitingAt ps h b) (orderCount h) i (c .1 .1 .1 .0) l);
         expiry =
-            each-so (λ e before. (expiryIn ps (orderCount h) e before ≡ true) × Known (orderCount before) (e .reports))
+            each-so (λ e before. (expiryTest ps (orderCount h) e before ≡ true) × Known (orderCount before) (e .reports))
             (λ e before. (i : ℕ) → letsExpire i e before ≡ mustExpire ps i e before) (expiry-tells ps (orderCount h)) h
-            (both-each (λ e before. expiryIn ps (orderCount h) e before ≡ true) (λ e before. Known (orderCount before) (e .reports)) h
-            (each-true (expiryIn ps (orderCount h)) (λ e before. expiryIn ps (orderCount h) e before ≡ true) (λ e before q. q) h expiry) known);
+            (both-each (λ e before. expiryTest ps (orderCount h) e before ≡ true) (λ e before. Known (orderCount before) (e .reports)) h
+            (each-true (expiryTest ps (orderCount h)) (λ e before. expiryTest ps (orderCount h) e before ≡ true) (λ e before q. q) h expiry) known);
         known = known;
         once = λ i l. eqb-true _ _ (all-at (onceAt h) (orderCount h) i (c .1 .1 .1 .1 .1 .1 .0) l);
         alike = λ i l. carry-true (codeOf (allEndings i h)) (orderAmount i h) (allEndings i h) (all-at (alikeAt h) (orderCount h) i (c .1 .1 .1 .1 .1 .1 .1 .0) l);
@@ -253,7 +253,7 @@ module _ (h : History) (b : Book) where
               (
                 all-of (waitingAt ps h b) (orderCount h) (λ i l. true-agree _ _ (c .waiting i l)),
                 (
-                  true-each (expiryIn ps (orderCount h)) (λ e before. (i : ℕ) → letsExpire i e before ≡ mustExpire ps i e before)
+                  true-each (expiryTest ps (orderCount h)) (λ e before. (i : ℕ) → letsExpire i e before ≡ mustExpire ps i e before)
                       (λ e before t. all-of (expiryAt ps e before) (orderCount before + orderCount h) (λ i l. true-agree _ _ (t i))) h (c .expiry),
                   (
                     true-each knownIn (λ e before. Known (orderCount before) (e .reports)) (λ e before. known-below (orderCount before) (e .reports)) h (c .known),

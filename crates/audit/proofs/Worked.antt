@@ -14,7 +14,7 @@ use Rattle.fields.proofs.Tests.{and-left, and-right}
 use Rattle.codes.specs.Bic.{isBic}
 use Rattle.iban.specs.Iban.{isIban}
 use Rattle.codes.specs.Txid.{isTxid}
-use Rattle.ticket.specs.Reading.{reading}
+use Rattle.ticket.specs.TicketReading.{reading}
 use Rattle.dayfile.specs.DayFile.{dayFile}
 use Rattle.dayfile.specs.Route.{followed}
 use Rattle.dayfile.specs.declared.roster.Roster.{Roster}
@@ -26,11 +26,11 @@ use Rattle.rules.specs.Step.{stepOf, handed}
 use Rattle.rules.specs.Inputs.{Input, seenFrom, bookFrom}
 use Rattle.rules.specs.Sound.{Sound}
 use Rattle.rules.specs.declared.Book.{Book}
-use Rattle.rules.proofs.Stepping.{file-sound}
+use Rattle.rules.proofs.StepSound.{file-sound}
 use Rattle.audit.specs.History.{History, from, _▹_}
 use Rattle.audit.specs.Sums.{goesOut, comesIn, outgoing, incoming}
 use Rattle.audit.specs.Run.{historyOf}
-use Rattle.audit.proofs.Rows.{inputs, seenOn, bookOn}
+use Rattle.audit.proofs.HistoryRows.{inputs, seenOn, bookOn}
 use Rattle.audit.proofs.Days.{busyFile, busyDay}
 use Rattle.audit.proofs.Corollaries.{startCover, start-on, adds-up}
 

@@ -20,7 +20,7 @@ use lib.Dec.{leb, ltb, eqb}
 use lib.ListN.{length}
 use Rattle.fields.specs.Text.{same, unpadded}
 use Rattle.fields.specs.UpTo.{sumTo}
-use Rattle.ticket.specs.Layout.{timeOf, amountOf, txidOf}
+use Rattle.ticket.specs.TicketLayout.{timeOf, amountOf, txidOf}
 use Rattle.report.specs.Ending.{endingsIn}
 use Rattle.report.specs.declared.Report.{Report}
 use Rattle.dayfile.specs.declared.roster.Roster.{Roster}

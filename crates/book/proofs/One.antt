@@ -7,15 +7,15 @@ use native.Mathlib.Omega.{arith}
 use borrow.Author.Tests.{le-leb, le-ltb, lt-ltb, ne-eqb}
 use lib.Dec.{leb}
 use lib.ListN.{length, take, drop}
-use Rattle.fields.proofs.Reading.{to-end}
+use Rattle.fields.proofs.FromFront.{to-end}
 use Rattle.ticket.specs.Shape.{shapeOf}
 use Rattle.ticket.specs.declared.shapes.Shape.the-variants.{Malformed}
-use Rattle.ticket.proofs.Laws.{read-malformed}
-use Rattle.report.specs.Layout.{laid}
+use Rattle.ticket.proofs.CheckLaws.{read-malformed}
+use Rattle.report.specs.ReportLayout.{laid}
 use Rattle.report.specs.Answer.{answerAt, answersLaid, AllFittingAnswers}
 use Rattle.report.specs.declared.Report.{Report}
 use Rattle.report.specs.declared.answer.Answer.{Answer}
-use Rattle.report.proofs.Answers.{answer-reads-back}
+use Rattle.report.proofs.AnswerLaws.{answer-reads-back}
 use Rattle.rules.specs.Tick.{Step}
 use Rattle.rules.specs.Refusal.{leastBuffer}
 use Rattle.rules.specs.Step.{untouched, stepOf, stepRead, handed, Outcome, handedBack, outcome, bookAfter}
@@ -23,7 +23,7 @@ use Rattle.rules.specs.Taken.{answerOf, answersOf, reportsIn}
 use Rattle.rules.specs.Sound.{Sound}
 use Rattle.rules.specs.declared.Book.{Book}
 use Rattle.course.specs.Running.{ranTo, ran, Ran}
-use Rattle.course.proofs.Printing.{ran-printable}
+use Rattle.course.proofs.PrintedBatches.{ran-printable}
 
 -- without room for an answer no ticket is taken
 no-answer : (m : ℕ) (b : Book) (tickets : List ℕ) (reports : ℕ) → ranTo m b tickets 0 reports ≡ []

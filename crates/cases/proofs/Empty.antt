@@ -6,7 +6,7 @@ use native.Mathlib.Omega.{arith}
 use lib.ListN.{length}
 use Rattle.fields.specs.Number.{part}
 use Rattle.index.specs.Chains.{buckets, rowBucket, Chained}
-use Rattle.index.specs.Lent.{BicRows, TxidRows}
+use Rattle.index.specs.LentRows.{BicRows, TxidRows}
 
 pub no-bics : {rows heads links : List ℕ} → length heads ≡ buckets → Chained (λ i. rowBucket (part 2 (2 * i) rows)) 0 heads links
     → BicRows 0 rows heads links

@@ -10,12 +10,12 @@ use lib.Dec.{leb, eqb}
 use lib.ListN.{length, getD, take, drop, length-take, drop-of-length-le}
 use lib.Seq.{getD-drop}
 use Rattle.fields.specs.Text.{blank, valueLength, unpadded}
-use Rattle.fields.proofs.Reading.{left-from}
+use Rattle.fields.proofs.FromFront.{left-from}
 use Rattle.fields.proofs.Tests.{and-left}
 use Rattle.classes.specs.Class.{isIn, allIn}
 use Rattle.classes.specs.declared.Class.{Class}
 use Rattle.classes.proofs.All.{no-zero}
-use Rattle.classes.specs.Padding.{stands}
+use Rattle.classes.specs.PaddedBytes.{stands}
 
 -- a byte that is not zero, or that has such a byte behind it, is no padding
 pub unpadded-used : (c : ℕ) (s : List ℕ) → eqb c 0 ≡ false → unpadded (c ∷ s) ≡ c ∷ unpadded s

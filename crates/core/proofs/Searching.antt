@@ -8,7 +8,7 @@ use lib.ListN.{length}
 use Rattle.fields.specs.Search.{firstTo}
 use Rattle.fields.specs.Rows.{firstRow}
 use Rattle.fields.proofs.Stores.{length-part}
-use Rattle.ticket.specs.Layout.{senderOf, payeeOf, txidField}
+use Rattle.ticket.specs.TicketLayout.{senderOf, payeeOf, txidField}
 use Rattle.dayfile.specs.Roster.{participantIn, rowOf}
 use Rattle.dayfile.specs.Route.{hasBic}
 use Rattle.dayfile.specs.Guarantee.{Guaranteed}
@@ -20,9 +20,9 @@ use Rattle.rules.specs.Sound.{Sound}
 use Rattle.rules.specs.declared.Book.{Book}
 use Rattle.index.specs.Words.{Bytes, bicWords, txidWords}
 use Rattle.index.specs.Chains.{rowBucket}
-use Rattle.index.specs.Lent.{TxidRows}
+use Rattle.index.specs.LentRows.{TxidRows}
 use Rattle.index.proofs.Comparing.{part-bytes}
-use Rattle.index.proofs.Lending.{bic-found, txid-found, txid-rows}
+use Rattle.index.proofs.LentRows.{bic-found, txid-found, txid-rows}
 use Rattle.sight.specs.Sight.{sightOf}
 use Rattle.turns.proofs.Index.{TxidIndex, row-chained}
 use Rattle.core.specs.Directory.{Directs}

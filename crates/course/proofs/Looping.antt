@@ -10,16 +10,16 @@ use native.Mathlib.Omega.{arith}
 use lib.Dec.{eqb}
 use lib.ListN.{length, length-append}
 use lib.Seq.{sets}
-use Rattle.report.specs.Layout.{reportsBytes}
+use Rattle.report.specs.ReportLayout.{reportsBytes}
 use Rattle.report.specs.declared.Report.{Report}
-use Rattle.report.proofs.Laws.{put-further}
+use Rattle.report.proofs.ReportLaws.{put-further}
 use Rattle.rules.specs.Book.{orderOf}
 use Rattle.rules.specs.Tell.{listed}
 use Rattle.rules.specs.Tick.{Step, sweepTo}
 use Rattle.rules.specs.Sound.{Sound}
 use Rattle.rules.specs.declared.Order.{Order}
 use Rattle.rules.specs.declared.Book.{Book}
-use Rattle.rules.proofs.Sweeping.{swept}
+use Rattle.rules.proofs.SweepSound.{swept}
 use Rattle.rules.proofs.Reporting.{swept-few}
 use Rattle.course.specs.Expiry.{expiryIn, lapsed, Passed}
 use Rattle.course.specs.Taking.{unswept, sweptFor}
@@ -33,8 +33,8 @@ pub record Sweeping (b : Book) (n₀ : ℕ) (text₀ : List ℕ) (c : Book) (m n
   pub passed : Passed m c
 
 module _ (b : Book) (s : Sound b) (n₀ : ℕ) (text₀ : List ℕ) where
-  pub begun : (m : ℕ) → Passed m b → Sweeping b n₀ text₀ b m n₀ text₀
-  begun m p =
+  pub sweep-begun : (m : ℕ) → Passed m b → Sweeping b n₀ text₀ b m n₀ text₀
+  sweep-begun m p =
       let none = passed-none m b p m (omega arith) in
       record {
         book = ap (λ (w : Step). w .book) (sym none);

@@ -24,12 +24,12 @@ module _ (b : Book) (d : Decision) (long : length (b .orders) ≡ mostOrders) (f
   pub other-txid : (i : ℕ) → (i ≡ d .number → ⊥) → orderOf (applied b d .orders) i .txid ≡ orderOf (b .orders) i .txid
   other-txid i n = ap (λ (o : Order). o .txid) (getD-set-other (b .orders) (d .number) i (d .order) noOrder n)
 
-  pub written-txid : orderOf (applied b d .orders) (d .number) .txid ≡ d .order .txid
-  written-txid = ap (λ (o : Order). o .txid) written
+  pub applied-txid : orderOf (applied b d .orders) (d .number) .txid ≡ d .order .txid
+  applied-txid = ap (λ (o : Order). o .txid) written
 
   pub kept-txid : KeepsName b d → (i : ℕ) → orderOf (applied b d .orders) i .txid ≡ orderOf (b .orders) i .txid
   kept-txid k i =
       ⊎-elim
-      (λ (e : i ≡ d .number). rw e (written-txid ∙ k .txid))
+      (λ (e : i ≡ d .number). rw e (applied-txid ∙ k .txid))
       (λ (n : i ≡ d .number → ⊥). other-txid i n)
       (same-or-not i (d .number))

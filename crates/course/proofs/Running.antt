@@ -10,12 +10,12 @@ use lib.Dec.{leb}
 use lib.ListN.{length, take, drop, length-append, length-drop, length-map}
 use lib.Seq.{sets, drop-drop}
 use Rattle.fields.proofs.Tests.{and-left, and-right}
-use Rattle.report.specs.Layout.{reportsBytes, laid}
+use Rattle.report.specs.ReportLayout.{reportsBytes, laid}
 use Rattle.report.specs.Answer.{answerBytes, answersLaid}
 use Rattle.report.specs.declared.Report.{Report}
 use Rattle.report.specs.declared.answer.Answer.{Answer}
-use Rattle.report.proofs.Laws.{length-laid, laid-further-at}
-use Rattle.report.proofs.Answers.{length-answers-laid, answers-laid-more}
+use Rattle.report.proofs.ReportLaws.{length-laid, laid-further-at}
+use Rattle.report.proofs.AnswerLaws.{length-answers-laid, answers-laid-more}
 use Rattle.rules.specs.Tick.{Step}
 use Rattle.rules.specs.Refusal.{leastBuffer}
 use Rattle.rules.specs.Step.{stepOf, bookAfter}

@@ -11,7 +11,7 @@ use Rattle.fields.specs.Search.{numberOf}
 use Rattle.fields.specs.UpTo.{anyTo}
 use Rattle.fields.specs.declared.search.Found.{Found}
 use Rattle.fields.specs.declared.search.Found.the-variants as found
-use Rattle.ticket.specs.Layout.{txidField}
+use Rattle.ticket.specs.TicketLayout.{txidField}
 use Rattle.dayfile.specs.Route.{followedFrom}
 use Rattle.dayfile.specs.declared.roster.Roster.{Roster}
 use Rattle.dayfile.specs.declared.route.Followed.{Followed}
@@ -25,7 +25,7 @@ use Rattle.rules.specs.declared.finding.Finding.{Finding}
 use Rattle.rules.specs.declared.Order.{Order}
 use Rattle.rules.specs.declared.Book.{Book}
 use Rattle.rules.proofs.Same.{same-or-not}
-use Rattle.rules.proofs.Sweeping.{swept}
+use Rattle.rules.proofs.SweepSound.{swept}
 use Rattle.course.specs.Expiry.{expires, stays, expiryIn}
 use Rattle.course.specs.Seeking.{soughtSender, soughtOrder, sought}
 use Rattle.course.specs.declared.Entry.{Entry}

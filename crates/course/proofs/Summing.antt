@@ -13,7 +13,7 @@ use lib.ListN.{length, set, length-set}
 use lib.Seq.{getD-set-other}
 use Rattle.fields.specs.UpTo.{sumTo}
 use Rattle.fields.proofs.UpTo.{sum-part, sum-same}
-use Rattle.dayfile.specs.Limits.{mostParticipants}
+use Rattle.dayfile.specs.FileLimits.{mostParticipants}
 use Rattle.dayfile.specs.Roster.{participantOf}
 use Rattle.dayfile.specs.declared.roster.Opening.{Opening}
 use Rattle.dayfile.specs.declared.roster.Opening.the-variants as opening
@@ -31,14 +31,14 @@ use Rattle.rules.specs.declared.Order.{Order}
 use Rattle.rules.specs.declared.Cover.{Cover}
 use Rattle.rules.specs.declared.Book.{Book}
 use Rattle.rules.proofs.Same.{below-or-not}
-use Rattle.rules.proofs.Moving.{Fitted, set-total}
+use Rattle.rules.proofs.CoverMoving.{Fitted, set-total}
 use Rattle.rules.proofs.Cutting.{cut-each}
-use Rattle.rules.proofs.Sweeping.{swept, due-waits}
-use Rattle.rules.proofs.Limits.{waiting-reserved}
+use Rattle.rules.proofs.SweepSound.{swept, due-waits}
+use Rattle.rules.proofs.SoundLimits.{waiting-reserved}
 use Rattle.course.specs.Room.{mostNumber, Applicable}
 use Rattle.course.specs.Expiry.{expires, stays, expiryIn, lapsed}
 use Rattle.course.proofs.Sweeping.{sweep-book}
-use Rattle.course.proofs.Fitting.{Freeable, expiry-fits}
+use Rattle.course.proofs.SoughtFitting.{Freeable, expiry-fits}
 use Rattle.course.proofs.Applying.{covers, covers-uncut, covers-cut}
 
 -- all cover, of whoever is a participant or not

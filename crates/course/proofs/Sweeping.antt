@@ -18,8 +18,8 @@ use Rattle.rules.specs.Sound.{Sound}
 use Rattle.rules.specs.declared.Order.{Order}
 use Rattle.rules.specs.declared.Book.{Book}
 use Rattle.rules.proofs.Same.{same-or-not, below-or-not}
-use Rattle.rules.proofs.Moving.{nobody-moves}
-use Rattle.rules.proofs.Sweeping.{Swept, swept}
+use Rattle.rules.proofs.CoverMoving.{nobody-moves}
+use Rattle.rules.proofs.SweepSound.{Swept, swept}
 use Rattle.course.specs.Expiry.{expires, stays, expiryIn, lapsed, awaits, Passed}
 use Rattle.course.specs.Taking.{unswept}
 use Rattle.course.specs.declared.Expiry.{Expiry}

@@ -9,7 +9,7 @@ use lib.Dec.{eqb}
 use lib.ListN.{set}
 use lib.Seq.{set-getD}
 use Rattle.fields.specs.Search.{numberOf}
-use Rattle.ticket.specs.Reading.{reading}
+use Rattle.ticket.specs.TicketReading.{reading}
 use Rattle.ticket.specs.declared.Fields.{Fields}
 use Rattle.ticket.specs.declared.Reading.{Reading}
 use Rattle.ticket.specs.declared.Reading.the-variants.{Read, Refused}
@@ -21,7 +21,7 @@ use Rattle.rules.specs.Cover.{transferred}
 use Rattle.rules.specs.Tick.{Step, tick}
 use Rattle.rules.specs.Find.{finding}
 use Rattle.rules.specs.Refusal.{firstOf, firstRefusal, timingOf}
-use Rattle.rules.specs.Decision.{nobody, orderKept, answerOf, decisionOf, applied, toldBy}
+use Rattle.rules.specs.Decision.{nobody, orderKept, inquiryAnswer, decisionOf, applied, toldBy}
 use Rattle.rules.specs.Step.{untouched, ticked, accepted, refusedOr, stepTimed, stepRead, stepOf}
 use Rattle.rules.specs.declared.decision.Transfer.{Transfer}
 use Rattle.rules.specs.declared.decision.Told.{Told}
@@ -35,12 +35,12 @@ use Rattle.rules.specs.declared.Status.{Status}
 use Rattle.rules.specs.declared.Status.the-variants as status
 use Rattle.rules.specs.declared.Order.{Order}
 use Rattle.rules.specs.declared.Book.{Book}
-use Rattle.rules.proofs.Moving.{nobody-moves}
+use Rattle.rules.proofs.CoverMoving.{nobody-moves}
 use Rattle.rules.proofs.Accepting.{fieldsOf}
 use Rattle.course.specs.Entry.{refusedEntry, timedEntry, readEntry}
 use Rattle.course.specs.Seeking.{sought}
 use Rattle.course.specs.Judging.{decidedUnless, judged}
-use Rattle.course.specs.Taking.{unswept, sweptFor, carried, takenAs, takenUp}
+use Rattle.course.specs.Taking.{unswept, sweptFor, carriedOut, takenAs, takenUp}
 use Rattle.course.specs.declared.Entry.{Entry}
 
 -- a finding whose order is the book's own
@@ -71,7 +71,7 @@ module _ (w : Step) where
       (own .count ∙ sym (own′ .count))
 
   -- a refused ticket is carried out as a decision that keeps all as it is
-  refused-carried : (x : Finding) → Own book x → (n : ℕ) → carried w (record { refusal = n; decision = orderKept x nobody false Nobody }) ≡ ticked w n
+  refused-carried : (x : Finding) → Own book x → (n : ℕ) → carriedOut w (record { refusal = n; decision = orderKept x nobody false Nobody }) ≡ ticked w n
   refused-carried x own n =
       λ i. record {
         refusal = n;
@@ -88,12 +88,12 @@ module _ (w : Step) where
       }
 
   -- judged and carried out: refused by n, or accepted
-  judged-carried : (x : Finding) → Own book x → (n : ℕ) → carried w (record { refusal = n; decision = decidedUnless n x }) ≡ refusedOr n w x
+  judged-carried : (x : Finding) → Own book x → (n : ℕ) → carriedOut w (record { refusal = n; decision = decidedUnless n x }) ≡ refusedOr n w x
   judged-carried x own n = go (eqb n 0) refl
     where
       go : (z : Bool) → eqb n 0 ≡ z
-          → carried w (record { refusal = n; decision = cond z (decisionOf x) (orderKept x nobody false Nobody) }) ≡ cond z (accepted w (decisionOf x)) (ticked w n)
-      go true e = ap (λ (m : ℕ). carried w (record { refusal = m; decision = decisionOf x })) (eqb-true n 0 e)
+          → carriedOut w (record { refusal = n; decision = cond z (decisionOf x) (orderKept x nobody false Nobody) }) ≡ cond z (accepted w (decisionOf x)) (ticked w n)
+      go true e = ap (λ (m : ℕ). carriedOut w (record { refusal = m; decision = decisionOf x })) (eqb-true n 0 e)
       go false e = refused-carried x own n
 
 module _ (w : Step) (t : List ℕ) (r time n : ℕ) where
@@ -131,7 +131,7 @@ module _ (w : Step) (t : List ℕ) (r time n : ℕ) where
   kept : (k : Kind) (m : Transfer) (cuts : Bool) (told : Told) → accepted w (orderKept (y k) m cuts told) ≡ accepted w (orderKept (x k) m cuts told)
   kept k = kept-alike w (y k) (x k) (own-y k) (own-x k)
 
-  answers-alike : (s : Status) → answerOf (y kind.Inquiry) s ≡ answerOf (x kind.Inquiry) s
+  answers-alike : (s : Status) → inquiryAnswer (y kind.Inquiry) s ≡ inquiryAnswer (x kind.Inquiry) s
   answers-alike status.Waiting = refl
   answers-alike status.Refused = refl
   answers-alike status.Expired = refl
@@ -159,7 +159,7 @@ module _ (w : Step) (t : List ℕ) (r time n : ℕ) where
   sought-alike k m = ap (λ (a : Step). cond (eqb m 0) a (ticked w m)) (sought-decides k)
 
   -- past 7 to 11
-  passed : (k : Kind) → carried w (judged 0 (y k)) ≡ refusedOr (firstRefusal (x k)) w (x k)
+  passed : (k : Kind) → carriedOut w (judged 0 (y k)) ≡ refusedOr (firstRefusal (x k)) w (x k)
   passed k = judged-carried w (y k) (own-y k) (firstRefusal (y k)) ∙ sought-alike k (firstRefusal (y k)) ∙ ap (λ (m : ℕ). refusedOr m w (x k)) (sought-refuses k)
 
 -- refused by 7 to 11
@@ -181,8 +181,8 @@ module _ (n : ℕ) (refused : eqb n 0 ≡ false) where
   turned : (b : Book) (t : List ℕ) → takenAs b (refusedEntry n (b .clock)) t ≡ untouched b n
   turned b t =
       let x = sought b (refusedEntry n (b .clock)) t in
-      ap (λ (w : Step). carried w (judged n (sought (w .book) (refusedEntry n (b .clock)) t))) (none-swept b)
-      ∙ ap (carried (unswept b)) (judged-refused x)
+      ap (λ (w : Step). carriedOut w (judged n (sought (w .book) (refusedEntry n (b .clock)) t))) (none-swept b)
+      ∙ ap (carriedOut (unswept b)) (judged-refused x)
       ∙ refused-carried (unswept b) x (record { order = refl; count = refl }) n
 
 step-timed : (b : Book) (t : List ℕ) (f : Fields) (z : Timing) → takenAs b (timedEntry (b .clock) f z) t ≡ stepTimed b t f z

@@ -9,17 +9,17 @@ use Rattle.rules.specs.Tick.{Step, sweepTo, atTime}
 use Rattle.rules.specs.Step.{stepOf}
 use Rattle.rules.specs.Sound.{Sound}
 use Rattle.rules.specs.declared.Book.{Book}
-use Rattle.rules.proofs.Keeping.{later-sound}
-use Rattle.rules.proofs.Sweeping.{Swept, swept}
+use Rattle.rules.proofs.SoundKeeping.{later-sound}
+use Rattle.rules.proofs.SweepSound.{Swept, swept}
 use Rattle.course.specs.Room.{Applicable}
 use Rattle.course.specs.Entry.{entryOf}
 use Rattle.course.specs.Seeking.{sought}
 use Rattle.course.specs.Judging.{judged}
-use Rattle.course.specs.Taking.{unswept, sweptFor, carried}
+use Rattle.course.specs.Taking.{unswept, sweptFor, carriedOut}
 use Rattle.course.specs.declared.Entry.{Entry}
 use Rattle.course.specs.declared.Judged.{Judged}
 use Rattle.course.proofs.Taking.{step-taken}
-use Rattle.course.proofs.Fitting.{entered, judged-applicable}
+use Rattle.course.proofs.SoughtFitting.{entered, judged-applicable}
 
 module _ (b : Book) (s : Sound b) (t : List ℕ) where
   abbrev pub entry : Entry
@@ -48,5 +48,5 @@ module _ (b : Book) (s : Sound b) (t : List ℕ) where
   pub applicable : Applicable (after .book) (verdict .decision)
   applicable = judged-applicable (after .book) (after-swept .sound) (b .clock) t entry (entered (b .clock) t)
 
-  pub step-is : stepOf b t ≡ carried after verdict
+  pub step-is : stepOf b t ≡ carriedOut after verdict
   step-is = step-taken b t

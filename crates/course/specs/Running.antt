@@ -9,8 +9,8 @@ use mathlib.Core.Bool.{Bool, _&&_, cond}
 use mathlib.Core.List.{List, [], _∷_}
 use lib.Dec.{leb}
 use lib.ListN.{length, take, drop}
-use Rattle.ticket.specs.Layout.{ticketLength}
-use Rattle.report.specs.Layout.{reportLength, laid}
+use Rattle.ticket.specs.TicketLayout.{ticketLength}
+use Rattle.report.specs.ReportLayout.{reportLength, laid}
 use Rattle.report.specs.Answer.{answerLength, answersLaid}
 use Rattle.rules.specs.Tick.{Step}
 use Rattle.rules.specs.Refusal.{leastBuffer}

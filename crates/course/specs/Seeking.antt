@@ -9,7 +9,7 @@ use mathlib.Core.List.{List}
 use Rattle.fields.specs.Search.{numberOf}
 use Rattle.fields.specs.declared.search.Found.{Found}
 use Rattle.fields.specs.declared.search.Found.the-variants.{Nothing}
-use Rattle.ticket.specs.Layout.{txidField}
+use Rattle.ticket.specs.TicketLayout.{txidField}
 use Rattle.dayfile.specs.declared.route.Followed.the-variants.{Nowhere}
 use Rattle.rules.specs.Book.{orderOf, coverOf, isBank}
 use Rattle.rules.specs.Cover.{total}

@@ -1,7 +1,7 @@
 -- The step as one way for every ticket, refused or not.
 --     unswept     the step that changes nothing
 --     sweptFor    the expiries: none at a ticket that was refused
---     carried     what was judged, carried out
+--     carriedOut    what was judged, carried out
 --     takenUp     the whole step
 -- Assumes nothing.
 use Prim.Native.Nat.{ℕ}
@@ -23,8 +23,8 @@ unswept b = record { refusal = 0; reports = []; rows = 0; book = b }
 abbrev pub sweptFor : ℕ → Book → Step
 sweptFor refusal b = cond (eqb refusal 0) (sweepTo b (b .count)) (unswept b)
 
-abbrev pub carried : Step → Judged → Step
-carried w j =
+abbrev pub carriedOut : Step → Judged → Step
+carriedOut w j =
     record {
       refusal = j .refusal;
       reports = w .reports ++ toldBy (w .book) (j .decision);
@@ -33,7 +33,7 @@ carried w j =
     }
 
 abbrev pub takenAs : Book → Entry → List ℕ → Step
-takenAs b e t = let w = sweptFor (e .refusal) (atTime b (e .time)) in carried w (judged (e .refusal) (sought (w .book) e t))
+takenAs b e t = let w = sweptFor (e .refusal) (atTime b (e .time)) in carriedOut w (judged (e .refusal) (sought (w .book) e t))
 
 abbrev pub takenUp : Book → List ℕ → Step
 takenUp b t = takenAs b (entryOf (b .clock) t) t

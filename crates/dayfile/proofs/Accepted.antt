@@ -13,13 +13,13 @@ use Rattle.fields.specs.Number.{part}
 use Rattle.fields.specs.Text.{same}
 use Rattle.fields.proofs.Tests.{and-left, and-right}
 use Rattle.fields.proofs.UpTo.{all-at, none-at, rows-length, row-at, row-past}
-use Rattle.dayfile.specs.Rows.{participantOk, routeOk, bicAmong}
+use Rattle.dayfile.specs.FileRows.{participantOk, routeOk, bicAmong}
 use Rattle.dayfile.specs.Check.{participantRight, routeRight, participantsOk, routesOk}
 use Rattle.dayfile.specs.Roster.{participantAt, routeAt, rosterOf, emptyRoster, noParticipant, noRoute, participantOf, routeOf}
 use Rattle.dayfile.specs.DayFile.{dayFile}
 use Rattle.dayfile.specs.Guarantee.{ParticipantNumbers, RouteNumbers, RosterNumbers, Guaranteed, GuaranteedFile}
 use Rattle.dayfile.proofs.RowTelling.{participant-bic, participant-opening, participant-numbers, route-bic, route-leads, route-numbers}
-use Rattle.dayfile.proofs.Passing.{Accepted, Refused, outcome, accepted}
+use Rattle.dayfile.proofs.Passing.{Accepted, Refused, file-outcome, passing-accepted}
 use Rattle.dayfile.specs.declared.DayFile.{DayFile}
 use Rattle.dayfile.specs.declared.header.Header.{Header}
 
@@ -122,22 +122,22 @@ guaranteed f =
     let h = a .header in
     rw (a .file) (roster-guaranteed h f (a .range .participants) (a .range .routes) (a .participants) (a .routes)))
     (λ (r : Refused f). rw (r .file) empty-guaranteed)
-    (outcome f)
+    (file-outcome f)
 
 -- its enums have the numbers that stand in the file
-pub numbers : (f : List ℕ) → RosterNumbers f (dayFile f .roster)
-numbers f =
+pub roster-has-numbers : (f : List ℕ) → RosterNumbers f (dayFile f .roster)
+roster-has-numbers f =
     ⊎-elim
     (λ (a : Accepted f).
     let h = a .header in
     rw (a .file) (roster-numbers h f (a .range .participants) (a .range .routes) (a .participants) (a .routes) (a .place .participants) (a .place .routes)))
     (λ (r : Refused f). rw (r .file) (record { participant = λ p l. absurd (not-suc-le-zero l); route = λ i l. absurd (not-suc-le-zero l) }))
-    (outcome f)
+    (file-outcome f)
 
 -- what an accepted file guarantees
 pub file-guaranteed : (f : List ℕ) → dayFile f .refusal ≡ 0 → GuaranteedFile f
 file-guaranteed f z =
-    let a = accepted f z in
+    let a = passing-accepted f z in
     let p = a .place in
     record {
       roster = guaranteed f;
@@ -153,7 +153,7 @@ with-tickets f k h =
     ⊎-elim
     (λ (a : Accepted f). ap (λ (d : DayFile). d .refusal) (a .file))
     (λ (r : Refused f). absurd (let none = ap (λ (d : DayFile). d .tickets) (r .file) in omega arith))
-    (outcome f)
+    (file-outcome f)
 
 -- its tickets lie within it
 pub tickets-within : (f : List ℕ) (k : ℕ) → k < dayFile f .tickets → dayFile f .first + 108 * k + 108 ≤ length f

@@ -10,7 +10,7 @@ use lib.Dec.{leb, eqb}
 use lib.ListN.{length}
 use Rattle.fields.proofs.Tests.{and-left, and-right, passed}
 use Rattle.dayfile.specs.Header.{headed}
-use Rattle.dayfile.specs.Check.{InRange, ranged, placed, participantsOk, routesOk, enrolled}
+use Rattle.dayfile.specs.Check.{CountsInRange, ranged, placed, participantsOk, routesOk, enrolled}
 use Rattle.dayfile.specs.DayFile.{dayFile, fileHeaded, fileRanged, filePlaced, fileEnrolled, fileRouted, refusedFile, acceptedFile}
 use Rattle.dayfile.specs.declared.DayFile.{DayFile}
 use Rattle.dayfile.specs.declared.header.Header.{Header}
@@ -24,8 +24,8 @@ use Rattle.dayfile.specs.declared.check.Enrolled.the-variants as partici
 use Rattle.dayfile.specs.declared.check.Routed.the-variants as routes-are
 
 -- 2 passed: the counts are in range
-pub in-range : (h : Header) → ranged h ≡ Within → InRange (h .counts)
-in-range h e =
+pub counts-in-range : (h : Header) → ranged h ≡ Within → CountsInRange (h .counts)
+counts-in-range h e =
     record {
       least = leb-true 1 p (and-left a b ab);
       participants = leb-true p 32 (and-right a b ab);
@@ -130,7 +130,7 @@ module _ (f : List ℕ) (h : Header) (head : headed f ≡ As h) where
 pub record Accepted (f : List ℕ) : Type 0 where
   pub header : Header
   pub head : headed f ≡ As header
-  pub range : InRange (header .counts)
+  pub range : CountsInRange (header .counts)
   pub place : InPlace header (length f)
   pub participants : participantsOk (header .offsets .participants) (header .counts .participants) f ≡ true
   pub routes : routesOk (header .counts .participants) (header .offsets .routes) (header .counts .routes) f ≡ true
@@ -145,8 +145,8 @@ pub record Refused (f : List ℕ) : Type 0 where
 refused-by : (f : List ℕ) (n : ℕ) → 1 ≤ n → dayFile f ≡ refusedFile n → Accepted f ⊎ Refused f
 refused-by f n h e = inr (record { number = n; some = h; file = e })
 
-pub outcome : (f : List ℕ) → Accepted f ⊎ Refused f
-outcome f = from-head (headed f) refl
+pub file-outcome : (f : List ℕ) → Accepted f ⊎ Refused f
+file-outcome f = from-head (headed f) refl
   where
     from-routes : (h : Header) → headed f ≡ As h → ranged h ≡ Within → placed h (length f) ≡ Right
         → (p : Bool) → participantsOk (h .offsets .participants) (h .counts .participants) f ≡ p
@@ -156,7 +156,7 @@ outcome f = from-head (headed f) refl
         (record {
           header = h;
           head = e₁;
-          range = in-range h e₂;
+          range = counts-in-range h e₂;
           place = in-place h (length f) e₃;
           participants = e₄;
           routes = e₅;
@@ -180,6 +180,6 @@ outcome f = from-head (headed f) refl
     from-head (As h) e = from-range h e (ranged h) refl
     from-head Short e = refused-by f 1 (omega arith) (file-is-headed f ∙ ap (fileHeaded f) e)
 
-pub accepted : (f : List ℕ) → dayFile f .refusal ≡ 0 → Accepted f
-accepted f z =
-    ⊎-elim (λ (a : Accepted f). a) (λ (r : Refused f). absurd (let e = r .some in let w = ap (λ (d : DayFile). d .refusal) (r .file) in omega arith)) (outcome f)
+pub passing-accepted : (f : List ℕ) → dayFile f .refusal ≡ 0 → Accepted f
+passing-accepted f z =
+    ⊎-elim (λ (a : Accepted f). a) (λ (r : Refused f). absurd (let e = r .some in let w = ap (λ (d : DayFile). d .refusal) (r .file) in omega arith)) (file-outcome f)

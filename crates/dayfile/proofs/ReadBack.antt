@@ -11,17 +11,17 @@ use Rattle.codes.specs.Bic.{isBic}
 use Rattle.fields.specs.Number.{part, bytesOf}
 use Rattle.fields.specs.Text.{text, same}
 use Rattle.fields.proofs.UpTo.{all-to, none-to, row-at}
-use Rattle.fields.proofs.Holding.{Holds, held-first, held-whole, held-behind, held-in, held-at, held-part, held-number}
+use Rattle.fields.proofs.Holding.{HoldsAt, held-first, held-whole, held-behind, held-in, held-at, held-part, held-number}
 use Rattle.dayfile.specs.Header.{sectionsAt, headed}
 use Rattle.dayfile.specs.Check.{routesPlace, ticketsPlace, ranged, placed, participantRight, routeRight, participantsOk, routesOk}
-use Rattle.dayfile.specs.Rows.{bicAmong}
+use Rattle.dayfile.specs.FileRows.{bicAmong}
 use Rattle.dayfile.specs.Roster.{targetNumber, noParticipant, noRoute, participantAt, routeAt, participantIn, rowOf, participantOf, routeOf}
 use Rattle.dayfile.specs.DayFile.{dayFile, acceptedFile, ticketAt}
 use Rattle.dayfile.specs.Guarantee.{LeadsWithin}
-use Rattle.dayfile.specs.Writing.{headerFor, sectionsBytes, headerBytes, countsOf, fileBytes, WellFormedDay, bank, direct}
+use Rattle.dayfile.specs.FileWriting.{headerFor, sectionsBytes, headerBytes, countsOf, fileBytes, WellFormedDay, bank, direct}
 use Rattle.dayfile.proofs.Passing.{file-accepted}
-use Rattle.dayfile.proofs.Laid.{file-length, participant-held, route-held, ticket-held}
-use Rattle.dayfile.proofs.Written.{participant-back, participant-written, route-back, route-written}
+use Rattle.dayfile.proofs.FilePlaces.{file-length, participant-held, route-held, ticket-held}
+use Rattle.dayfile.proofs.RowsReadBack.{participant-back, participant-written, route-back, route-written}
 use Rattle.dayfile.specs.declared.DayFile.{DayFile}
 use Rattle.dayfile.specs.declared.header.Sections.{Sections}
 use Rattle.dayfile.specs.declared.header.Header.{Header}
@@ -44,7 +44,7 @@ pub record ReadBack (ps : List Participant) (rs : List Route) (ts : List (List �
   pub ticket : (k : ℕ) → k < length ts → ticketAt (fileBytes ps rs ts) k ≡ getD ts k []
 
 -- three numbers of two bytes
-sections-back : (f : List ℕ) (at : ℕ) (n : Sections) → Holds f at (sectionsBytes n)
+sections-back : (f : List ℕ) (at : ℕ) (n : Sections) → HoldsAt f at (sectionsBytes n)
     → n .participants < 65536 → n .routes < 65536 → n .tickets < 65536 → sectionsAt at f ≡ n
 sections-back f at n h p r t =
     simp (

@@ -11,8 +11,8 @@ use Rattle.codes.specs.Bic.{isBic}
 use Rattle.fields.specs.Number.{part, numberAt}
 use Rattle.fields.specs.Text.{blank}
 use Rattle.fields.proofs.Tests.{and-left, and-right}
-use Rattle.dayfile.specs.Limits.{mostOpening}
-use Rattle.dayfile.specs.Rows.{participantOk, boundOf, routeOk}
+use Rattle.dayfile.specs.FileLimits.{mostOpening}
+use Rattle.dayfile.specs.FileRows.{participantOk, boundOf, routeOk}
 use Rattle.dayfile.specs.Roster.{partyNumber, wishNumber, openingNumber, targetKind, targetNumber, kindOf, openingOf, targetOf, participantAt, routeAt}
 use Rattle.dayfile.specs.Guarantee.{OpeningWithin, LeadsWithin, ParticipantNumbers, RouteNumbers}
 use Rattle.dayfile.specs.declared.roster.Opening.the-variants.{None, Cover}

@@ -19,7 +19,7 @@ use lib.Dec.{eqb}
 use lib.ListN.{getD, replicate}
 use Rattle.fields.specs.Number.{part, numberAt}
 use Rattle.fields.specs.UpTo.{rowsTo}
-use Rattle.dayfile.specs.Limits.{mostParticipants, mostRoutes, participantLength, routeLength}
+use Rattle.dayfile.specs.FileLimits.{mostParticipants, mostRoutes, participantLength, routeLength}
 use Rattle.dayfile.specs.declared.header.Header.{Header}
 use Rattle.dayfile.specs.declared.roster.PartyKind.{PartyKind}
 use Rattle.dayfile.specs.declared.roster.PartyKind.the-variants.{Bank, Linked}

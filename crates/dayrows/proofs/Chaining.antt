@@ -15,7 +15,7 @@ use Rattle.fields.specs.Number.{part}
 use Rattle.fields.specs.Text.{same}
 use Rattle.fields.specs.UpTo.{allTo, anyTo}
 use Rattle.fields.proofs.Same.{same-true}
-use Rattle.dayfile.specs.Rows.{bicAmong}
+use Rattle.dayfile.specs.FileRows.{bicAmong}
 use Rattle.dayrows.specs.Chains.{buckets, bicBucket, bicIn, lastTo, Chained, Searchable, bicRepeats}
 
 never : {A : Type 0} → _≡_ {A = Bool} true false → A

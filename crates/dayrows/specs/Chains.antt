@@ -16,7 +16,7 @@ use lib.Dec.{eqb}
 use lib.ListN.{length, getD}
 use Rattle.fields.specs.Number.{part, numberAt}
 use Rattle.fields.specs.UpTo.{anyTo}
-use Rattle.dayfile.specs.Rows.{bicAmong}
+use Rattle.dayfile.specs.FileRows.{bicAmong}
 
 abbrev pub buckets : ℕ
 buckets = 251

@@ -5,7 +5,7 @@ ghost use Prim.Native.Nat.{_+_, _*_, _≤_, _<_};
 ghost use lib.ListN.{length, getD, set};
 ghost use Rattle.fields.specs.Number.{part};
 ghost use Rattle.fields.specs.Text.{same};
-ghost use Rattle.dayfile.specs.Rows.{bicAmong};
+ghost use Rattle.dayfile.specs.FileRows.{bicAmong};
 ghost use Rattle.dayrows.specs.Chains.{buckets, bicBucket, Searchable, bicRepeats};
 
 fn same_bic(f: &[u8], a: usize, b: usize) -> bool

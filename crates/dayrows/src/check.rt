@@ -11,8 +11,8 @@ use ticket::layout;
 ghost use mathlib.Core.Path.{_≡_};
 ghost use Prim.Native.Nat.{_+_, _*_, _≤_};
 ghost use lib.ListN.{length};
-ghost use Rattle.dayfile.specs.Limits.{mostParticipants, mostRoutes, participantLength, routeLength};
-ghost use Rattle.dayfile.specs.Check.{InRange, ranged, placed, enrolled, routed};
+ghost use Rattle.dayfile.specs.FileLimits.{mostParticipants, mostRoutes, participantLength, routeLength};
+ghost use Rattle.dayfile.specs.Check.{CountsInRange, ranged, placed, enrolled, routed};
 
 pub fn check_counts(h: Header) -> Ranged
     ensures { λ r. ⌜ r ≡ ranged h ⌝ }
@@ -30,7 +30,7 @@ pub fn check_counts(h: Header) -> Ranged
 }
 
 pub fn check_places(h: Header, length: usize) -> Placed
-    requires { ⌜ InRange (h .counts) ⌝ }
+    requires { ⌜ CountsInRange (h .counts) ⌝ }
     ensures { λ r. ⌜ r ≡ placed h length ⌝ }
 {
     let n = h.counts;

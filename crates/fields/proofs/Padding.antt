@@ -43,8 +43,8 @@ length-back s n p h =
     ∙ ap (cond (eqb (getD s (n - 1) 0) 0) (valueLength (take (n - 1) s))) n-is
 
 -- a field whose last byte is not zero is its value
-pub whole : (s : List ℕ) (i : ℕ) → i + 1 ≡ length s → eqb (getD s i 0) 0 ≡ false → unpadded s ≡ s
-whole s i e h = take-all (valueLength s) s (le-of-eq (sym long))
+pub unpadded-whole : (s : List ℕ) (i : ℕ) → i + 1 ≡ length s → eqb (getD s i 0) 0 ≡ false → unpadded s ≡ s
+unpadded-whole s i e h = take-all (valueLength s) s (le-of-eq (sym long))
   where
     long : valueLength s ≡ length s
     long =

@@ -8,7 +8,7 @@ use native.Mathlib.Omega.{arith}
 use lib.ListN.{length, getD, set, take, drop, length-drop, length-append}
 use lib.Seq.{set-at, append-snoc, take-suc, sets, sets-eq, take-at, drop-at, take-nil, take-take, take-add, drop-drop, drop-cons, length-take-le}
 use Rattle.fields.specs.Number.{part}
-use Rattle.fields.proofs.Reading.{left-from}
+use Rattle.fields.proofs.FromFront.{left-from}
 
 pub sets-append : (l : List ℕ) (i : ℕ) (a b : List ℕ) → sets l i (a ++ b) ≡ sets (sets l i a) (i + length a) b
 sets-append l i [] b = ap (λ (k : ℕ). sets l k b) (sym (add-zero i))

@@ -1,3 +1,3 @@
-mod Lending
-mod Going
+mod LentText
+mod BetweenPieces
 mod Stepping

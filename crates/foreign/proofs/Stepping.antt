@@ -5,7 +5,7 @@ use Prim.Native.Nat.{ℕ, _+_, _≤_}
 use native.Mathlib.Omega.{arith}
 use borrow.Author.Tests.{eq-eqb, ne-eqb}
 use lib.ListN.{length, drop}
-use Rattle.report.specs.Layout.{laid}
+use Rattle.report.specs.ReportLayout.{laid}
 use Rattle.report.specs.Answer.{answersLaid}
 use Rattle.dayfile.specs.DayFile.{dayFile}
 use Rattle.dayfile.proofs.Accepted.{file-guaranteed}
@@ -16,14 +16,14 @@ use Rattle.rules.specs.declared.Book.{Book}
 use Rattle.course.specs.Running.{ran, Ran}
 use Rattle.book.specs.Opening.{opened}
 use Rattle.book.specs.declared.opening.Opened.{Opened}
-use Rattle.foreign.specs.Stepped.{ticketBytes, taken, Stepped}
+use Rattle.foreign.specs.Stepped.{ticketSection, stepsTaken, Stepped}
 
 none : (b : Book) (a r : ℕ) → ran b [] a r ≡ []
 unfolding ran
 none b a r = refl
 
 module _ (file answers₀ reports₀ : List ℕ) where
-  by : {k : ℕ} {answers reports : List ℕ} (ss : List Step) → taken file (length answers₀) (length reports₀) ≡ ss → k ≡ length ss
+  by : {k : ℕ} {answers reports : List ℕ} (ss : List Step) → stepsTaken file (length answers₀) (length reports₀) ≡ ss → k ≡ length ss
       → answers ≡ answersLaid (answersOf ss) answers₀ → reports ≡ laid (reportsIn ss) reports₀ → Stepped file answers₀ reports₀ k answers reports
   by ss e n a r = record { count = rw e n; answers-are = rw e a; reports-are = rw e r }
 
@@ -38,12 +38,12 @@ module _ (file answers₀ reports₀ : List ℕ) where
 
   -- of what was opened
   module _ (o : Opened) (e : o ≡ opened file) where
-    pub turned-back : (o .refusal ≡ 0 → ⊥) → Stepped file answers₀ reports₀ 0 answers₀ reports₀
-    turned-back h = refused (λ z. h (ap (λ (x : Opened). x .refusal) e ∙ z))
+    pub refused-stepped : (o .refusal ≡ 0 → ⊥) → Stepped file answers₀ reports₀ 0 answers₀ reports₀
+    refused-stepped h = refused (λ z. h (ap (λ (x : Opened). x .refusal) e ∙ z))
 
-    pub carried : {c : Book} {k : ℕ} {answers reports : List ℕ} → o .refusal ≡ 0 → Ran (o .book) (drop (o .first) file) answers₀ reports₀ c k answers reports
+    pub accepted-stepped : {c : Book} {k : ℕ} {answers reports : List ℕ} → o .refusal ≡ 0 → Ran (o .book) (drop (o .first) file) answers₀ reports₀ c k answers reports
         → Stepped file answers₀ reports₀ k answers reports
-    carried {c} {k} {answers} {reports} h w =
+    accepted-stepped {c} {k} {answers} {reports} h w =
         accepted (sym (ap (λ (x : Opened). x .refusal) e) ∙ h)
         (subst (λ (x : Opened). Ran (x .book) (drop (x .first) file) answers₀ reports₀ c k answers reports) e w)
 

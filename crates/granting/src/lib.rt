@@ -9,7 +9,7 @@ use rules::verdict::Notice;
 use rules::verdict::Verdict;
 ghost use mathlib.Core.Path.{_≡_};
 ghost use mathlib.Core.Bool.{cond};
-ghost use Rattle.verdict.specs.Step.{notice, none, refusedVerdict, nothing, coverMoved, opened, settled, turnedDown, marked, recalled, declined, returned, answerTold, markTold, answerAlso, answered, cutVerdict};
+ghost use Rattle.verdict.specs.OwnStep.{notice, noNotice, refusedVerdict, nothing, coverMoved, opened, settled, turnedDown, marked, recalled, declined, returned, answerTold, markTold, answerAlso, answered, cutVerdict};
 
 // All but the refusal is nothing.
 pub fn refused(n: u8) -> Verdict
@@ -81,7 +81,7 @@ pub fn opened(i: usize, payer: usize, payee: usize, n: u64) -> Verdict
 }
 
 fn payee_told(a: About, bank: bool) -> Notice
-    ensures { λ r. ⌜ r ≡ cond bank (notice (a .payee) 2) none ⌝ }
+    ensures { λ r. ⌜ r ≡ cond bank (notice (a .payee) 2) noNotice ⌝ }
 {
     if bank {
         return Notice {

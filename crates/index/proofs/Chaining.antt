@@ -147,18 +147,18 @@ searchable bucketOf {width} {n} {heads} {links} {rows} c headed linked long dist
 
 -- a search along a chain: what is left of it below a row of the bucket
 module _ (width n bucket : ℕ) (heads links rows field : List ℕ) (s : Searchable width n bucket heads links rows field) where
-  abbrev pub holds : ℕ → Bool
-  holds i = same (part width (width * i) rows) field
+  abbrev pub rowHolds : ℕ → Bool
+  rowHolds i = same (part width (width * i) rows) field
 
   abbrev inBucket : ℕ → Bool
   inBucket i = eqb (s .bucketOf i) bucket
 
-  in-bucket : (i : ℕ) → i < n → holds i ≡ true → inBucket i ≡ true
+  in-bucket : (i : ℕ) → i < n → rowHolds i ≡ true → inBucket i ≡ true
   in-bucket i l e = eq-eqb (s .bucketOf i) bucket (s .tells i l e)
 
   pub record LeftBelow (at : ℕ) : Type 0 where
     pub few : at ≤ n
-    pub left : lastTo holds n ≡ lastTo holds at
+    pub left : lastTo rowHolds n ≡ lastTo rowHolds at
     pub own : (i : ℕ) → at ≡ suc i → s .bucketOf i ≡ bucket
 
   -- at the head, and at the link of a row that does not hold the field
@@ -167,7 +167,7 @@ module _ (width n bucket : ℕ) (heads links rows field : List ℕ) (s : Searcha
       let e = s .chained .head bucket (s .inside) in
       record {
         few = let l = last-few inBucket n in omega arith;
-        left = last-told inBucket holds n in-bucket ∙ ap (lastTo holds) (sym e);
+        left = last-told inBucket rowHolds n in-bucket ∙ ap (lastTo rowHolds) (sym e);
         own = λ i q. eqb-true (s .bucketOf i) bucket (last-passes inBucket n i (sym e ∙ q));
       }
 
@@ -179,7 +179,7 @@ module _ (width n bucket : ℕ) (heads links rows field : List ℕ) (s : Searcha
   pub link-falls : (i : ℕ) → LeftBelow (i + 1) → getD links i 0 ≤ i
   link-falls i w = let e = link-is i w in let l = last-few inBucket i in omega arith
 
-  pub left-at-link : (i : ℕ) → LeftBelow (i + 1) → holds i ≡ false → LeftBelow (getD links i 0)
+  pub left-at-link : (i : ℕ) → LeftBelow (i + 1) → rowHolds i ≡ false → LeftBelow (getD links i 0)
   left-at-link i w other =
       let below : i < n = let l = w .few in omega arith in
       let e = link-is i w in
@@ -187,28 +187,28 @@ module _ (width n bucket : ℕ) (heads links rows field : List ℕ) (s : Searcha
         few = let l = last-few inBucket i in omega arith;
         left =
             w .left
-            ∙ ap (lastTo holds) (add-one i)
-            ∙ ap (λ (b : Bool). cond b (suc i) (lastTo holds i)) other
-            ∙ last-told inBucket holds i (λ j l. in-bucket j (omega arith))
-            ∙ ap (lastTo holds) (sym e);
+            ∙ ap (lastTo rowHolds) (add-one i)
+            ∙ ap (λ (b : Bool). cond b (suc i) (lastTo rowHolds i)) other
+            ∙ last-told inBucket rowHolds i (λ j l. in-bucket j (omega arith))
+            ∙ ap (lastTo rowHolds) (sym e);
         own = λ j q. eqb-true (s .bucketOf j) bucket (last-passes inBucket i j (sym e ∙ q));
       }
 
   -- no two rows hold the field
-  alone : (i j : ℕ) → i < j → j < n → holds i ≡ true → holds j ≡ false
-  alone i j l k e = go (holds j) refl
+  alone : (i j : ℕ) → i < j → j < n → rowHolds i ≡ true → rowHolds j ≡ false
+  alone i j l k e = go (rowHolds j) refl
     where
-      go : (b : Bool) → holds j ≡ b → b ≡ false
+      go : (b : Bool) → rowHolds j ≡ b → b ≡ false
       go true q =
           never
           (sym (ap₂ same (same-true (part width (width * i) rows) field e) (same-true (part width (width * j) rows) field q) ∙ same-refl field)
           ∙ s .distinct .differ i j l k)
       go false q = refl
 
-  pub found-there : (i : ℕ) → LeftBelow (i + 1) → holds i ≡ true → firstRow width n field rows ≡ At i
+  pub found-there : (i : ℕ) → LeftBelow (i + 1) → rowHolds i ≡ true → firstRow width n field rows ≡ At i
   found-there i w e =
-      first-last holds n alone
-      ∙ ap lastFound (w .left ∙ ap (lastTo holds) (add-one i) ∙ ap (λ (b : Bool). cond b (suc i) (lastTo holds i)) e)
+      first-last rowHolds n alone
+      ∙ ap lastFound (w .left ∙ ap (lastTo rowHolds) (add-one i) ∙ ap (λ (b : Bool). cond b (suc i) (lastTo rowHolds i)) e)
 
   pub found-nowhere : LeftBelow 0 → firstRow width n field rows ≡ Nothing
-  found-nowhere w = first-last holds n alone ∙ ap lastFound (w .left)
+  found-nowhere w = first-last rowHolds n alone ∙ ap lastFound (w .left)

@@ -15,7 +15,7 @@ use Rattle.classes.specs.declared.Class.{Class}
 use Rattle.classes.specs.declared.Class.the-variants.{Capital, Small, Digit, CapitalOr2To9, CapitalButOOrDigit, CapitalOrDigit, LetterOrDigit, Txid}
 use Rattle.codes.specs.Bic.{isBic}
 use Rattle.codes.specs.Txid.{isTxid}
-use Rattle.codes.proofs.Whole.{bic-length}
+use Rattle.codes.proofs.WholeCodes.{bic-length}
 use Rattle.index.specs.Words.{Bytes}
 use Rattle.index.proofs.Chaining.{never}
 use Rattle.index.proofs.Comparing.{rest-bytes}

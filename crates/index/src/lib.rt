@@ -16,7 +16,7 @@ ghost use Rattle.fields.specs.Rows.{firstRow, Indexed};
 ghost use Rattle.dayfile.specs.Roster.{participantIn, rowOf};
 ghost use Rattle.rules.specs.Book.{orderOf};
 ghost use Rattle.index.specs.Chains.{buckets, rowBucket};
-ghost use Rattle.index.specs.Lent.{BicRows, TxidRows};
+ghost use Rattle.index.specs.LentRows.{BicRows, TxidRows};
 ghost use Rattle.index.specs.Words.{bicWords, txidWords};
 
 pub fn bics_of(participants: [Participant; 32], size: usize) -> [u64; 64]

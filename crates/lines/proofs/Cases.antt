@@ -3,7 +3,7 @@ use mathlib.Core.Path.{refl}
 use mathlib.Core.List.{List, [], _∷_, _++_}
 use Prim.Native.Nat.{ℕ}
 use Rattle.fields.specs.Text.{text}
-use Rattle.fields.proofs.Rows.{Row, AllMet, all-met}
+use Rattle.fields.proofs.CaseRows.{Row, AllMet, all-met}
 use Rattle.rules.specs.declared.Cover.{Cover}
 use Rattle.lines.specs.Lines.{shown, spaced, linesTo, coversTo, refusalLine}
 

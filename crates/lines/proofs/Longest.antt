@@ -24,20 +24,20 @@ spaced-four a b c d =
     let h = spaced-one d in
     omega arith
 
-pub answer-most : (n : ℕ) (a : Answer) → a .refusal < 256 → a .reports < 65536 → a .rows < 256 → length (answerLine n a) ≤ 37
-answer-most n a h k l =
+pub answer-line-most : (n : ℕ) (a : Answer) → a .refusal < 256 → a .reports < 65536 → a .rows < 256 → length (answerLine n a) ≤ 37
+answer-line-most n a h k l =
     let e = spaced-four n (a .refusal) (a .reports) (a .rows) in
     omega (arith, shown-most n, shown-byte (a .refusal) h, shown-two-bytes (a .reports) k, shown-byte (a .rows) l)
 
-pub report-most : (r : Report) → r .to < 256 → r .code < 256 → r .order < 65536 → length (reportLine r) ≤ 37
-report-most r h k l =
+pub report-line-most : (r : Report) → r .to < 256 → r .code < 256 → r .order < 65536 → length (reportLine r) ≤ 37
+report-line-most r h k l =
     let e = spaced-four (r .to) (r .code) (r .order) (r .amount) in
     omega (arith, shown-byte (r .to) h, shown-byte (r .code) k, shown-two-bytes (r .order) l, shown-most (r .amount))
 
-pub cover-most : (p : ℕ) (c : Cover) → length (coverLine p c) ≤ 86
-cover-most p c =
+pub cover-line-most : (p : ℕ) (c : Cover) → length (coverLine p c) ≤ 86
+cover-line-most p c =
     let e = spaced-four p (c .available) (c .reserved) (c .held) in
     omega (arith, shown-most p, shown-most (c .available), shown-most (c .reserved), shown-most (c .held))
 
-pub refusal-most : (n : ℕ) → n < 256 → length (refusalLine n) ≤ 6
-refusal-most n h = let e = spaced-one n in omega (arith, shown-byte n h)
+pub refusal-line-most : (n : ℕ) → n < 256 → length (refusalLine n) ≤ 6
+refusal-line-most n h = let e = spaced-one n in omega (arith, shown-byte n h)

@@ -10,14 +10,14 @@
 --     coverLine     the line of a participant with its number
 --     coversTo      the lines of the first n participants
 --     refusalLine   the line of a refused day file
---     mostLine      the longest line of a ticket or a report; mostCover, mostRefusal: of a participant, of a refused day file
+--     longestLine    the longest line of a ticket or a report; longestCoverLine, longestRefusalLine: of a participant, of a refused day file
 --     Lined         the lines of tickets can be written: their answers and reports stand in the buffers, and the text has room
 -- Assumes nothing.
 use Prim.Native.Nat.{ℕ, zero, suc, _+_, _*_, _^_, _≤_, _<_}
 use mathlib.Core.List.{List, [], _∷_, _++_}
 use lib.ListN.{length}
 use Rattle.fields.specs.Text.{text}
-use Rattle.report.specs.Layout.{reportLength, reportAt}
+use Rattle.report.specs.ReportLayout.{reportLength, reportAt}
 use Rattle.report.specs.Answer.{answerLength, answerAt}
 use Rattle.report.specs.declared.Report.{Report}
 use Rattle.report.specs.declared.answer.Answer.{Answer}
@@ -64,17 +64,17 @@ abbrev pub refusalLine : ℕ → List ℕ
 refusalLine n = text "F" ++ spaced (n ∷ [])
 
 -- a letter, the end of the line, and a space before each number: 20 digits for a number of 64 bits, 5 for 16, 3 for 8
-abbrev pub mostLine : ℕ
-mostLine = 37
+abbrev pub longestLine : ℕ
+longestLine = 37
 
-abbrev pub mostCover : ℕ
-mostCover = 86
+abbrev pub longestCoverLine : ℕ
+longestCoverLine = 86
 
-abbrev pub mostRefusal : ℕ
-mostRefusal = 6
+abbrev pub longestRefusalLine : ℕ
+longestRefusalLine = 6
 
 pub record Lined (k taken : ℕ) (answers reports text : List ℕ) : Type 0 where
   pub answered : answerLength * taken ≤ length answers
   pub reported : reportLength * startOf answers taken ≤ length reports
   pub numbered : k + taken < 256 ^ 8
-  pub room : mostLine * (taken + startOf answers taken) ≤ length text
+  pub room : longestLine * (taken + startOf answers taken) ≤ length text

@@ -12,9 +12,9 @@ use Rattle.dayfile.specs.Roster.{participantOf}
 use Rattle.dayfile.specs.declared.roster.Opening.{Opening}
 use Rattle.dayfile.specs.declared.roster.Opening.the-variants as opening
 use Rattle.dayfile.specs.declared.roster.Roster.{Roster}
-use Rattle.report.specs.Layout.{reportsBytes}
+use Rattle.report.specs.ReportLayout.{reportsBytes}
 use Rattle.report.specs.declared.Report.{Report}
-use Rattle.report.proofs.Laws.{put-further}
+use Rattle.report.proofs.ReportLaws.{put-further}
 use Rattle.rules.specs.Book.{coverOf}
 use Rattle.rules.specs.Cut.{cutReport, cutReportsTo}
 use Rattle.rules.specs.Tell.{tellCut}

@@ -5,9 +5,9 @@ use Prim.Native.Nat.{ℕ, _+_, _^_, _≤_, _<_}
 use native.Mathlib.Omega.{arith}
 use lib.ListN.{length, length-map}
 use Rattle.report.specs.Answer.{answersLaid}
-use Rattle.report.specs.Layout.{laid}
-use Rattle.report.proofs.Laws.{length-laid}
-use Rattle.report.proofs.Answers.{length-answers-laid}
+use Rattle.report.specs.ReportLayout.{laid}
+use Rattle.report.proofs.ReportLaws.{length-laid}
+use Rattle.report.proofs.AnswerLaws.{length-answers-laid}
 use Rattle.rules.specs.Tick.{Step}
 use Rattle.rules.specs.Step.{bookAfter}
 use Rattle.rules.specs.Taken.{answerOf, answersOf, reportsIn}
@@ -15,10 +15,10 @@ use Rattle.rules.specs.Program.{linesFrom}
 use Rattle.rules.specs.Sound.{Sound}
 use Rattle.rules.specs.declared.Book.{Book}
 use Rattle.course.specs.Running.{ran, Ran}
-use Rattle.course.proofs.Printing.{Printable, ran-printable}
+use Rattle.course.proofs.PrintedBatches.{Printable, ran-printable}
 use Rattle.lines.specs.Lines.{startOf, linesTo, Lined}
 use Rattle.lines.specs.Written.{Written}
-use Rattle.lines.proofs.Program.{lines-are, starts-are}
+use Rattle.lines.proofs.ProgramText.{lines-are, starts-are}
 use Rattle.output.specs.Batch.{answersRoom, reportsRoom, mostText, batch, Batched}
 
 module _ {b c : Book} {tickets answers₀ reports₀ answers reports : List ℕ} {n : ℕ} (s : Sound b)

@@ -12,7 +12,7 @@ use Rattle.dayfile.specs.Header.{headerOf, headed}
 use Rattle.dayfile.specs.Check.{ranged, placed}
 use Rattle.dayfile.specs.DayFile.{dayFile, filePlaced, refusedFile}
 use Rattle.dayfile.specs.declared.DayFile.{DayFile}
-use Rattle.dayfile.specs.Limits.{mostRead}
+use Rattle.dayfile.specs.FileLimits.{mostRead}
 use Rattle.dayfile.specs.declared.header.Sections.{Sections}
 use Rattle.dayfile.specs.declared.header.Header.{Header}
 use Rattle.dayfile.specs.declared.header.Headed.the-variants.{As}
@@ -20,7 +20,7 @@ use Rattle.dayfile.specs.declared.check.Ranged.{Ranged}
 use Rattle.dayfile.specs.declared.check.Ranged.the-variants.{Within, Outside}
 use Rattle.dayfile.specs.declared.check.Placed.{Placed}
 use Rattle.dayfile.specs.declared.check.Placed.the-variants as placed-is
-use Rattle.dayfile.proofs.Passing.{in-range, in-place, file-headed, file-ranged}
+use Rattle.dayfile.proofs.Passing.{counts-in-range, in-place, file-headed, file-ranged}
 use Rattle.rules.specs.Program.{outputOf, output}
 
 -- refused by 2 or by 3
@@ -33,7 +33,7 @@ module _ (g : List ℕ) (h : Header) (head : headed g ≡ As h) (long : mostRead
   misplaced e placed-is.Wrong q = refl
   misplaced e placed-is.Right q =
       let p = in-place h (length g) q .end in
-      let r = in-range h e in
+      let r = counts-in-range h e in
       absurd (omega arith)
 
   long-file : dayFile g ≡ tooLong (ranged h)

@@ -9,7 +9,7 @@ use native.Mathlib.Omega.{arith}
 use borrow.Author.Tests.{eq-eqb, ne-eqb, lt-ltb, le-ltb}
 use lib.ListN.{length, drop, length-drop}
 use Rattle.fields.specs.Text.{joined}
-use Rattle.ticket.specs.Layout.{ticketLength}
+use Rattle.ticket.specs.TicketLayout.{ticketLength}
 use Rattle.dayfile.specs.DayFile.{dayFile}
 use Rattle.dayfile.proofs.Accepted.{file-guaranteed}
 use Rattle.rules.specs.Tick.{Step}
@@ -18,12 +18,12 @@ use Rattle.rules.specs.Program.{linesFrom, coverLines, ticketsFrom, output}
 use Rattle.rules.specs.Sound.{Sound}
 use Rattle.rules.specs.declared.Book.{Book}
 use Rattle.rules.proofs.Same.{same-or-not, below-or-not}
-use Rattle.rules.proofs.Stepping.{file-sound}
+use Rattle.rules.proofs.StepSound.{file-sound}
 use Rattle.course.specs.Running.{ran}
-use Rattle.course.proofs.Printing.{ran-sound, takes-one, Split, ran-splits, lines-append, after-append}
+use Rattle.course.proofs.PrintedBatches.{ran-sound, takes-one, Split, ran-splits, lines-append, after-append}
 use Rattle.lines.specs.Lines.{coversTo, refusalLine}
 use Rattle.lines.specs.Written.{Written}
-use Rattle.lines.proofs.Program.{covers-are, refusal-is}
+use Rattle.lines.proofs.ProgramText.{covers-are, refusal-is}
 use Rattle.output.specs.Batch.{batch, Batched}
 use Rattle.output.specs.Pieces.{begun, Under, stepsLeft, linesLeft, refusedText, toPrint, nextBatch, pieceText, advanced, endedDay, dayAfter, turnsLeft, piecesTo, PieceOf}
 use Rattle.output.specs.declared.piece.Day.{Day}
@@ -225,8 +225,8 @@ module _ (file : List ℕ) (d : Day) (u : Under file d) where
     next-refused refused =
         subst Next (sym (refusal-day file d refused)) (last going (refusal-text file d refused ∙ sym (refused-left file d going refused)))
 
-    pub goes-on : Next (dayAfter file d)
-    goes-on = ⊎-elim next-accepted next-refused (same-or-not (d .refusal) 0)
+    pub piece-goes-on : Next (dayAfter file d)
+    piece-goes-on = ⊎-elim next-accepted next-refused (same-or-not (d .refusal) 0)
 
 -- all pieces one after the other are what is left; from the start of a day on, the program's output
 pieces-print : (n : ℕ) (file : List ℕ) (d : Day) → Under file d → turnsLeft d ≤ n → joined (piecesTo n file d) ≡ toPrint file d
@@ -241,7 +241,7 @@ pieces-print (suc n) file d u few = go (d .ended) refl (λ (x : Next file d u (d
         → joined (cond z [] (pieceText file d ∷ piecesTo n file (dayAfter file d))) ≡ toPrint file d
     go true e on = sym (ended-prints file d e)
     go false e on =
-        let x = goes-on file d u e in
+        let x = piece-goes-on file d u e in
         ap (λ (t : List ℕ). pieceText file d ++ t) (on x) ∙ sym (x .prints)
 
 pub day-printed : (file : List ℕ) (n : ℕ) → dayFile file .tickets < n → joined (piecesTo n file (begun file)) ≡ output file

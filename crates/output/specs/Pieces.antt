@@ -16,8 +16,8 @@ use mathlib.Core.List.{List, [], _∷_, _++_}
 use lib.Dec.{eqb, ltb}
 use lib.ListN.{length, drop}
 use Rattle.fields.specs.Text.{text}
-use Rattle.ticket.specs.Layout.{ticketLength}
-use Rattle.dayfile.specs.Limits.{mostTickets}
+use Rattle.ticket.specs.TicketLayout.{ticketLength}
+use Rattle.dayfile.specs.FileLimits.{mostTickets}
 use Rattle.dayfile.specs.DayFile.{dayFile}
 use Rattle.rules.specs.Book.{bookOf}
 use Rattle.rules.specs.Tick.{Step}

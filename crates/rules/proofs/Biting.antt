@@ -5,7 +5,7 @@ use Prim.Native.Nat.{ℕ}
 use native.Mathlib.Omega.{arith}
 use Rattle.codes.specs.Bic.{isBic}
 use Rattle.dayfile.specs.DayFile.{dayFile}
-use Rattle.dayfile.specs.Writing.{fileBytes, bank}
+use Rattle.dayfile.specs.FileWriting.{fileBytes, bank}
 use Rattle.rules.specs.Book.{withCovers, bookOf}
 use Rattle.rules.specs.Cover.{transferred}
 use Rattle.rules.specs.Decision.{by}

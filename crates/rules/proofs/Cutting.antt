@@ -11,7 +11,7 @@ use lib.Dec.{ltb, eqb}
 use lib.ListN.{length, length-set}
 use lib.Seq.{getD-set-same, getD-set-other}
 use Rattle.fields.proofs.Tests.{or-left, or-right}
-use Rattle.dayfile.specs.Limits.{mostParticipants}
+use Rattle.dayfile.specs.FileLimits.{mostParticipants}
 use Rattle.dayfile.specs.Roster.{participantOf}
 use Rattle.dayfile.specs.declared.roster.Opening.{Opening}
 use Rattle.dayfile.specs.declared.roster.Opening.the-variants as opening
@@ -23,7 +23,7 @@ use Rattle.rules.specs.Cut.{withHeld, withDebit, cutCover, cutTo}
 use Rattle.rules.specs.Sound.{CoversSound}
 use Rattle.rules.specs.declared.Cover.{Cover}
 use Rattle.rules.proofs.Same.{same-or-not, below-or-not}
-use Rattle.rules.proofs.Moving.{Either, fitted, set-there, set-total, set-keeps}
+use Rattle.rules.proofs.CoverMoving.{Either, fitted, set-there, set-total, set-keeps}
 
 -- nothing held, no open debit
 pub record Closed (c : Cover) : Type 0 where

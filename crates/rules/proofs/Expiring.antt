@@ -23,9 +23,9 @@ use Rattle.rules.specs.declared.Order.{Order}
 use Rattle.rules.specs.declared.Cover.{Cover}
 use Rattle.rules.specs.declared.Book.{Book}
 use Rattle.rules.proofs.Same.{same-or-not, below-or-not}
-use Rattle.rules.proofs.Moving.{for-none, fitted, transfer-whole, transfer-leaves}
-use Rattle.rules.proofs.Keeping.{later-sound, backed}
-use Rattle.rules.proofs.Sweeping.{Swept, swept, due-waits, ticked}
+use Rattle.rules.proofs.CoverMoving.{for-none, fitted, transfer-whole, transfer-leaves}
+use Rattle.rules.proofs.SoundKeeping.{later-sound, backed}
+use Rattle.rules.proofs.SweepSound.{Swept, swept, due-waits, tick-swept}
 
 -- order i is due in the book
 abbrev pub dueIn : Book → ℕ → Bool
@@ -176,7 +176,7 @@ pub tick-expires : (b : Book) → Sound b → (time : ℕ) → b .clock ≤ time
 unfolding tick
 tick-expires b s time l =
     let t = swept-to (atTime b time) (later-sound b s time l) (b .count) (omega arith) in
-    let w = ticked b s time l in
+    let w = tick-swept b s time l in
     record {
       count = w .count;
       roster = w .roster;

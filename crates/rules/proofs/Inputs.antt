@@ -9,7 +9,7 @@ use Rattle.rules.specs.Step.{handed}
 use Rattle.rules.specs.Inputs.{Input, Seen, seen, outcomeOf, stepsFrom, bookFrom, seenFrom}
 use Rattle.rules.specs.Sound.{Sound}
 use Rattle.rules.specs.declared.Book.{Book}
-use Rattle.rules.proofs.Stepping.{handed-sound}
+use Rattle.rules.proofs.StepSound.{handed-sound}
 
 pub steps-append : (b : Book) (xs ys : List Input) → stepsFrom b (xs ++ ys) ≡ stepsFrom b xs ++ stepsFrom (bookFrom b xs) ys
 steps-append b [] ys = refl

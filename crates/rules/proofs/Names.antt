@@ -3,8 +3,8 @@ use Prim.Native.Nat.{ℕ}
 use Prim.Native.String.{String}
 use mathlib.Core.List.{List, [], _∷_}
 use Rattle.fields.specs.Text.{text}
-use Rattle.fields.proofs.Rows.{Row}
-use Rattle.dayfile.specs.Writing.{fileBytes, bank, direct}
+use Rattle.fields.proofs.CaseRows.{Row}
+use Rattle.dayfile.specs.FileWriting.{fileBytes, bank, direct}
 use Rattle.rules.specs.Program.{output}
 
 abbrev pub bicA : List ℕ

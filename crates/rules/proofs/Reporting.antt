@@ -11,10 +11,10 @@ use Rattle.ticket.specs.Form.{mostOrder}
 use Rattle.ticket.specs.declared.Fields.{Fields}
 use Rattle.ticket.specs.declared.kinds.Kind.{Kind}
 use Rattle.ticket.specs.declared.kinds.Kind.the-variants as kind
-use Rattle.ticket.proofs.Telling.{Tells}
-use Rattle.report.specs.Layout.{reportsOf, Fitting, AllFitting}
+use Rattle.ticket.proofs.TicketTelling.{Tells}
+use Rattle.report.specs.ReportLayout.{reportsOf, FittingReport, AllFitting}
 use Rattle.report.specs.declared.Report.{Report}
-use Rattle.report.proofs.Laws.{laid-reads-back}
+use Rattle.report.proofs.ReportLaws.{laid-reads-back}
 use Rattle.dayfile.specs.Roster.{participantOf}
 use Rattle.dayfile.specs.Guarantee.{OpeningWithin}
 use Rattle.dayfile.specs.declared.roster.Opening.{Opening}
@@ -24,7 +24,7 @@ use Rattle.rules.specs.Tell.{tellOrder, tellCut, listed}
 use Rattle.rules.specs.Tick.{Step, due, expireTold, sweepTo, atTime, tick}
 use Rattle.rules.specs.Find.{finding}
 use Rattle.rules.specs.Cut.{cutReport, cutReportsTo}
-use Rattle.rules.specs.Decision.{toPayer, toPayee, settledTold, settledAnswer, answerOf, decisionOf, toldBy}
+use Rattle.rules.specs.Decision.{toPayer, toPayee, settledTold, settledAnswer, inquiryAnswer, decisionOf, toldBy}
 use Rattle.rules.specs.Step.{stepOf, handed, outcome}
 use Rattle.rules.specs.Sound.{Sound}
 use Rattle.rules.specs.declared.finding.Finding.{Finding}
@@ -35,12 +35,12 @@ use Rattle.rules.specs.declared.Status.{Status}
 use Rattle.rules.specs.declared.Status.the-variants as status
 use Rattle.rules.specs.declared.Order.{Order}
 use Rattle.rules.specs.declared.Book.{Book}
-use Rattle.rules.proofs.Limits.{available-limited, participant-below, order-below}
+use Rattle.rules.proofs.SoundLimits.{available-limited, participant-below, order-below}
 use Rattle.rules.proofs.Refusing.{NoRefusal}
 use Rattle.rules.proofs.Accepting.{fieldsOf}
 use Rattle.rules.proofs.Accepting as accepting
-use Rattle.rules.proofs.Keeping.{later-sound}
-use Rattle.rules.proofs.Sweeping.{Swept, swept, ticked}
+use Rattle.rules.proofs.SoundKeeping.{later-sound}
+use Rattle.rules.proofs.SweepSound.{Swept, swept, tick-swept}
 use Rattle.rules.proofs.Courses.{step-goes, handed-goes}
 
 -- reports that fit, and at most so many of them
@@ -59,10 +59,10 @@ few-append m n rs ts a b =
 few-none : (n : ℕ) → Few n []
 few-none n = record { fit = tt; few = omega arith }
 
-few-one : (n : ℕ) (r : Report) → Fitting r → Few (1 + n) (r ∷ [])
+few-one : (n : ℕ) (r : Report) → FittingReport r → Few (1 + n) (r ∷ [])
 few-one n r f = record { fit = (f, tt); few = omega arith }
 
-few-two : (n : ℕ) (r q : Report) → Fitting r → Fitting q → Few (2 + n) (r ∷ q ∷ [])
+few-two : (n : ℕ) (r q : Report) → FittingReport r → FittingReport q → Few (2 + n) (r ∷ q ∷ [])
 few-two n r q f g = record { fit = (f, (g, tt)); few = omega arith }
 
 few-more : (m n : ℕ) (rs : List Report) → m ≤ n → Few m rs → Few n rs
@@ -70,11 +70,11 @@ few-more m n rs l a = record { fit = a .fit; few = let x = a .few in omega arith
 
 module _ (b : Book) (s : Sound b) where
   fit-order : (to code i n : ℕ) → to < b .roster .size → code < 12 → i < mostOrders → n ≤ mostOrder
-      → Fitting (record { to = to; code = code; order = i; amount = n })
+      → FittingReport (record { to = to; code = code; order = i; amount = n })
   fit-order to code i n h c l m =
       record { to = let x = participant-below b s to h in omega arith; code = omega arith; order = omega arith; amount = omega arith }
 
-  fit-cut : (p code n : ℕ) → p < b .roster .size → code < 12 → n < 256 ^ 8 → Fitting (tellCut p code n)
+  fit-cut : (p code n : ℕ) → p < b .roster .size → code < 12 → n < 256 ^ 8 → FittingReport (tellCut p code n)
   fit-cut p code n h c l = record { to = let x = participant-below b s p h in omega arith; code = omega arith; order = omega arith; amount = l }
 
 -- the expiries: two for each order
@@ -132,10 +132,10 @@ module _ (b : Book) (s : Sound b) where
     abbrev x : Finding
     x = finding b (fieldsOf k time n) t
 
-    fit-payer : (code : ℕ) → code < 12 → Fitting (toPayer x code)
+    fit-payer : (code : ℕ) → code < 12 → FittingReport (toPayer x code)
     fit-payer code c = fit-order b s _ code (numberOf (x .order)) (x .about .amount) (s .orders .payer _ h) c (order-below b s _ h) (s .orders .most _ h)
 
-    fit-payee : (code : ℕ) → code < 12 → Fitting (toPayee x code)
+    fit-payee : (code : ℕ) → code < 12 → FittingReport (toPayee x code)
     fit-payee code c = fit-order b s _ code (numberOf (x .order)) (x .about .amount) (s .orders .payee _ h) c (order-below b s _ h) (s .orders .most _ h)
 
     pub settled-few : Few 32 (listed (settledTold x))
@@ -150,7 +150,7 @@ module _ (b : Book) (s : Sound b) where
     settled-answer-few mark.Asked = few-two 30 _ _ (fit-payer 2 (omega arith)) (fit-payee 8 (omega arith))
     settled-answer-few mark.Declined = few-two 30 _ _ (fit-payer 2 (omega arith)) (fit-payer 7 (omega arith))
 
-    pub answer-few : (u : Status) → Few 32 (listed (answerOf x u))
+    pub answer-few : (u : Status) → Few 32 (listed (inquiryAnswer x u))
     answer-few status.Waiting = go (x .bank)
       where
         go : (z : Bool) → Few 32 (cond z (toPayer x 9) (toPayee x 8) ∷ [])
@@ -178,7 +178,7 @@ module _ (b : Book) (s : Sound b) where
     own-few kind.Order tells r =
         few-one 31 _
         (fit-order b s _ 1 (b .count) n (accepting.payee-known b (fieldsOf kind.Order time n) t (s .roster) (r .r14) refl) (omega arith)
-        (accepting.room-left b (fieldsOf kind.Order time n) t (r .r15) refl) (tells .most))
+        (accepting.order-room b (fieldsOf kind.Order time n) t (r .r15) refl) (tells .most))
     own-few kind.Yes tells r = settled-few n time t kind.Yes (accepting.order-found b (fieldsOf kind.Yes time n) t (r .r16) refl .below)
     own-few kind.No tells r = payer-few n time t kind.No (accepting.order-found b (fieldsOf kind.No time n) t (r .r16) refl .below) 3 (omega arith)
     own-few kind.Recall tells r = payee-few n time t kind.Recall (accepting.order-found b (fieldsOf kind.Recall time n) t (r .r16) refl .below) 5 (omega arith)
@@ -199,7 +199,7 @@ module _ (b : Book) (s : Sound b) (t : List ℕ) where
       → Few 544 (tick b (f .time) .reports ++ toldBy (tick b (f .time) .book) (decisionOf (finding (tick b (f .time) .book) f t)))
   taken-few f tells l none =
       few-append 512 32 (tick b (f .time) .reports) _ (ticked-few b s (f .time) l)
-      (own-few (tick b (f .time) .book) (ticked b s (f .time) l .sound) (f .amount) (f .time) t (f .kind) tells none)
+      (own-few (tick b (f .time) .book) (tick-swept b s (f .time) l .sound) (f .amount) (f .time) t (f .kind) tells none)
 
   pub step-few : Few 544 (stepOf b t .reports)
   step-few = step-goes b t (λ (w : Step). Few 544 (w .reports)) (λ n low high. few-none 544) refused-few taken-few

@@ -11,11 +11,11 @@ use mathlib.Core.Bool.{cond}
 use mathlib.Core.List.{List, [], _∷_, _++_}
 use lib.Dec.{eqb}
 use lib.ListN.{length}
-use Rattle.ticket.specs.Reading.{reading}
+use Rattle.ticket.specs.TicketReading.{reading}
 use Rattle.ticket.specs.declared.Fields.{Fields}
 use Rattle.ticket.specs.declared.Reading.{Reading}
 use Rattle.ticket.specs.declared.Reading.the-variants.{Read, Refused}
-use Rattle.report.specs.Layout.{laid}
+use Rattle.report.specs.ReportLayout.{laid}
 use Rattle.rules.specs.Tick.{Step, tick}
 use Rattle.rules.specs.Find.{finding}
 use Rattle.rules.specs.Refusal.{bufferOf, bufferRefusal, timingOf, timingRefusal, firstRefusal}

@@ -12,7 +12,7 @@ use Rattle.fields.specs.Text.{blank}
 use Rattle.fields.proofs.Zeros.{blank-join}
 use Rattle.codes.specs.Bic.{isBic}
 use Rattle.codes.specs.Txid.{isTxid}
-use Rattle.ticket.specs.Layout as layout
+use Rattle.ticket.specs.TicketLayout as layout
 use Rattle.ticket.specs.Form.{formOf}
 use Rattle.ticket.specs.Shape.{wellFormed, shapeOf, accountOf}
 use Rattle.ticket.specs.declared.kinds.Kind.{Kind}

@@ -8,9 +8,9 @@ use Rattle.fields.specs.Search.{isFound}
 use Rattle.fields.specs.Rows.{firstRow}
 use Rattle.fields.specs.declared.search.Found.{Found}
 use Rattle.fields.proofs.Stores.{length-part}
-use Rattle.ticket.specs.Layout.{ticketLength, senderOf, payeeOf, txidField}
+use Rattle.ticket.specs.TicketLayout.{ticketLength, senderOf, payeeOf, txidField}
 use Rattle.shapes.specs.Subject.{KnownBic, KnownTxid}
-use Rattle.index.specs.Lent.{BicRows, TxidRows}
+use Rattle.index.specs.LentRows.{BicRows, TxidRows}
 use Rattle.index.specs.Words.{Bytes, bicWords, txidWords}
 use Rattle.index.proofs.Comparing.{part-bytes}
 

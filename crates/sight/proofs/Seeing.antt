@@ -7,18 +7,18 @@ use native.Mathlib.Omega.{arith}
 use borrow.Author.Tests.{eqb-true, eqb-false}
 use lib.Dec.{ltb, eqb}
 use Rattle.fields.specs.declared.search.Found.{Found}
-use Rattle.ticket.specs.Layout.{kindByte, flagByte, amountOf, timeOf}
+use Rattle.ticket.specs.TicketLayout.{kindByte, flagByte, amountOf, timeOf}
 use Rattle.ticket.specs.Kind.{kinded}
 use Rattle.ticket.specs.Form.{formOf}
 use Rattle.ticket.specs.Shape.{shapeOf, accountOf}
 use Rattle.ticket.specs.Amount.{statedIn}
-use Rattle.ticket.specs.Reading.{readAccount, readStated}
+use Rattle.ticket.specs.TicketReading.{readAccount, readStated}
 use Rattle.ticket.specs.declared.Reading.{Reading}
 use Rattle.ticket.specs.declared.kinds.Kind.{Kind}
 use Rattle.ticket.specs.declared.kinds.Kinded.the-variants.{Unknown}
 use Rattle.ticket.specs.declared.shapes.Shape.the-variants.{Formed, Malformed}
 use Rattle.ticket.specs.declared.shapes.Account.the-variants.{Named, Wrong}
-use Rattle.ticket.proofs.Laws.{read-malformed, read-formed, read-named}
+use Rattle.ticket.proofs.CheckLaws.{read-malformed, read-formed, read-named}
 use Rattle.ticket.proofs.Refusals.{unknown-refused}
 use Rattle.rules.specs.Terms.{termsOf, namesSender, opensOrder}
 use Rattle.rules.specs.declared.terms.Subject.{Subject}

@@ -11,8 +11,8 @@ use ticket::layout;
 ghost use mathlib.Core.Path.{_≡_};
 ghost use lib.ListN.{length};
 ghost use Rattle.fields.specs.Rows.{firstRow};
-ghost use Rattle.ticket.specs.Layout.{ticketLength, senderOf, payeeOf, txidField};
-ghost use Rattle.index.specs.Lent.{BicRows, TxidRows};
+ghost use Rattle.ticket.specs.TicketLayout.{ticketLength, senderOf, payeeOf, txidField};
+ghost use Rattle.index.specs.LentRows.{BicRows, TxidRows};
 ghost use Rattle.index.specs.Words.{bicWords, txidWords};
 ghost use Rattle.sight.specs.Sight.{sightOf, sightRefusal};
 

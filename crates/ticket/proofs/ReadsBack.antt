@@ -13,14 +13,14 @@ use Rattle.codes.specs.Txid.{isTxid}
 use Rattle.fields.specs.Number.{bytesOf}
 use Rattle.fields.specs.Text.{blank, unpadded, padded}
 use Rattle.fields.proofs.Padding.{padded-full, unpadded-padded}
-use Rattle.codes.proofs.Whole.{bic-length, txid-length, txid-whole}
-use Rattle.iban.proofs.Whole.{iban-length, iban-whole}
-use Rattle.ticket.specs.Layout as layout
+use Rattle.codes.proofs.WholeCodes.{bic-length, txid-length, txid-whole}
+use Rattle.iban.proofs.WholeIban.{iban-length, iban-whole}
+use Rattle.ticket.specs.TicketLayout as layout
 use Rattle.ticket.specs.Form.{mostCover, formOf}
 use Rattle.ticket.specs.Shape.{bicIfListed, txidIfListed, blankUnlessListed, wellFormed, shapeOf, accountOf}
 use Rattle.ticket.specs.Amount.{statedIn, limitOf}
-use Rattle.ticket.specs.Reading.{reading, readLimit}
-use Rattle.ticket.specs.Writing.{Written, ticketBytes, IfListed, WellFormedTicket}
+use Rattle.ticket.specs.TicketReading.{reading, readLimit}
+use Rattle.ticket.specs.TicketWriting.{WrittenTicket, ticketBytes, IfListed, WellFormedTicket}
 use Rattle.ticket.specs.declared.Reading.the-variants.{Read}
 use Rattle.ticket.specs.declared.kinds.Kind.{Kind}
 use Rattle.ticket.specs.declared.kinds.Kind.the-variants.{CoverIn, CoverOut, Order, Yes, No, Recall, Return, Decline, Inquiry, Cut, Confirm, Tick}
@@ -29,7 +29,7 @@ use Rattle.ticket.specs.declared.shapes.Account.the-variants.{Named, Wro
 use Rattle.ticket.specs.declared.amounts.Stated.the-variants.{Amount}
 use Rattle.ticket.specs.declared.amounts.Limit.the-variants.{Within}
 use Rattle.ticket.proofs.KindBytes.{bytes-kinded}
-use Rattle.ticket.proofs.Laws.{read-stated}
+use Rattle.ticket.proofs.CheckLaws.{read-stated}
 use Rattle.ticket.proofs.WrittenFields.{written-time, written-amount, sender-field, payee-field, txid-field, iban-field, last-field, length-written}
 
 -- each kind's amounts fit in eight bytes
@@ -86,7 +86,7 @@ amount-passes most n h = go (eqb most 0) refl
     go false e = refl
 
 -- a well-formed ticket: its widths, each check in turn, and what it reads as
-module _ (k : Kind) (w : Written) (f : WellFormedTicket k w) where
+module _ (k : Kind) (w : WrittenTicket) (f : WellFormedTicket k w) where
   pub sender-fits : length (w .sender) ≤ 11
   sender-fits = bic-width (formOf k .sender) (w .sender) (f .sender)
 

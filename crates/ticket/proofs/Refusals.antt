@@ -6,13 +6,13 @@ use Prim.Native.Nat.{ℕ, _≤_}
 use native.Mathlib.Omega.{arith}
 use lib.Dec.{eqb}
 use lib.ListN.{length}
-use Rattle.ticket.specs.Layout.{ticketLength, kindByte, flagByte}
+use Rattle.ticket.specs.TicketLayout.{ticketLength, kindByte, flagByte}
 use Rattle.ticket.specs.Kind.{kinded}
 use Rattle.ticket.specs.Form.{formOf}
 use Rattle.ticket.specs.Shape.{shapeAs, shapeOf, accountOf}
 use Rattle.ticket.specs.Amount.{statedIn, limitOf}
-use Rattle.ticket.specs.Reading.{reading, readShape, readAccount, readStated, readLimit}
-use Rattle.ticket.specs.Refusal.{kindedRefusal, readingRefusal}
+use Rattle.ticket.specs.TicketReading.{reading, readShape, readAccount, readStated, readLimit}
+use Rattle.ticket.specs.TicketRefusal.{kindedRefusal, readingRefusal}
 use Rattle.ticket.specs.declared.Fields.{Fields}
 use Rattle.ticket.specs.declared.Reading.{Reading}
 use Rattle.ticket.specs.declared.Reading.the-variants.{Read, Refused}
@@ -27,7 +27,7 @@ use Rattle.ticket.specs.declared.amounts.Stated.{Stated}
 use Rattle.ticket.specs.declared.amounts.Stated.the-variants.{Amount, Zero}
 use Rattle.ticket.specs.declared.amounts.Limit.{Limit}
 use Rattle.ticket.specs.declared.amounts.Limit.the-variants.{Within, Above}
-use Rattle.ticket.proofs.Laws.{read-malformed}
+use Rattle.ticket.proofs.CheckLaws.{read-malformed}
 
 -- a refusal is one of 7 to 10
 abbrev InRange : Reading → Type 0

@@ -11,28 +11,28 @@ use Rattle.codes.specs.Txid.{isTxid}
 use Rattle.fields.specs.Text.{unpadded, padded}
 use Rattle.fields.proofs.BigEndian.{reads-back}
 use Rattle.fields.proofs.Padding.{length-padded, padded-full, unpadded-padded}
-use Rattle.codes.proofs.Whole.{txid-whole, txid-length}
-use Rattle.iban.proofs.Whole.{iban-whole, iban-length}
-use Rattle.ticket.specs.Layout.{ticketLength, kindByte, flagByte, timeOf, amountOf, senderOf, payeeOf, txidField, txidOf, ibanField, ibanOf, lastField}
-use Rattle.ticket.specs.Writing.{Written, ticketBytes}
+use Rattle.codes.proofs.WholeCodes.{txid-whole, txid-length}
+use Rattle.iban.proofs.WholeIban.{iban-whole, iban-length}
+use Rattle.ticket.specs.TicketLayout.{ticketLength, kindByte, flagByte, timeOf, amountOf, senderOf, payeeOf, txidField, txidOf, ibanField, ibanOf, lastField}
+use Rattle.ticket.specs.TicketWriting.{WrittenTicket, ticketBytes}
 
 regroup : (a b c d e : List ℕ) → a ++ b ++ c ++ d ++ e ≡ a ++ (b ++ (c ++ (d ++ e)))
 regroup a b c d e = simp append-assoc
 
-pub written-kind : (w : Written) → kindByte (ticketBytes w) ≡ w .kind
+pub written-kind : (w : WrittenTicket) → kindByte (ticketBytes w) ≡ w .kind
 written-kind w = refl
 
-pub written-flag : (w : Written) → flagByte (ticketBytes w) ≡ w .flag
+pub written-flag : (w : WrittenTicket) → flagByte (ticketBytes w) ≡ w .flag
 written-flag w = refl
 
-pub written-time : (w : Written) → w .time < 256 ^ 4 → timeOf (ticketBytes w) ≡ w .time
+pub written-time : (w : WrittenTicket) → w .time < 256 ^ 4 → timeOf (ticketBytes w) ≡ w .time
 written-time w h = reads-back 4 (w .time) h
 
-pub written-amount : (w : Written) → w .amount < 256 ^ 8 → amountOf (ticketBytes w) ≡ w .amount
+pub written-amount : (w : WrittenTicket) → w .amount < 256 ^ 8 → amountOf (ticketBytes w) ≡ w .amount
 written-amount w h = reads-back 8 (w .amount) h
 
 -- the padded fields one after the other
-module _ (w : Written) where
+module _ (w : WrittenTicket) where
   from-sender : drop 16 (ticketBytes w) ≡ padded 11 (w .sender) ++ (padded 11 (w .payee) ++ (padded 35 (w .txid) ++ (padded 34 (w .iban) ++ (0 ∷ []))))
   from-sender = regroup (padded 11 (w .sender)) (padded 11 (w .payee)) (padded 35 (w .txid)) (padded 34 (w .iban)) (0 ∷ [])
 
@@ -68,17 +68,17 @@ module _ (w : Written) where
     length-written = simp (length-append, length-replicate) (omega arith)
 
 -- the fields' values
-pub written-sender : (w : Written) → length (w .sender) ≡ 11 → senderOf (ticketBytes w) ≡ w .sender
+pub written-sender : (w : WrittenTicket) → length (w .sender) ≡ 11 → senderOf (ticketBytes w) ≡ w .sender
 written-sender w s = sender-field w (omega arith) ∙ padded-full 11 (w .sender) s
 
-pub written-payee : (w : Written) → length (w .sender) ≤ 11 → length (w .payee) ≡ 11 → payeeOf (ticketBytes w) ≡ w .payee
+pub written-payee : (w : WrittenTicket) → length (w .sender) ≤ 11 → length (w .payee) ≡ 11 → payeeOf (ticketBytes w) ≡ w .payee
 written-payee w s p = payee-field w s (omega arith) ∙ padded-full 11 (w .payee) p
 
-pub written-txid : (w : Written) → length (w .sender) ≤ 11 → length (w .payee) ≤ 11 → isTxid (w .txid) ≡ true → txidOf (ticketBytes w) ≡ w .txid
+pub written-txid : (w : WrittenTicket) → length (w .sender) ≤ 11 → length (w .payee) ≤ 11 → isTxid (w .txid) ≡ true → txidOf (ticketBytes w) ≡ w .txid
 written-txid w s p x =
     ap unpadded (txid-field w s p (txid-length (w .txid) x)) ∙ unpadded-padded 35 (w .txid) ∙ txid-whole (w .txid) x
 
-pub written-iban : (w : Written) → length (w .sender) ≤ 11 → length (w .payee) ≤ 11 → length (w .txid) ≤ 35 → isIban (w .iban) ≡ true
+pub written-iban : (w : WrittenTicket) → length (w .sender) ≤ 11 → length (w .payee) ≤ 11 → length (w .txid) ≤ 35 → isIban (w .iban) ≡ true
     → ibanOf (ticketBytes w) ≡ w .iban
 written-iban w s p x i =
     ap unpadded (iban-field w s p x (iban-length (w .iban) i)) ∙ unpadded-padded 34 (w .iban) ∙ iban-whole (w .iban) i

@@ -7,7 +7,7 @@
 --     kindAmong            the first of some kinds that they are of
 --     kinded               the one of all kinds that they are of; Unknown where kind or flag is wrong
 --     flagged              a kind whose flag lies between two numbers
---     answered             kind 4: flag 1 yes, 2 no
+--     yesOrNo              kind 4: flag 1 yes, 2 no
 -- Assumes nothing.
 use Prim.Native.Nat.{ℕ}
 use mathlib.Core.Bool.{Bool, _&&_, cond}
@@ -69,5 +69,5 @@ kinded kind flag = kindAmong allKinds kind flag
 abbrev pub flagged : ℕ → ℕ → ℕ → Kind → Kinded
 flagged flag low high kind = cond (leb low flag && leb flag high) (As kind) Unknown
 
-abbrev pub answered : ℕ → Kinded
-answered flag = cond (leb 1 flag && leb flag 1) (As Yes) (flagged flag 2 2 No)
+abbrev pub yesOrNo : ℕ → Kinded
+yesOrNo flag = cond (leb 1 flag && leb flag 1) (As Yes) (flagged flag 2 2 No)

@@ -12,7 +12,7 @@ use native.Mathlib.Omega.{arith}
 use lib.Dec.{eqb}
 use lib.ListN.{length, take, drop}
 use lib.Seq.{sets}
-use Rattle.report.specs.Layout.{reportsBytes}
+use Rattle.report.specs.ReportLayout.{reportsBytes}
 use Rattle.report.specs.Answer.{answerBytes}
 use Rattle.report.specs.declared.answer.Answer.{Answer}
 use Rattle.rules.specs.Tick.{Step}
@@ -21,7 +21,7 @@ use Rattle.rules.specs.Taken.{answerOf}
 use Rattle.rules.specs.Sound.{Sound}
 use Rattle.rules.specs.declared.Book.{Book}
 use Rattle.rules.proofs.Reporting.{step-few}
-use Rattle.rules.proofs.Stepping.{step-sound}
+use Rattle.rules.proofs.StepSound.{step-sound}
 use Rattle.course.specs.Entry.{entryOf}
 use Rattle.course.specs.Expiry.{Passed}
 use Rattle.course.specs.Running.{roomLeft}

@@ -17,8 +17,8 @@ use Rattle.fields.specs.UpTo.{anyTo}
 use Rattle.fields.specs.declared.search.Found.{Found}
 use Rattle.fields.specs.declared.search.Found.the-variants as found
 use Rattle.fields.proofs.Finding.{first-same}
-use Rattle.ticket.specs.Layout.{txidField}
-use Rattle.dayfile.specs.Limits.{mostParticipants}
+use Rattle.ticket.specs.TicketLayout.{txidField}
+use Rattle.dayfile.specs.FileLimits.{mostParticipants}
 use Rattle.dayfile.specs.Route.{reached, followedFrom}
 use Rattle.dayfile.specs.declared.roster.Roster.{Roster}
 use Rattle.dayfile.specs.declared.route.Followed.{Followed}
@@ -34,7 +34,7 @@ use Rattle.rules.specs.declared.Book.{Book}
 use Rattle.course.specs.Seeking.{seeksOrder, seeksOpen, soughtSender, soughtOrder, sought}
 use Rattle.course.specs.declared.Entry.{Entry}
 use Rattle.course.proofs.Seeking.{way-if, open-sum, made}
-use Rattle.course.proofs.Fitting.{any-payee, sender-below, order-below}
+use Rattle.course.proofs.SoughtFitting.{any-payee, sought-sender-below, sought-order-below}
 use Rattle.course.proofs.Summing.{allOf, all-total}
 use Rattle.verdict.specs.Meaning.{aboutOf, factsOf}
 use Rattle.turns.proofs.Turn.{Expired, after-sound, after-count, after-roster, after-txid, after-all}
@@ -91,10 +91,10 @@ module _ {b : Book} {t : List ℕ} {e : Entry} {n₀ : ℕ} {text₀ : List ℕ}
     number-is = f .at ∙ ap numberOf order-is
 
     pub sender-in : p < mostParticipants
-    sender-in = let q = f .from ∙ ap numberOf sender-is in let h = sender-below c (after-sound w) e t in omega arith
+    sender-in = let q = f .from ∙ ap numberOf sender-is in let h = sought-sender-below c (after-sound w) e t in omega arith
 
     pub order-in : i < mostOrders
-    order-in = let q = number-is in let h = order-below c (after-sound w) e t in omega arith
+    order-in = let q = number-is in let h = sought-order-below c (after-sound w) e t in omega arith
 
     pub payee-in : orderOf (c .orders) i .payee < mostParticipants
     payee-in = any-payee c (after-sound w) i order-in

@@ -5,7 +5,7 @@ use mathlib.Core.Path.{refl}
 use mathlib.Core.Bool.{true, false}
 use mathlib.Core.List.{List, [], _∷_}
 use Rattle.fields.specs.declared.search.Found.the-variants.{At, Nothing}
-use Rattle.fields.proofs.Rows.{Row, AllMet, all-met}
+use Rattle.fields.proofs.CaseRows.{Row, AllMet, all-met}
 use Rattle.dayfile.specs.declared.route.Followed.the-variants as way
 use Rattle.rules.specs.declared.Recall.the-variants as mark
 use Rattle.rules.specs.declared.Status.{Status}

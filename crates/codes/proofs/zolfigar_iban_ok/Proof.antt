@@ -11,12 +11,12 @@ use lib.Dec.{eqb}
 use lib.ListN.{length}
 use Rattle.fields.specs.Text.{padded}
 use Rattle.fields.proofs.Padding.{length-padded}
-use Rattle.classes.specs.Answer.{answer}
+use Rattle.classes.specs.CheckAnswer.{answer}
 use Rattle.classes.specs.Class.{allIn}
 use Rattle.classes.specs.declared.Class.the-variants.{LetterOrDigit}
 use Rattle.iban.specs.Iban.{isIban}
 use Rattle.iban.specs.Spelling.{speltMoved, ibanFront}
-use Rattle.iban.proofs.Whole.{too-few, too-many}
+use Rattle.iban.proofs.WholeIban.{too-few, too-many}
 use Rattle.iban.proofs.Unpadded.{iban-unpadded}
 use Rattle.codes.proofs.zolfigar_iban_ok.Statement.{statement}
 use Rattle.codes.proofs.zolfigar_iban_ok.Tie as tie

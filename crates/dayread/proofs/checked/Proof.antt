@@ -7,14 +7,14 @@ use native.Mathlib.Omega.{arith}
 use denote.Ref.{now}
 use lib.ListN.{length}
 use Rattle.dayfile.specs.Header.{headed}
-use Rattle.dayfile.specs.Check.{InRange, ranged, placed, routed}
+use Rattle.dayfile.specs.Check.{CountsInRange, ranged, placed, routed}
 use Rattle.dayfile.specs.Roster.{RowsWithin}
 use Rattle.dayfile.specs.DayFile.{dayFile, refusedFile, fileHeaded, fileRanged, filePlaced, fileEnrolled, fileRouted}
 use Rattle.dayfile.specs.declared.header.Header.{Header}
 use Rattle.dayfile.specs.declared.header.Headed.the-variants.{As}
 use Rattle.dayfile.specs.declared.check.Ranged.the-variants.{Within}
 use Rattle.dayfile.specs.declared.check.Placed.the-variants.{Right}
-use Rattle.dayfile.proofs.Passing.{InPlace, in-range, in-place, file-headed, file-ranged, file-placed}
+use Rattle.dayfile.proofs.Passing.{InPlace, counts-in-range, in-place, file-headed, file-ranged, file-placed}
 use Rattle.dayread.specs.Outcome.{refusedHeader, fileOf}
 use Rattle.dayread.specs.declared.Outcome.{Outcome}
 use borrow.Author.Needs.{needs}
@@ -48,8 +48,8 @@ place c = sym (c .before .before .check-places .ensures) ∙ c .enum-told4 .give
 placing : (c : tie.After-enum-told4) → let k = c .before .before .before .before .before in InPlace (header k) (length (given k))
 placing c = let k = c .before .before .before .before .before in in-place (header k) (length (given k)) (place c)
 
-ranging : (c : tie.After-enum-told4) → InRange (header (c .before .before .before .before .before) .counts)
-ranging c = in-range (header (c .before .before .before .before .before)) (range (c .before .before .before))
+ranging : (c : tie.After-enum-told4) → CountsInRange (header (c .before .before .before .before .before) .counts)
+ranging c = counts-in-range (header (c .before .before .before .before .before)) (range (c .before .before .before))
 
 -- the file from refusal 4 on
 from-participants : (c : tie.After-check-participants)
@@ -90,7 +90,7 @@ checked-spec =
     let k = c .before .before .before in
     both _ _ _ (c .refused2 .ensures)
     (sym (file-headed (given k) (header k) (head k) ∙ ap (fileRanged (header k) (given k)) (sym (k .check-counts .ensures) ∙ c .before .enum-told3 .given .1))))
-    (λ c κs. in-range (header (c .before .before)) (range c))
+    (λ c κs. counts-in-range (header (c .before .before)) (range c))
     (λ c. search needs)
     (λ c. search needs)
     (λ c κs. search needs)

@@ -4,7 +4,7 @@ use mathlib.Core.List.{[]}
 use Prim.Native.Nat.{_*_, _^_, _≤_}
 use denote.Ref.{now}
 use native.Mathlib.Omega.{arith}
-use Rattle.remainder.proofs.Carrying.{most, scaled-join}
+use Rattle.remainder.proofs.PairNumber.{most, scaled-join}
 use borrow.Author.Needs.{needs}
 use Rattle.remainder.proofs.four_scale.Statement.{statement}
 use Rattle.remainder.proofs.four_scale.Tie as tie

@@ -3,7 +3,7 @@ use mathlib.Core.Path.{_≡_}
 use Prim.Native.Nat.{_+_, _*_, _^_, _≤_, _<_}
 use native.Mathlib.Nat.{zero-mul, zero-add, add-zero}
 use native.Mathlib.Omega.{arith}
-use Rattle.remainder.proofs.Carrying.{most}
+use Rattle.remainder.proofs.PairNumber.{most}
 use borrow.Author.Needs.{needs}
 use Rattle.remainder.proofs.two.Statement.{statement}
 use Rattle.remainder.proofs.two.Tie as tie

@@ -3,11 +3,11 @@ use mathlib.Core.Path.{sym, _∙_, ap}
 use mathlib.Core.List.{List}
 use Prim.Native.Nat.{ℕ}
 use denote.Ref.{now}
-use Rattle.classes.specs.Answer.{answer}
+use Rattle.classes.specs.CheckAnswer.{answer}
 use Rattle.codes.specs.Txid.{isTxid}
-use Rattle.ticket.specs.Layout.{txidOf}
-use Rattle.ticket.specs.Reading.{txidPart}
-use Rattle.classes.proofs.Answer.{answered-yes, answered-no}
+use Rattle.ticket.specs.TicketLayout.{txidOf}
+use Rattle.ticket.specs.TicketReading.{txidPart}
+use Rattle.classes.proofs.CheckAnswer.{answered-yes, answered-no}
 use borrow.Author.Tests.{eq-eqb, ne-eqb}
 use borrow.Author.Needs.{needs}
 use Rattle.ticket.proofs.txid.Statement.{statement}

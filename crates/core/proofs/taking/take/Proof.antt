@@ -43,7 +43,7 @@ use Rattle.course.proofs.Running.{ended}
 use Rattle.course.proofs.Seeking.{total-sum}
 use Rattle.turns.proofs.Turn.{loop-begun}
 use Rattle.turns.proofs.Done.{answer-is}
-use Rattle.core.proofs.Keeping.{kept-on}
+use Rattle.core.proofs.LoopKeeping.{kept-on}
 use Rattle.core.proofs.Searching.{txids-lent}
 use Rattle.core.proofs.taking.take.Statement.{statement}
 use Rattle.core.proofs.taking.take.Tie as tie

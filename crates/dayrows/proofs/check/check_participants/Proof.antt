@@ -7,8 +7,8 @@ use native.Mathlib.Numerals.{add-one}
 use native.Mathlib.Omega.{arith}
 use denote.Ref.{now}
 use Rattle.fields.specs.UpTo.{allTo}
-use Rattle.dayfile.specs.Limits.{participantLength}
-use Rattle.dayfile.specs.Rows.{participantOk, bicAmong}
+use Rattle.dayfile.specs.FileLimits.{participantLength}
+use Rattle.dayfile.specs.FileRows.{participantOk, bicAmong}
 use Rattle.dayfile.specs.Check.{participantsOk}
 use Rattle.dayfile.specs.declared.check.Enrolled.the-variants.{Right, Wrong}
 use Rattle.dayrows.specs.Chains.{bicIn}

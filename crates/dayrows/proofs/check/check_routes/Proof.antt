@@ -7,8 +7,8 @@ use native.Mathlib.Numerals.{add-one}
 use native.Mathlib.Omega.{arith}
 use denote.Ref.{now}
 use Rattle.fields.specs.UpTo.{allTo}
-use Rattle.dayfile.specs.Limits.{routeLength}
-use Rattle.dayfile.specs.Rows.{routeOk, bicAmong}
+use Rattle.dayfile.specs.FileLimits.{routeLength}
+use Rattle.dayfile.specs.FileRows.{routeOk, bicAmong}
 use Rattle.dayfile.specs.Check.{routesOk}
 use Rattle.dayfile.specs.declared.check.Routed.the-variants.{Right, Wrong}
 use Rattle.dayrows.specs.Chains.{bicIn}

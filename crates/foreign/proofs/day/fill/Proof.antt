@@ -6,7 +6,7 @@ use native.Mathlib.Nat.{sub-zero}
 use denote.Ref.{now}
 use lib.ListN.{length, take, drop}
 use borrow.Author.Needs.{needs}
-use Rattle.foreign.proofs.Lending.{lent-whole, lent-part}
+use Rattle.foreign.proofs.LentText.{lent-whole, lent-part}
 use Rattle.foreign.proofs.day.fill.Statement.{statement}
 use Rattle.foreign.proofs.day.fill.Tie as tie
 

@@ -1,7 +1,7 @@
 -- `foreign::day::put_piece` meets its contract. Assumes nothing.
 use denote.Ref.{now}
 use borrow.Author.Needs.{needs}
-use Rattle.foreign.proofs.Lending.{lent-rest, lent-beyond}
+use Rattle.foreign.proofs.LentText.{lent-rest, lent-beyond}
 use Rattle.foreign.proofs.day.put_piece.Statement.{statement}
 use Rattle.foreign.proofs.day.put_piece.Tie as tie
 

@@ -3,9 +3,9 @@ use native.Mathlib.Omega.{arith}
 use Prim.Native.Nat.{_≤_}
 use denote.Ref.{now}
 use lib.ListN.{length}
-use Rattle.fields.proofs.Reading.{to-end}
+use Rattle.fields.proofs.FromFront.{to-end}
 use borrow.Author.Needs.{needs}
-use Rattle.foreign.proofs.Stepping.{turned-back, carried, first-within}
+use Rattle.foreign.proofs.Stepping.{refused-stepped, accepted-stepped, first-within}
 use Rattle.foreign.proofs.steps.zolfigar_steps.Statement.{statement}
 use Rattle.foreign.proofs.steps.zolfigar_steps.Tie as tie
 
@@ -25,7 +25,7 @@ zolfigar-steps-spec =
     (λ c.
     let o = c .before .before in
     let a = o .before .before .before .before .args in
-    turned-back (now (a .file)) (now (a .answers)) (now (a .reports)) (o .«open» .result) (o .«open» .ensures .opened) (c .if1 .taken))
+    refused-stepped (now (a .file)) (now (a .answers)) (now (a .reports)) (o .«open» .result) (o .«open» .ensures .opened) (c .if1 .taken))
     (λ c. let w = within c in omega arith)
     (λ c. let w = within c in omega arith)
     (λ c. search needs)
@@ -37,5 +37,5 @@ zolfigar-steps-spec =
     let k = r .before .before .before .before in
     let o = k .before .before .before in
     let a = o .before .before .before .before .args in
-    carried (now (a .file)) (now (a .answers)) (now (a .reports)) (o .«open» .result) (o .«open» .ensures .opened) (k .before .if1 .left)
+    accepted-stepped (now (a .file)) (now (a .answers)) (now (a .reports)) (o .«open» .result) (o .«open» .ensures .opened) (k .before .if1 .left)
     (rw (to-end (now (a .file)) (o .«open» .result .first)) at (r .run .ensures))))

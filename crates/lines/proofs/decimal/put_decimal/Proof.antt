@@ -3,7 +3,7 @@ use Prim.Native.Nat.{_+_}
 use native.Mathlib.Omega.{arith}
 use denote.Ref.{now}
 use Rattle.lines.proofs.Digits.{shown-one, length-one}
-use Rattle.lines.proofs.Writing.{written-byte}
+use Rattle.lines.proofs.WritingParts.{written-byte}
 use borrow.Author.Needs.{needs}
 use Rattle.lines.proofs.decimal.put_decimal.Statement.{statement}
 use Rattle.lines.proofs.decimal.put_decimal.Tie as tie

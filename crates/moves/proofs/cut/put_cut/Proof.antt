@@ -6,7 +6,7 @@ use native.Mathlib.Omega.{arith}
 use denote.Ref.{now}
 use lib.ListN.{length}
 use lib.Seq.{sets}
-use Rattle.report.specs.Layout.{reportsBytes}
+use Rattle.report.specs.ReportLayout.{reportsBytes}
 use Rattle.report.specs.declared.Report.{Report}
 use Rattle.rules.specs.Cut.{cutReportsTo}
 use Rattle.rules.specs.Tell.{listed}

@@ -4,8 +4,8 @@ use mathlib.Core.List.{List}
 use Prim.Native.Nat.{ℕ, _+_, _*_}
 use denote.Ref.{now}
 use lib.Seq.{sets}
-use Rattle.report.specs.Layout.{reportBytes}
-use Rattle.report.proofs.Laws.{put-one, put-two}
+use Rattle.report.specs.ReportLayout.{reportBytes}
+use Rattle.report.proofs.ReportLaws.{put-one, put-two}
 use borrow.Author.Needs.{needs}
 use Rattle.moves.proofs.told.put_told.Statement.{statement}
 use Rattle.moves.proofs.told.put_told.Tie as tie

@@ -3,7 +3,7 @@ use Prim.Native.Nat.{_+_, _*_, _≤_}
 use native.Mathlib.Omega.{arith}
 use denote.Ref.{now}
 use lib.ListN.{length, drop}
-use Rattle.fields.proofs.Reading.{to-end}
+use Rattle.fields.proofs.FromFront.{to-end}
 use Rattle.output.specs.Batch.{Batched}
 use Rattle.output.proofs.Piecewise.{batch-within, batch-piece}
 use borrow.Author.Needs.{needs}

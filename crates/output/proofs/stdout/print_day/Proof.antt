@@ -6,7 +6,7 @@ use native.Mathlib.Omega.{arith}
 use denote.Ref.{now}
 use lib.ListN.{length, length-replicate}
 use Rattle.output.specs.Pieces.{Under, turnsLeft}
-use Rattle.output.proofs.Piecewise.{goes-on}
+use Rattle.output.proofs.Piecewise.{piece-goes-on}
 use borrow.Author.Needs.{needs}
 use Rattle.output.proofs.stdout.print_day.Statement.{statement}
 use Rattle.output.proofs.stdout.print_day.Tie as tie
@@ -47,7 +47,7 @@ print-day-spec =
     let at = test .before .before in
     let l = at .loop in
     rw (p .next-piece .ensures .day)
-    (goes-on (now (at .before .before .before .args .file)) (l .d) (l .inv .0) (going (l .written) (l .d .ended) (test .if1 .taken)) .less))
+    (piece-goes-on (now (at .before .before .before .args .file)) (l .d) (l .inv .0) (going (l .written) (l .d .ended) (test .if1 .taken)) .less))
     (λ c.
     let p = c .before .before .before .before .before in
     (p .next-piece .ensures .under, p .next-piece .kept .1 .1 .0 ∙ p .before .before .before .before .loop .inv .1))

@@ -7,7 +7,7 @@ use denote.Ref.{now}
 use lib.ListN.{length}
 use Rattle.fields.specs.Rows.{firstRow}
 use Rattle.fields.specs.declared.search.Found.{Found}
-use Rattle.ticket.specs.Layout.{ticketLength, senderOf, payeeOf, txidField}
+use Rattle.ticket.specs.TicketLayout.{ticketLength, senderOf, payeeOf, txidField}
 use Rattle.ticket.specs.declared.kinds.Kind.{Kind}
 use Rattle.ticket.specs.declared.kinds.Kind.the-variants.{Order}
 use Rattle.ticket.specs.declared.kinds.Kinded.the-variants.{As}

@@ -8,8 +8,8 @@ use Rattle.rules.specs.Book.{coverOf}
 use Rattle.rules.specs.Cover.{whole}
 use Rattle.rules.specs.declared.Cover.{Cover}
 use Rattle.course.specs.Room.{mostNumber, Room}
-use Rattle.turns.proofs.Fitting.{reportsOf}
-use Rattle.turns.proofs.Carrying.{Carried, first-fits, second-room, second-fits, carried, told-room}
+use Rattle.turns.proofs.VerdictFitting.{verdictReports}
+use Rattle.turns.proofs.CarryingOut.{CarriedOut, first-fits, second-room, second-fits, moves-carried-out, told-room}
 use Rattle.core.proofs.taking.take.Proof.Loop.{reports₀, long-reports, room}
 use Rattle.core.proofs.taking.take.Proof.Expiring.{hd, swept-book, expired}
 use Rattle.core.proofs.taking.take.Proof.Judging.{swept-at, v, suits}
@@ -64,7 +64,7 @@ module _ (c : at.After-put-notices-arg) where
   abbrev judged-4 : at.After-judge
   judged-4 = to.judged-from-After-put-notices-arg c
 
-  pub notices-fit : 12 * swept-at judged-4 .before .loop2 .n + 12 * length (reportsOf (v judged-4)) ≤ length (swept-at judged-4 .before .loop2 .reports)
+  pub notices-fit : 12 * swept-at judged-4 .before .loop2 .n + 12 * length (verdictReports (v judged-4)) ≤ length (swept-at judged-4 .before .loop2 .reports)
   notices-fit =
       let has = room (to.room-from-After-put-notices-arg c) .report in
       let long = long-reports (hd (swept-at judged-4)) in
@@ -88,11 +88,11 @@ module _ (c : at.After-slice-known6) where
   abbrev pub both : List Cover
   both = set (set (swept-book left-at .covers) (v judged-at .first .who) first-new) (v judged-at .second .who) second-new
 
-  pub carried-out : Carried (swept-book left-at) (v judged-at) (left-at .before .loop2 .n) (left-at .before .loop2 .reports) both
+  pub carried-out : CarriedOut (swept-book left-at) (v judged-at) (left-at .before .loop2 .n) (left-at .before .loop2 .reports) both
       (to.total-from-After-slice-known6 c .total-with2 .result) (to.told-from-After-slice-known6 c .put-notices .result)
       (to.told-from-After-slice-known6 c .put-notices .last .0)
   carried-out =
-      carried (expired left-at) (suits judged-at) (to.first-from-After-slice-known6 c .moved2 .ensures) (hd left-at .loop .inv .sum)
+      moves-carried-out (expired left-at) (suits judged-at) (to.first-from-After-slice-known6 c .moved2 .ensures) (hd left-at .loop .inv .sum)
       (to.sum-from-After-slice-known6 c .total-with .ensures) (to.second-from-After-slice-known6 c .moved3 .ensures)
       (to.total-from-After-slice-known6 c .total-with2 .ensures) (to.told-from-After-slice-known6 c .put-notices .ensures .1)
       (to.told-from-After-slice-known6 c .put-notices .ensures .0)

@@ -14,13 +14,13 @@ use Rattle.rules.specs.declared.Status.the-variants.{Waiting}
 use Rattle.rules.specs.declared.Book.{Book}
 use Rattle.index.specs.Words.{txidWords}
 use Rattle.index.specs.Chains.{rowBucket}
-use Rattle.index.proofs.Lending.{bucket-inside}
-use Rattle.ticket.specs.Layout.{txidField}
+use Rattle.index.proofs.LentRows.{bucket-inside}
+use Rattle.ticket.specs.TicketLayout.{txidField}
 use Rattle.turns.proofs.Facts.{Searched, number-is, way-is, new-order}
-use Rattle.turns.proofs.Carrying.{cut-size, cut-room, cut-whole}
+use Rattle.turns.proofs.CarryingOut.{cut-size, cut-room, cut-whole}
 use Rattle.turns.proofs.Done.{Done}
-use Rattle.turns.proofs.Ending.{did-nothing, changed, opened, cut}
-use Rattle.core.proofs.Keeping.{done-as}
+use Rattle.turns.proofs.TurnEnds.{did-nothing, changed, order-opened, cut}
+use Rattle.core.proofs.LoopKeeping.{done-as}
 use Rattle.core.proofs.taking.take.Proof.Loop.{start, b, long-reports, ticket, room}
 use Rattle.core.proofs.taking.take.Proof.Expiring.{saw, seen-at, hd, swept-book, expired}
 use Rattle.core.proofs.taking.take.Proof.Judging.{follows, searched, v, verdict-is, suits}
@@ -116,7 +116,7 @@ module _ (c : at.At-match2-came) where
       (⊎-elim
       (λ x.
       done-as
-      (opened w is k index (x .1 .given .1)
+      (order-opened w is k index (x .1 .given .1)
       (ap (newly _) (x .15 .ensures) ∙ new-order w found ours way (x .4 .ensures))
       (x .17) (x .14 .ensures ∙ ap rowsFollowed (way-is w found ours way)) (λ s long. refl) refl (bucket-inside (txidWords (txidField (ticket hh))))
       (x .10 .ensures .0) (x .10 .ensures .1) (x .10 .ensures .2))

@@ -8,7 +8,7 @@ use native.Mathlib.Omega.{arith}
 use borrow.Author.Tests.{ltb-true, ltb-false}
 use lib.ListN.{length, set, length-set}
 use lib.Seq.{sets, length-sets}
-use Rattle.report.specs.Layout.{reportsBytes}
+use Rattle.report.specs.ReportLayout.{reportsBytes}
 use Rattle.dayfile.specs.declared.roster.Roster.{Roster}
 use Rattle.rules.specs.Book.{orderOf, isBank}
 use Rattle.rules.specs.Tick.{atTime}
@@ -20,11 +20,11 @@ use Rattle.course.specs.Expiry.{expiryOf, expiryIn, lapsed, Passed}
 use Rattle.course.specs.declared.Entry.{Entry}
 use Rattle.course.specs.declared.Expiry.{Expiry}
 use Rattle.course.proofs.Looping.{Sweeping, at-sound, at-count, at-roster, at-few, one-more}
-use Rattle.course.proofs.Fitting.{Freeable, expiry-fits}
+use Rattle.course.proofs.SoughtFitting.{Freeable, expiry-fits}
 use Rattle.course.proofs.Applying.{listed-few}
 use Rattle.sight.specs.declared.Seen.{Seen}
-use Rattle.turns.proofs.Turn.{Taken, start-sound, loop-count, Expired, expiries-done}
-use Rattle.core.proofs.Seeing.{entryBy, Sighted, sight-read}
+use Rattle.turns.proofs.Turn.{TakenUp, clocked-sound, loop-count, Expired, expiries-done}
+use Rattle.core.proofs.SeenEntry.{entryBy, Sighted, sight-read}
 use Rattle.core.proofs.taking.take.Proof.Loop.{start, b, reports₀, sound, long-reports, ticket, room}
 use Rattle.core.proofs.taking.take.Proof.Seen.{top, seen-is}
 use Rattle.core.proofs.taking.take.Tie as tie
@@ -46,14 +46,14 @@ module _ (c : at.After-known-told) where
   pub sighted : Sighted (b outer) (ticket outer) saw
   sighted = sight-read (b outer) (ticket outer) (sym (seen-is (to.seen-from-After-known-told c)) ∙ c .before .sight .given .1)
 
-  pub taken : Taken (b outer) (ticket outer) entry
+  pub taken : TakenUp (b outer) (ticket outer) entry
   taken = record { sound = sound outer; is = sighted .is; passes = refl }
 
   abbrev pub begins : Book
   begins = atTime (b outer) (entry .time)
 
   pub begins-sound : Sound begins
-  begins-sound = start-sound taken
+  begins-sound = clocked-sound taken
 
 -- an order is looked at
 module _ (c : at.In-loop2) where

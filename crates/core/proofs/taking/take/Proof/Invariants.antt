@@ -4,7 +4,7 @@ use Prim.Native.Nat.{ℕ, _-_, _*_, _≤_}
 use lib.ListN.{length}
 use Rattle.rules.specs.Tick.{atTime}
 use Rattle.course.proofs.Looping.{Sweeping}
-use Rattle.core.proofs.Keeping.{Kept}
+use Rattle.core.proofs.LoopKeeping.{LoopKept}
 use Rattle.core.proofs.taking.take.Tie as tie
 
 -- the loop over orders
@@ -19,7 +19,7 @@ abbrev pub μ-loop2 : tie.MeasureT-loop2
 -- the loop over tickets
 abbrev pub Inv-loop : tie.InvT-loop
 Inv-loop tickets answers₀ reports₀ bics bic-heads bic-links routes route-heads route-links kinds numbers b₀ roster size rows txids₀ heads₀ links₀ total₀ next₀ taken₀ n₀ answers reports b txids heads links total next taken n =
-    Kept b₀ tickets answers₀ reports₀ b txids heads links total next taken n answers reports
+    LoopKept b₀ tickets answers₀ reports₀ b txids heads links total next taken n answers reports
 
 abbrev pub μ-loop : tie.MeasureT-loop
 μ-loop tickets answers₀ reports₀ bics bic-heads bic-links routes route-heads route-links kinds numbers b₀ roster size rows txids₀ heads₀ links₀ total₀ next₀ taken₀ n₀ answers reports b txids heads links total next taken n =

@@ -19,7 +19,7 @@ use Rattle.course.specs.Seeking.{seeksOpen, sought}
 use Rattle.verdict.specs.Judgement.{verdictOf}
 use Rattle.verdict.specs.Meaning.{aboutOf, factsOf}
 use Rattle.turns.proofs.Facts.{Searched, total-few, sender-in, order-in, payee-in, facts-are}
-use Rattle.turns.proofs.Fitting.{Fits, fits}
+use Rattle.turns.proofs.VerdictFitting.{Fits, fits}
 use Rattle.core.proofs.taking.take.Proof.Loop.{start, b, ticket}
 use Rattle.core.proofs.taking.take.Proof.Expiring.{saw, entry, sighted, seen-at, hd, swept-book, expired}
 use Rattle.core.proofs.taking.take.Proof.Places as at

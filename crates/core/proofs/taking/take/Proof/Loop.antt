@@ -8,7 +8,7 @@ use borrow.Author.Needs.{needs}
 use denote.Ref.{now}
 use lib.ListN.{length, take, drop}
 use Rattle.fields.proofs.Stores.{length-part}
-use Rattle.ticket.specs.Layout.{txidField}
+use Rattle.ticket.specs.TicketLayout.{txidField}
 use Rattle.rules.specs.Sound.{Sound}
 use Rattle.rules.specs.declared.Book.{Book}
 use Rattle.course.specs.Running.{roomLeft}

@@ -5,15 +5,15 @@ use Prim.Native.Nat.{ℕ}
 use borrow.Author.Tests.{eqb-false, not-true}
 use Rattle.rules.specs.declared.verdict.Verdict.{Verdict}
 use Rattle.course.specs.Seeking.{sought}
-use Rattle.verdict.specs.Step.{refusedVerdict}
+use Rattle.verdict.specs.OwnStep.{refusedVerdict}
 use Rattle.verdict.specs.Judgement.{verdictOf}
 use Rattle.verdict.specs.Meaning.{factsOf}
-use Rattle.verdict.proofs.Fitting.{refused-alone}
+use Rattle.verdict.proofs.VerdictLaws.{refused-alone}
 use Rattle.index.specs.Words.{txidWords}
 use Rattle.index.specs.Chains.{rowBucket}
-use Rattle.turns.proofs.Carrying.{nothing-carried}
+use Rattle.turns.proofs.CarryingOut.{nothing-carried}
 use Rattle.turns.proofs.Done.{Done}
-use Rattle.turns.proofs.Ending.{did-nothing}
+use Rattle.turns.proofs.TurnEnds.{did-nothing}
 use Rattle.core.proofs.taking.take.Proof.Loop.{b, ticket}
 use Rattle.core.proofs.taking.take.Proof.Expiring.{entry, seen-at, hd, swept-book, expired}
 use Rattle.core.proofs.taking.take.Proof.Judging.{swept-at, v, verdict-is}

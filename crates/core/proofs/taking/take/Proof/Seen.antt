@@ -14,7 +14,7 @@ use Rattle.index.specs.Chains.{rowBucket}
 use Rattle.sight.specs.Sight.{sightOf, sightRefusal}
 use Rattle.sight.specs.declared.Sight.{Sight}
 use Rattle.turns.proofs.Done.{Done, turned-down, refused-answer}
-use Rattle.core.proofs.Seeing.{sight-refused}
+use Rattle.core.proofs.SeenEntry.{sight-refused}
 use Rattle.core.proofs.Searching.{all-found}
 use Rattle.core.proofs.taking.take.Proof.Loop.{start, b, sound, ticket, ticket-bytes, whole-ticket}
 use Rattle.core.proofs.taking.take.Proof.Places as at

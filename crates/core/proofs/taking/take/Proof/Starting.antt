@@ -7,7 +7,7 @@ use Rattle.rules.specs.Book.{orderOf}
 use Rattle.course.proofs.Running.{started}
 use Rattle.course.proofs.Seeking.{total-sum}
 use Rattle.course.proofs.Summing.{all-total}
-use Rattle.index.proofs.Lending.{chained-fields}
+use Rattle.index.proofs.LentRows.{chained-fields}
 use Rattle.core.proofs.taking.take.Tie as tie
 use Rattle.core.proofs.taking.take.Proof.Invariants.{Inv-loop2, μ-loop2, Inv-loop, μ-loop}
 use Rattle.core.proofs.taking.take.Proof.Ways as to
