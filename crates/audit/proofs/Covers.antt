@@ -20,7 +20,7 @@ use Rattle.rules.specs.declared.decision.Move.the-variants.{Give, Draw, Credit,
 use Rattle.rules.specs.declared.decision.Told.{Told}
 use Rattle.rules.specs.declared.Cover.{Cover}
 use Rattle.rules.specs.declared.Book.{Book}
-use Rattle.rules.proofs.Same.{same-or-not}
+use Rattle.fields.proofs.Compared.{same-or-not}
 use Rattle.rules.proofs.CoverMoving.{onlyFor, for-none, nobody-moves}
 use Rattle.rules.proofs.Accepting.{fieldsOf}
 use Rattle.rules.proofs.Accepting as accepting

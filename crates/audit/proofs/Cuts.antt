@@ -25,7 +25,7 @@ use Rattle.rules.specs.Decision.{nobody, orderKept, applied}
 use Rattle.rules.specs.declared.decision.Told.{Told}
 use Rattle.rules.specs.declared.Cover.{Cover}
 use Rattle.rules.specs.declared.Book.{Book}
-use Rattle.rules.proofs.Same.{same-or-not, below-or-not}
+use Rattle.fields.proofs.Compared.{same-or-not, below-or-not}
 use Rattle.rules.proofs.CoverMoving.{nobody-moves}
 use Rattle.rules.proofs.Cutting.{Closed, cut-right, cut-each}
 use Rattle.rules.proofs.StepSound.{all-closed}

@@ -20,7 +20,7 @@ use Rattle.rules.specs.Sound.{Sound}
 use Rattle.rules.specs.declared.Order.{Order}
 use Rattle.rules.specs.declared.Cover.{Cover}
 use Rattle.rules.specs.declared.Book.{Book}
-use Rattle.rules.proofs.Same.{same-or-not, below-or-not}
+use Rattle.fields.proofs.Compared.{same-or-not, below-or-not}
 use Rattle.rules.proofs.Expiring.{expiredIf, fours, Expires}
 use Rattle.audit.specs.History.{Event, History, _▹_, isSentBy}
 use Rattle.audit.specs.Sums.{firstWith, lastCut, goesOut, comesIn}

@@ -30,7 +30,7 @@ use Rattle.rules.specs.declared.Order.{Order}
 use Rattle.rules.specs.declared.Cover.{Cover}
 use Rattle.rules.specs.declared.Book.{Book}
 use Rattle.rules.proofs.CoverMoving.{gain, loss, onlyFor, Fitted, fitted, set-here, set-there, nobody-moves, transfer-whole, transfer-leaves}
-use Rattle.rules.proofs.Same.{same-or-not}
+use Rattle.fields.proofs.Compared.{same-or-not}
 use Rattle.rules.proofs.Refusing.{NoRefusal}
 use Rattle.rules.proofs.Accepting as accepting
 use Rattle.rules.proofs.Senders.{who-sends}

@@ -3,13 +3,13 @@ use mathlib.Core.Path.{_≡_, refl, sym}
 use mathlib.Core.Bool.{Bool, true, false, _&&_, _||_, not, cond, and-false}
 use mathlib.Core.List.{List, [], _∷_}
 use mathlib.Core.Logic.{_⊎_, ⊎-elim}
-use Prim.Native.Nat.{ℕ, zero, suc, _+_, _≤_, _<_}
+use Prim.Native.Nat.{ℕ, _+_, _≤_, _<_}
 use native.Mathlib.Omega.{arith}
 use borrow.Author.Tests.{eqb-true, eq-eqb, ltb-true, ltb-false, le-ltb}
 use lib.Dec.{ltb, eqb}
 use Rattle.fields.specs.UpTo.{allTo}
 use Rattle.fields.proofs.Tests.{and-left, and-right}
-use Rattle.fields.proofs.UpTo.{all-at}
+use Rattle.fields.proofs.UpTo.{all-at, all-to}
 use Rattle.report.specs.Ending.{isEnding, endingsIn}
 use Rattle.report.specs.declared.Report.{Report}
 use Rattle.dayfile.specs.declared.roster.Roster.{Roster}
@@ -17,7 +17,7 @@ use Rattle.rules.specs.Book.{orderOf, coverOf}
 use Rattle.rules.specs.Status.{isWaiting}
 use Rattle.rules.specs.Cover.{whole}
 use Rattle.rules.specs.declared.Book.{Book}
-use Rattle.rules.proofs.Same.{below-or-not}
+use Rattle.fields.proofs.Compared.{below-or-not}
 use Rattle.audit.specs.History.{Event, History, from, _▹_, participants, Each}
 use Rattle.audit.specs.Sums.{outgoing, incoming}
 use Rattle.audit.specs.Orders.{orderCount, orderAmount, waits, waitingTotal, letsExpire, mustExpire, endingTickets, allEndings, tellsParties}
@@ -39,11 +39,6 @@ true-agree false b e = rw (← e)
 
 and-both : (a b : Bool) → a ≡ true → b ≡ true → (a && b) ≡ true
 and-both a b e f = rw (e, f)
-
--- a test that passes at each number below n passes up to n
-all-of : (test : ℕ → Bool) (n : ℕ) → ((i : ℕ) → i < n → test i ≡ true) → allTo test n ≡ true
-all-of test zero h = refl
-all-of test (suc n) h = and-both (allTo test n) (test n) (all-of test n (λ i l. h i (omega arith))) (h n (omega arith))
 
 module _ (ps : Roster) (h : History) (b : Book) where
   abbrev pub coverAt : ℕ → Bool
@@ -245,21 +240,21 @@ module _ (h : History) (b : Book) where
       all-passing (clauses h b) (
         true-each (λ e before. tellsParties ps e) (λ e before. tellsParties ps e ≡ true) (λ e before q. q) h (c .told),
         (
-          all-of (coverAt ps h b) (ps .size) (λ p l. eq-eqb _ _ (c .cover p l)),
+          all-to (coverAt ps h b) (ps .size) (λ p l. eq-eqb _ _ (c .cover p l)),
           (
-            all-of (reservedAt ps h b) (ps .size) (λ p l. eq-eqb _ _ (c .reserved p l)),
+            all-to (reservedAt ps h b) (ps .size) (λ p l. eq-eqb _ _ (c .reserved p l)),
             (
               eq-eqb _ _ (c .held),
               (
-                all-of (waitingAt ps h b) (orderCount h) (λ i l. true-agree _ _ (c .waiting i l)),
+                all-to (waitingAt ps h b) (orderCount h) (λ i l. true-agree _ _ (c .waiting i l)),
                 (
                   true-each (expiryTest ps (orderCount h)) (λ e before. (i : ℕ) → letsExpire i e before ≡ mustExpire ps i e before)
-                      (λ e before t. all-of (expiryAt ps e before) (orderCount before + orderCount h) (λ i l. true-agree _ _ (t i))) h (c .expiry),
+                      (λ e before t. all-to (expiryAt ps e before) (orderCount before + orderCount h) (λ i l. true-agree _ _ (t i))) h (c .expiry),
                   (
                     true-each knownIn (λ e before. Known (orderCount before) (e .reports)) (λ e before. known-below (orderCount before) (e .reports)) h (c .known),
                     (
-                      all-of (onceAt h) (orderCount h) (λ i l. eq-eqb _ _ (c .once i l)),
-                      (all-of (alikeAt h) (orderCount h) (λ i l. true-carry (codeOf (allEndings i h)) (orderAmount i h) (allEndings i h) (c .alike i l)), tt),
+                      all-to (onceAt h) (orderCount h) (λ i l. eq-eqb _ _ (c .once i l)),
+                      (all-to (alikeAt h) (orderCount h) (λ i l. true-carry (codeOf (allEndings i h)) (orderAmount i h) (allEndings i h) (c .alike i l)), tt),
                     ),
                   ),
                 ),

@@ -50,7 +50,7 @@ pub fn payee_check(route: Found, way: Followed) -> Payee
     ensures { λ r. ⌜ r ≡ payeeCheck route way ⌝ }
 {
     match route {
-        Found::At(_) => Payee::Reached(routes::reached(way)),
+        Found::At(_) => Payee::Reached(dayfile::reached(way)),
         Found::Nothing => Payee::NoRoute,
     }
 }

@@ -18,7 +18,7 @@ use Rattle.course.specs.Expiry.{Passed}
 use Rattle.course.proofs.Running.{Going}
 use Rattle.course.proofs.Summing.{allOf}
 use Rattle.index.specs.Words.{txidWords}
-use Rattle.index.specs.Chains.{rowBucket}
+use Rattle.index.specs.RowChains.{rowBucket}
 use Rattle.turns.proofs.Index.{TxidIndex}
 use Rattle.turns.proofs.Done.{Done, going-on}
 

@@ -2,7 +2,7 @@
 -- Assumes nothing.
 use mathlib.Core.Path.{_≡_, sym, _∙_, ap}
 use mathlib.Core.List.{List}
-use Prim.Native.Nat.{ℕ, _*_, _≤_}
+use Prim.Native.Nat.{ℕ}
 use native.Mathlib.Omega.{arith}
 use lib.ListN.{length}
 use Rattle.fields.specs.Search.{firstTo}
@@ -19,7 +19,7 @@ use Rattle.rules.specs.Find.{senderIn, orderIn, routeIn}
 use Rattle.rules.specs.Sound.{Sound}
 use Rattle.rules.specs.declared.Book.{Book}
 use Rattle.index.specs.Words.{Bytes, bicWords, txidWords}
-use Rattle.index.specs.Chains.{rowBucket}
+use Rattle.index.specs.RowChains.{rowBucket}
 use Rattle.index.specs.LentRows.{TxidRows}
 use Rattle.index.proofs.Comparing.{part-bytes}
 use Rattle.index.proofs.LentRows.{bic-found, txid-found, txid-rows}

@@ -10,7 +10,6 @@ use Prim.Native.Nat.{ℕ}
 use native.Mathlib.Omega.{arith}
 use lib.Dec.{eqb}
 use borrow.Author.Tests.{eqb-true}
-use Rattle.fields.specs.declared.search.Found.{Found}
 use Rattle.rules.specs.Find.{senderIn, orderIn, routeIn}
 use Rattle.rules.specs.declared.Book.{Book}
 use Rattle.course.specs.Entry.{entryOf}

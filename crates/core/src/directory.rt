@@ -2,7 +2,6 @@
 // route row leads.
 use dayfile::roster::Roster;
 use index::chains;
-ghost use Rattle.rules.specs.Sound.{Sound};
 ghost use Rattle.dayfile.specs.Guarantee.{Guaranteed};
 ghost use Rattle.core.specs.Directory.{Directs};
 

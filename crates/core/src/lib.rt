@@ -1,6 +1,7 @@
 // The core: a book is kept over many tickets and changed in place.
 
 mod directory;
+mod room;
 mod taking;
 
 use rules::Book;

@@ -1,12 +1,11 @@
 // Tickets one after the other, each in a turn: it is seen, orders expire, it is judged, and what was judged is carried out.
 use super::Batch;
+use super::room;
 use index::chains;
 use moves::cover;
 use moves::cut;
-use moves::find;
 use moves::sums;
 use moves::told;
-use orders::room;
 use orders::status;
 use orders::tick;
 use report::answer;
@@ -135,7 +134,7 @@ pub fn take<'a>(
                 break;
             }
             let payee = o.payee;
-            let bank = find::is_bank(roster.participants[payee]);
+            let bank = dayfile::is_bank(roster.participants[payee]);
             let lapse = tick::expire(b.clock, next, o, bank);
             let order = lapse.order;
             b.orders[next] = order;
@@ -177,7 +176,7 @@ pub fn take<'a>(
                 amount: o.amount,
                 status,
             },
-            bank: find::is_bank(roster.participants[payee]),
+            bank: dayfile::is_bank(roster.participants[payee]),
             route,
             way,
             count: b.count,
@@ -238,11 +237,11 @@ pub fn take<'a>(
                     k,
                     &t[layout::TXID..layout::IBAN],
                 );
-                followed = routes::rows_followed(way);
+                followed = dayfile::rows_followed(way);
                 b.orders[k] = Order {
                     txid,
                     payer: p,
-                    payee: routes::reached(way),
+                    payee: dayfile::reached(way),
                     amount: s.amount,
                     time: b.clock,
                     status: Status::Waiting,

@@ -9,7 +9,7 @@ use Rattle.rules.specs.Decision.{applied}
 use Rattle.rules.specs.declared.decision.Decision.{Decision}
 use Rattle.rules.specs.declared.Order.{Order}
 use Rattle.rules.specs.declared.Book.{Book}
-use Rattle.rules.proofs.Same.{same-or-not}
+use Rattle.fields.proofs.Compared.{same-or-not}
 
 -- as many orders are held as before, and the one written keeps its TxId
 pub record KeepsName (b : Book) (d : Decision) : Type 0 where

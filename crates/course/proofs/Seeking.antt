@@ -24,7 +24,7 @@ use Rattle.rules.specs.Sound.{Sound}
 use Rattle.rules.specs.declared.finding.Finding.{Finding}
 use Rattle.rules.specs.declared.Order.{Order}
 use Rattle.rules.specs.declared.Book.{Book}
-use Rattle.rules.proofs.Same.{same-or-not}
+use Rattle.fields.proofs.Compared.{same-or-not}
 use Rattle.rules.proofs.SweepSound.{swept}
 use Rattle.course.specs.Expiry.{expires, stays, expiryIn}
 use Rattle.course.specs.Seeking.{soughtSender, soughtOrder, sought}

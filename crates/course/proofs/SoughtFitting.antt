@@ -6,7 +6,7 @@ use mathlib.Core.List.{List}
 use mathlib.Core.Logic.{_⊎_, inl, inr, ⊎-elim}
 use Prim.Native.Nat.{ℕ, _≤_, _<_}
 use native.Mathlib.Omega.{arith}
-use borrow.Author.Tests.{eqb-true, eqb-false, ltb-false}
+use borrow.Author.Tests.{eqb-true, ltb-false}
 use lib.Dec.{eqb, ltb}
 use lib.ListN.{length}
 use Rattle.fields.specs.Search.{numberOf, firstTo}
@@ -50,11 +50,12 @@ use Rattle.rules.specs.declared.Status.the-variants as status
 use Rattle.rules.specs.declared.Order.{Order}
 use Rattle.rules.specs.declared.Cover.{Cover}
 use Rattle.rules.specs.declared.Book.{Book}
-use Rattle.rules.proofs.Same.{below-or-not}
+use Rattle.fields.proofs.Compared.{below-or-not}
+use Rattle.fields.proofs.Tests.{never}
 use Rattle.rules.proofs.CoverMoving.{gain, onlyFor, fitted, transfer-whole, for-none}
 use Rattle.rules.proofs.SweepSound.{due-waits}
 use Rattle.rules.proofs.SoundLimits.{whole-limited, participant-below, waiting-reserved}
-use Rattle.rules.proofs.Refusing.{NoRefusal, none-applies}
+use Rattle.rules.proofs.Refusing.{NoRefusal, none-applies, both-none}
 use Rattle.rules.proofs.Accepting.{fieldsOf}
 use Rattle.rules.proofs.Accepting as accepting
 use Rattle.course.specs.Room.{Room, Applicable}
@@ -183,9 +184,6 @@ module _ (b : Book) (s : Sound b) where
   pub stays-applicable : (e : Entry) (t : List ℕ) (cuts : Bool) (told : Told) → (cuts ≡ true → told ≡ Nobody) → Applicable b (orderKept (sought b e t) nobody cuts told)
   stays-applicable e t cuts told alone = kept-applicable e t nobody cuts told (omega arith) (omega arith) tt (λ c. (refl, refl, alone c))
 
-  never : {A : Type 0} → _≡_ {A = Bool} false true → A
-  never e = let z : _≡_ {A = ℕ} 0 1 = cc in absurd (omega arith)
-
   -- the order gets a status that is not Waiting
   becomes-applicable : (e : Entry) (t : List ℕ) (u : Status) (m q : Transfer) (told : Told) → isWaiting u ≡ false
       → m .who < mostParticipants → m .amount ≤ mostTotal → Room (m .how) (m .amount) (coverOf (b .covers) (m .who))
@@ -202,9 +200,9 @@ module _ (b : Book) (s : Sound b) where
         secondMost = most′;
         firstRoom = fits;
         secondRoom = fits′;
-        waits = λ l w. never (sym ended ∙ w);
+        waits = λ l w. never (sym w ∙ ended);
         rows = omega arith;
-        cuts = λ c. never c;
+        cuts = λ c. never (sym c);
       }
 
   -- of a first move that brings nothing in, the covers that it leaves are within the limit
@@ -240,10 +238,10 @@ module _ (b : Book) (s : Sound b) where
     pub decided-applicable : (k : Kind) → Tells t (f k) → NoRefusal (finding b (f k) t) → Applicable b (decisionOf (sought b (entry k) t))
     decided-applicable kind.CoverIn tells none =
         kept-applicable (entry kind.CoverIn) t _ false Nobody (sender-known kind.CoverIn refl none) (tells .most)
-        (sender-room kind.CoverIn Give refl none (tells .most) tt) (λ c. never c)
+        (sender-room kind.CoverIn Give refl none (tells .most) tt) (λ c. never (sym c))
     decided-applicable kind.CoverOut tells none =
         kept-applicable (entry kind.CoverOut) t _ false Nobody (sender-known kind.CoverOut refl none) (tells .most)
-        (sender-room kind.CoverOut Draw refl none (tells .most) (accepting.cover-there b (f kind.CoverOut) t (none .r20) refl)) (λ c. never c)
+        (sender-room kind.CoverOut Draw refl none (tells .most) (accepting.cover-there b (f kind.CoverOut) t (none .r20) refl)) (λ c. never (sym c))
     decided-applicable kind.Order tells none =
         record {
           number = accepting.order-room b (f kind.Order) t (none .r15) refl;
@@ -257,7 +255,7 @@ module _ (b : Book) (s : Sound b) where
           secondRoom = tt;
           waits = λ l w. absurd (omega arith);
           rows = rows-below true t;
-          cuts = λ c. never c;
+          cuts = λ c. never (sym c);
         }
     decided-applicable kind.Yes tells none =
         let h = accepting.order-found b (f kind.Yes) t (none .r16) refl .below in
@@ -295,18 +293,18 @@ module _ (b : Book) (s : Sound b) where
         (left-limited m payee enough refl (o .payer) (whole-limited b s (o .payer) payer)))
     decided-applicable kind.Decline tells none =
         becomes-applicable (entry kind.Decline) t (status.Settled mark.Declined) nobody nobody _ refl (omega arith) (omega arith) tt (omega arith) (omega arith) tt
-    decided-applicable kind.Inquiry tells none = stays-applicable (entry kind.Inquiry) t false (decisionOf (sought b (entry kind.Inquiry) t) .told) (λ c. never c)
+    decided-applicable kind.Inquiry tells none = stays-applicable (entry kind.Inquiry) t false (decisionOf (sought b (entry kind.Inquiry) t) .told) (λ c. never (sym c))
     decided-applicable kind.Cut tells none = stays-applicable (entry kind.Cut) t true Nobody (λ c. refl)
     decided-applicable kind.Confirm tells none = confirms (eqb (coverOf (b .covers) (who kind.Confirm) .held) 0)
       where
         confirms : (z : Bool) → Applicable b (orderKept (sought b (entry kind.Confirm) t) (by (who kind.Confirm) (cond z Debit Credit) n) false Nobody)
         confirms true =
             kept-applicable (entry kind.Confirm) t (by (who kind.Confirm) Debit n) false Nobody (sender-known kind.Confirm refl none) (tells .most)
-            (sender-room kind.Confirm Debit refl none (tells .most) tt) (λ c. never c)
+            (sender-room kind.Confirm Debit refl none (tells .most) tt) (λ c. never (sym c))
         confirms false =
             kept-applicable (entry kind.Confirm) t (by (who kind.Confirm) Credit n) false Nobody (sender-known kind.Confirm refl none) (tells .most)
-            (sender-room kind.Confirm Credit refl none (tells .most) tt) (λ c. never c)
-    decided-applicable kind.Tick tells none = stays-applicable (entry kind.Tick) t false Nobody (λ c. never c)
+            (sender-room kind.Confirm Credit refl none (tells .most) tt) (λ c. never (sym c))
+    decided-applicable kind.Tick tells none = stays-applicable (entry kind.Tick) t false Nobody (λ c. never (sym c))
 
 -- what an order's expiry moves has room
 pub record Freeable (b : Book) (x : Expiry) : Type 0 where
@@ -330,14 +328,6 @@ expiry-fits b s i h = go (due (b .clock) o (isBank (b .roster) (o .payee))) refl
               (let m = s .orders .most i h in omega arith) (whole-limited b s (o .payer) payer);
         }
     go false e = record { who = omega arith; fits = tt }
-
--- of two numbers the first that is not 0 is 0
-both-none : (m n : ℕ) → firstOf m n ≡ 0 → (m ≡ 0) × (n ≡ 0)
-both-none m n e = go (eqb m 0) refl e
-  where
-    go : (z : Bool) → eqb m 0 ≡ z → cond z n m ≡ 0 → (m ≡ 0) × (n ≡ 0)
-    go true q e′ = (eqb-true m 0 q, e′)
-    go false q e′ = absurd (eqb-false m 0 q e′)
 
 -- an entry that no refusal from 7 to 11 stopped has what its ticket tells
 pub record Entered (clock : ℕ) (t : List ℕ) (e : Entry) : Type 0 where

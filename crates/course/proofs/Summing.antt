@@ -1,18 +1,15 @@
 -- All cover together, as the code keeps it: over all 32 places, moved by what each change of a cover adds and takes. Assumes nothing.
-use mathlib.Core.Path.{_≡_, refl, sym, _∙_, ap}
+use mathlib.Core.Path.{_≡_, refl, _∙_, ap}
 use mathlib.Core.Bool.{Bool, true, false, cond}
 use mathlib.Core.List.{List}
 use mathlib.Core.Logic.{⊎-elim}
 use Prim.Native.Nat.{ℕ, zero, suc, _+_, _-_, _≤_, _<_}
-use native.Mathlib.Nat.{eq-or-lt-of-le}
 use native.Mathlib.Omega.{arith}
 use borrow.Author.Tests.{ltb-true}
-use lib.Arith.{le-zero}
 use lib.Dec.{ltb}
 use lib.ListN.{length, set, length-set}
 use lib.Seq.{getD-set-other}
-use Rattle.fields.specs.UpTo.{sumTo}
-use Rattle.fields.proofs.UpTo.{sum-part, sum-same}
+use Rattle.fields.proofs.UpTo.{sum-part, sum-same, sum-beyond}
 use Rattle.dayfile.specs.FileLimits.{mostParticipants}
 use Rattle.dayfile.specs.Roster.{participantOf}
 use Rattle.dayfile.specs.declared.roster.Opening.{Opening}
@@ -30,7 +27,7 @@ use Rattle.rules.specs.declared.decision.Decision.{Decision}
 use Rattle.rules.specs.declared.Order.{Order}
 use Rattle.rules.specs.declared.Cover.{Cover}
 use Rattle.rules.specs.declared.Book.{Book}
-use Rattle.rules.proofs.Same.{below-or-not}
+use Rattle.fields.proofs.Compared.{below-or-not}
 use Rattle.rules.proofs.CoverMoving.{Fitted, set-total}
 use Rattle.rules.proofs.Cutting.{cut-each}
 use Rattle.rules.proofs.SweepSound.{swept, due-waits}
@@ -45,20 +42,11 @@ use Rattle.course.proofs.Applying.{covers, covers-uncut, covers-cut}
 unfoldable pub allOf : List Cover → ℕ
 allOf cs = totalOf mostParticipants cs
 
--- terms that are zero add nothing
-beyond : (f : ℕ → ℕ) (m n : ℕ) → m ≤ n → ((i : ℕ) → m ≤ i → i < n → f i ≡ 0) → sumTo f n ≡ sumTo f m
-beyond f m zero h z = ap (sumTo f) (sym (le-zero h))
-beyond f m (suc n) h z =
-    ⊎-elim
-    (λ (q : m ≡ suc n). ap (sumTo f) (sym q))
-    (λ (l : m < suc n). let e = beyond f m n (omega arith) (λ i a b. z i a (omega arith)) in let k = z n (omega arith) (omega arith) in omega arith)
-    (eq-or-lt-of-le h)
-
 -- who is no participant has none
 pub all-total : (b : Book) → Sound b → allOf (b .covers) ≡ total b
 unfolding total allOf
 all-total b s =
-    beyond (λ p. whole (coverOf (b .covers) p)) (b .roster .size) mostParticipants (s .roster .size) (λ p a l. ap whole (s .covers .outside p a l))
+    sum-beyond (λ p. whole (coverOf (b .covers) p)) (b .roster .size) mostParticipants (s .roster .size) (λ p a l. ap whole (s .covers .outside p a l))
 
 -- one cover is changed
 changed : (n : ℕ) (cs : List Cover) → Fitted n cs → (p : ℕ) → p < n → (c : Cover) → totalOf n cs - whole (coverOf cs p) + whole c ≡ totalOf n (set cs p c)

@@ -17,7 +17,7 @@ use Rattle.rules.specs.Tick.{Step, due, expireTold, sweepOne, sweepTo}
 use Rattle.rules.specs.Sound.{Sound}
 use Rattle.rules.specs.declared.Order.{Order}
 use Rattle.rules.specs.declared.Book.{Book}
-use Rattle.rules.proofs.Same.{same-or-not, below-or-not}
+use Rattle.fields.proofs.Compared.{same-or-not, below-or-not}
 use Rattle.rules.proofs.CoverMoving.{nobody-moves}
 use Rattle.rules.proofs.SweepSound.{Swept, swept}
 use Rattle.course.specs.Expiry.{expires, stays, expiryIn, lapsed, awaits, Passed}

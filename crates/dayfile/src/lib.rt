@@ -1,5 +1,5 @@
-// The types of a day file and of its roster. There is no code here: specs/ says what a file of any bytes gives, and what following a
-// payee BIC is; `dayrows` and `dayread` read a file.
+// The types of a day file and of its roster, and what is asked of one of their values. specs/ says what a file of any bytes gives, and
+// what following a payee BIC is; `dayrows` and `dayread` read a file.
 pub mod check;
 pub mod header;
 pub mod limits;
@@ -7,6 +7,9 @@ pub mod roster;
 pub mod route;
 
 use roster::Roster;
+pub use roster::is_bank;
+pub use route::reached;
+pub use route::rows_followed;
 
 // What a day file gives: the refusal, 0 if none; the roster, empty if refused; how many tickets there are and where the first lies.
 pub struct DayFile {

@@ -29,9 +29,9 @@ pub fn check_counts(h: Header) -> Ranged
     }
 }
 
-pub fn check_places(h: Header, length: usize) -> Placed
+pub fn check_places(h: Header, bytes: usize) -> Placed
     requires { ⌜ CountsInRange (h .counts) ⌝ }
-    ensures { λ r. ⌜ r ≡ placed h length ⌝ }
+    ensures { λ r. ⌜ r ≡ placed h bytes ⌝ }
 {
     let n = h.counts;
     let at = h.offsets;
@@ -41,7 +41,7 @@ pub fn check_places(h: Header, length: usize) -> Placed
     if (at.participants == limits::HEADER_LENGTH)
         & (at.routes == routes)
         & (at.tickets == tickets)
-        & (length == end)
+        & (bytes == end)
     {
         Placed::Right
     } else {

@@ -11,3 +11,5 @@ pub mod CaseRows
 pub mod Holding
 pub mod Laid
 pub mod Indexing
+pub mod Compared
+pub mod Chaining

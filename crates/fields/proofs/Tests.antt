@@ -2,6 +2,7 @@
 use mathlib.Core.Path.{_≡_, refl}
 use mathlib.Core.Bool.{Bool, true, false, _&&_, _||_, cond}
 use Prim.Native.Nat.{ℕ, _≤_}
+use native.Mathlib.Omega.{arith}
 use borrow.Author.Tests.{leb-true}
 use lib.Dec.{leb}
 
@@ -30,3 +31,7 @@ or-left false b e = refl
 pub or-right : (a b : Bool) → (a || b) ≡ false → b ≡ false
 or-right true b e = cc
 or-right false b e = e
+
+-- a test that passed and failed
+pub never : {A : Type 0} → _≡_ {A = Bool} true false → A
+never e = let z : _≡_ {A = ℕ} 0 1 = cc in absurd (omega arith)

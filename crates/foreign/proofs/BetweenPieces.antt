@@ -11,7 +11,7 @@ use Rattle.fields.proofs.Stores.{sets-part}
 use Rattle.dayfile.specs.DayFile.{dayFile}
 use Rattle.dayfile.proofs.Accepted.{file-guaranteed, with-tickets}
 use Rattle.rules.specs.Program.{output}
-use Rattle.rules.proofs.Same.{below-or-not}
+use Rattle.fields.proofs.Compared.{below-or-not}
 use Rattle.output.specs.Batch.{mostText}
 use Rattle.output.specs.Pieces.{begun, Under, toPrint, pieceText, dayAfter, turnsLeft, PieceOf}
 use Rattle.output.specs.declared.piece.Day.{Day}

@@ -1,7 +1,7 @@
 -- What the steps of a day's tickets leave behind: of a refused file nothing, else what the core leaves. Assumes nothing.
 use mathlib.Core.Path.{_≡_, refl, sym, _∙_, ap, subst}
 use mathlib.Core.List.{List, []}
-use Prim.Native.Nat.{ℕ, _+_, _≤_}
+use Prim.Native.Nat.{ℕ, _≤_}
 use native.Mathlib.Omega.{arith}
 use borrow.Author.Tests.{eq-eqb, ne-eqb}
 use lib.ListN.{length, drop}
@@ -16,7 +16,7 @@ use Rattle.rules.specs.declared.Book.{Book}
 use Rattle.course.specs.Running.{ran, Ran}
 use Rattle.book.specs.Opening.{opened}
 use Rattle.book.specs.declared.opening.Opened.{Opened}
-use Rattle.foreign.specs.Stepped.{ticketSection, stepsTaken, Stepped}
+use Rattle.foreign.specs.Stepped.{stepsTaken, Stepped}
 
 none : (b : Book) (a r : ℕ) → ran b [] a r ≡ []
 unfolding ran

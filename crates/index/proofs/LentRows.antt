@@ -18,15 +18,17 @@ use Rattle.codes.specs.Bic.{isBic}
 use Rattle.codes.specs.Txid.{isTxid}
 use Rattle.codes.proofs.WholeCodes.{bic-length}
 use Rattle.index.specs.Words.{Bytes, bicWords, txidWords}
-use Rattle.index.specs.Chains.{buckets, addedTo, rowBucket, Chained, Distinct}
+use Rattle.fields.specs.Chains.{Chained}
+use Rattle.index.specs.RowChains.{rowBuckets, addedTo, rowBucket, Distinct}
 use Rattle.index.specs.LentRows.{BicRows, TxidRows}
-use Rattle.index.proofs.Chaining.{same-chained, distinct-rows}
+use Rattle.fields.proofs.Chaining.{same-chained}
+use Rattle.index.proofs.RowChains.{distinct-rows}
 use Rattle.index.proofs.Comparing.{same-bics, same-txids}
 use Rattle.index.proofs.Coded.{bic-bytes, txid-bytes}
 
 -- chains by the rows that hold the fields of a table are chains by the fields
 module _ {width n : ℕ} {field : ℕ → List ℕ} {rows heads links : List ℕ} (held : Indexed width field n rows) where
-  pub chained-fields : Chained (λ i. rowBucket (part width (width * i) rows)) n heads links → Chained (λ i. rowBucket (field i)) n heads links
+  pub chained-fields : Chained rowBuckets (λ i. rowBucket (part width (width * i) rows)) n heads links → Chained rowBuckets (λ i. rowBucket (field i)) n heads links
   chained-fields c = same-chained c (λ i l. ap rowBucket (held .row i l))
 
 -- fields of one length, of bytes, told apart by their words
@@ -65,8 +67,8 @@ module _ (bic : ℕ → List ℕ) {n : ℕ} {rows : List ℕ} (held : Indexed 2 
   pub bic-found : (s : List ℕ) → length s ≡ 11 → Bytes s → firstRow 2 n (bicWords s) rows ≡ firstTo (λ p. same (bic p) s) n
   bic-found = found-by-words bicWords 11 same-bics bic held long-bic bytes-of-bic
 
-  pub bic-rows : {heads links : List ℕ} → ((i j : ℕ) → i < j → j < n → same (bic i) (bic j) ≡ false) → length heads ≡ buckets
-      → n ≤ length links → 2 * n ≤ length rows → Chained (λ i. rowBucket (part 2 (2 * i) rows)) n heads links → BicRows n rows heads links
+  pub bic-rows : {heads links : List ℕ} → ((i j : ℕ) → i < j → j < n → same (bic i) (bic j) ≡ false) → length heads ≡ rowBuckets
+      → n ≤ length links → 2 * n ≤ length rows → Chained rowBuckets (λ i. rowBucket (part 2 (2 * i) rows)) n heads links → BicRows n rows heads links
   bic-rows differ headed linked long chained =
       record {
         headed = headed;
@@ -86,8 +88,8 @@ module _ (txid : ℕ → List ℕ) {n : ℕ} {rows : List ℕ} (held : Indexed 5
   pub txid-found : (s : List ℕ) → length s ≡ 35 → Bytes s → firstRow 5 n (txidWords s) rows ≡ firstTo (λ i. same (txid i) s) n
   txid-found = found-by-words txidWords 35 same-txids txid held wide bytes-of-txid
 
-  pub txid-rows : {heads links : List ℕ} → ((i j : ℕ) → i < j → j < n → same (txid i) (txid j) ≡ false) → length heads ≡ buckets
-      → n ≤ length links → 5 * n ≤ length rows → Chained (λ i. rowBucket (part 5 (5 * i) rows)) n heads links → TxidRows n rows heads links
+  pub txid-rows : {heads links : List ℕ} → ((i j : ℕ) → i < j → j < n → same (txid i) (txid j) ≡ false) → length heads ≡ rowBuckets
+      → n ≤ length links → 5 * n ≤ length rows → Chained rowBuckets (λ i. rowBucket (part 5 (5 * i) rows)) n heads links → TxidRows n rows heads links
   txid-rows differ headed linked long chained =
       record {
         headed = headed;
@@ -99,6 +101,6 @@ module _ (txid : ℕ → List ℕ) {n : ℕ} {rows : List ℕ} (held : Indexed 5
       }
 
 -- a row's bucket is one of them
-pub bucket-inside : (ws : List ℕ) → rowBucket ws < buckets
+pub bucket-inside : (ws : List ℕ) → rowBucket ws < rowBuckets
 bucket-inside [] = lit< tt
 bucket-inside (w ∷ ws) = mod-lt (addedTo w ws) (lit< tt)

@@ -1,4 +1,4 @@
-pub mod Chaining
+pub mod RowChains
 pub mod Coded
 pub mod Comparing
 pub mod RowsFilling

@@ -14,20 +14,21 @@ use Rattle.fields.specs.Rows.{firstRow}
 use Rattle.codes.specs.Bic.{isBic}
 use Rattle.codes.specs.Txid.{isTxid}
 use Rattle.index.specs.Words.{Bytes, bicWords, txidWords}
-use Rattle.index.specs.Chains.{buckets, rowBucket, Chained, Distinct}
+use Rattle.fields.specs.Chains.{Chained}
+use Rattle.index.specs.RowChains.{rowBuckets, rowBucket, Distinct}
 
 pub record BicRows (n : ℕ) (rows heads links : List ℕ) : Type 0 where
-  pub headed : length heads ≡ buckets
+  pub headed : length heads ≡ rowBuckets
   pub linked : n ≤ length links
   pub long : 2 * n ≤ length rows
-  pub chained : Chained (λ i. rowBucket (part 2 (2 * i) rows)) n heads links
+  pub chained : Chained rowBuckets (λ i. rowBucket (part 2 (2 * i) rows)) n heads links
   pub distinct : Distinct 2 n rows
   pub formed : (s : List ℕ) → length s ≡ 11 → Bytes s → isFound (firstRow 2 n (bicWords s) rows) ≡ true → isBic s ≡ true
 
 pub record TxidRows (n : ℕ) (rows heads links : List ℕ) : Type 0 where
-  pub headed : length heads ≡ buckets
+  pub headed : length heads ≡ rowBuckets
   pub linked : n ≤ length links
   pub long : 5 * n ≤ length rows
-  pub chained : Chained (λ i. rowBucket (part 5 (5 * i) rows)) n heads links
+  pub chained : Chained rowBuckets (λ i. rowBucket (part 5 (5 * i) rows)) n heads links
   pub distinct : Distinct 5 n rows
   pub formed : (s : List ℕ) → length s ≡ 35 → Bytes s → isFound (firstRow 5 n (txidWords s) rows) ≡ true → isTxid (unpadded s) ≡ true

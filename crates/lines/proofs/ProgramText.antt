@@ -1,4 +1,4 @@
--- The text that is read off the buffers is the program's: of steps whose answers and reports are laid down, of covers, of a refusal.
+-- The text that is read off the buffers is the program's: of steps whose answers and reports are laid down, and of covers.
 -- Assumes nothing.
 use mathlib.Core.Path.{_≡_, refl, sym, _∙_, ap, ap₂}
 use mathlib.Core.List.{List, [], _∷_, _++_, append-nil, append-assoc}
@@ -17,35 +17,23 @@ use Rattle.report.specs.declared.answer.Answer.{Answer}
 use Rattle.rules.specs.Book.{coverOf}
 use Rattle.rules.specs.Tick.{Step}
 use Rattle.rules.specs.Taken.{answerOf, answersOf, reportsIn}
-use Rattle.rules.specs.Program.{decimal, numbers, reportLines, ticketLines, linesFrom, coverLines}
+use Rattle.rules.specs.Program.{numbers, reportLines, ticketLines, linesFrom, coverLines}
 use Rattle.rules.specs.declared.Book.{Book}
-use Rattle.lines.specs.Lines.{shown, spaced, answerLine, reportLine, reportsTo, startOf, ticketText, linesTo, coversTo, refusalLine}
+use Rattle.lines.specs.Lines.{answerLine, reportLine, reportsTo, startOf, ticketText, linesTo, coversTo}
 
--- the two names that stay shut
-pub shown-decimal : (n : ℕ) → shown n ≡ decimal n
-unfolding shown
-shown-decimal n = refl
-
-pub spaced-numbers : (ns : List ℕ) → spaced ns ≡ numbers ns
-unfolding spaced
-spaced-numbers ns = refl
-
--- covers, and a refused file
+-- covers
 pub covers-are : (b : Book) (n : ℕ) → coversTo (b .covers) n ≡ coverLines b n
 covers-are b zero = refl
 covers-are b (suc p) =
     let c = coverOf (b .covers) p in
-    ap₂ (λ (s t : List ℕ). s ++ (text "C" ++ t)) (covers-are b p) (spaced-numbers (p ∷ c .available ∷ c .reserved ∷ c .held ∷ []))
-
-pub refusal-is : (n : ℕ) → refusalLine n ≡ text "F" ++ numbers (n ∷ [])
-refusal-is n = ap (λ (t : List ℕ). text "F" ++ t) (spaced-numbers (n ∷ []))
+    ap (λ (s : List ℕ). s ++ (text "C" ++ numbers (p ∷ c .available ∷ c .reserved ∷ c .held ∷ []))) (covers-are b p)
 
 -- a line, and those behind it
 report-first : (r : Report) (rs : List Report) → reportLine r ++ reportLines rs ≡ reportLines (r ∷ rs)
-report-first r rs = ap (λ (t : List ℕ). text "R" ++ t ++ reportLines rs) (spaced-numbers (r .to ∷ r .code ∷ r .order ∷ r .amount ∷ []))
+report-first r rs = refl
 
 ticket-first : (n : ℕ) (s : Step) → answerLine n (answerOf s) ++ reportLines (s .reports) ≡ ticketLines n s
-ticket-first n s = ap (λ (t : List ℕ). text "T" ++ t ++ reportLines (s .reports)) (spaced-numbers (n ∷ s .refusal ∷ length (s .reports) ∷ s .rows ∷ []))
+ticket-first n s = refl
 
 abbrev noReport : Report
 noReport = record { to = 0; code = 0; order = 0; amount = 0 }

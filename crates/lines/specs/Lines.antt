@@ -1,6 +1,4 @@
 -- The program's text, read off the buffers that answers and reports are laid down in.
---     shown         a number in decimal: `decimal` under a name that stays shut, for what it unfolds to is long
---     spaced        numbers, each behind a space, and the end of the line: `numbers`, likewise
 --     answerLine    the line of a ticket with its number
 --     reportLine    the line of a report
 --     reportsTo     the lines of the first n reports from a number on
@@ -9,7 +7,6 @@
 --     linesTo       the lines of the first i tickets, numbered from k on
 --     coverLine     the line of a participant with its number
 --     coversTo      the lines of the first n participants
---     refusalLine   the line of a refused day file
 --     longestLine    the longest line of a ticket or a report; longestCoverLine, longestRefusalLine: of a participant, of a refused day file
 --     Lined         the lines of tickets can be written: their answers and reports stand in the buffers, and the text has room
 -- Assumes nothing.
@@ -22,20 +19,14 @@ use Rattle.report.specs.Answer.{answerLength, answerAt}
 use Rattle.report.specs.declared.Report.{Report}
 use Rattle.report.specs.declared.answer.Answer.{Answer}
 use Rattle.rules.specs.Book.{coverOf}
-use Rattle.rules.specs.Program.{decimal, numbers}
+use Rattle.rules.specs.Program.{numbers}
 use Rattle.rules.specs.declared.Cover.{Cover}
 
-unfoldable pub shown : ℕ → List ℕ
-shown n = decimal n
-
-unfoldable pub spaced : List ℕ → List ℕ
-spaced ns = numbers ns
-
 abbrev pub answerLine : ℕ → Answer → List ℕ
-answerLine n a = text "T" ++ spaced (n ∷ a .refusal ∷ a .reports ∷ a .rows ∷ [])
+answerLine n a = text "T" ++ numbers (n ∷ a .refusal ∷ a .reports ∷ a .rows ∷ [])
 
 abbrev pub reportLine : Report → List ℕ
-reportLine r = text "R" ++ spaced (r .to ∷ r .code ∷ r .order ∷ r .amount ∷ [])
+reportLine r = text "R" ++ numbers (r .to ∷ r .code ∷ r .order ∷ r .amount ∷ [])
 
 abbrev pub reportsTo : List ℕ → ℕ → ℕ → List ℕ
 reportsTo reports from zero = []
@@ -54,14 +45,11 @@ linesTo k zero answers reports = []
 linesTo k (suc i) answers reports = linesTo k i answers reports ++ ticketText (k + i) (answerAt answers i) reports (startOf answers i)
 
 abbrev pub coverLine : ℕ → Cover → List ℕ
-coverLine p c = text "C" ++ spaced (p ∷ c .available ∷ c .reserved ∷ c .held ∷ [])
+coverLine p c = text "C" ++ numbers (p ∷ c .available ∷ c .reserved ∷ c .held ∷ [])
 
 abbrev pub coversTo : List Cover → ℕ → List ℕ
 coversTo cs zero = []
 coversTo cs (suc p) = coversTo cs p ++ coverLine p (coverOf cs p)
-
-abbrev pub refusalLine : ℕ → List ℕ
-refusalLine n = text "F" ++ spaced (n ∷ [])
 
 -- a letter, the end of the line, and a space before each number: 20 digits for a number of 64 bits, 5 for 16, 3 for 8
 abbrev pub longestLine : ℕ

@@ -4,7 +4,8 @@ use rules::Cover;
 ghost use Prim.Native.Nat.{_+_, _*_, _≤_};
 ghost use lib.ListN.{length};
 ghost use Rattle.lines.specs.Written.{Written};
-ghost use Rattle.lines.specs.Lines.{coverLine, coversTo, refusalLine, longestCoverLine, longestRefusalLine};
+ghost use Rattle.rules.specs.Program.{refusalLine};
+ghost use Rattle.lines.specs.Lines.{coverLine, coversTo, longestCoverLine, longestRefusalLine};
 
 fn put_cover(text: &mut [u8], at: usize, p: usize, c: Cover) -> usize
     requires { ⌜ at + longestCoverLine ≤ length (now text) ⌝ }

@@ -14,18 +14,18 @@ use Rattle.dayfile.specs.DayFile.{dayFile}
 use Rattle.dayfile.proofs.Accepted.{file-guaranteed}
 use Rattle.rules.specs.Tick.{Step}
 use Rattle.rules.specs.Step.{stepsOf, bookAfter}
-use Rattle.rules.specs.Program.{linesFrom, coverLines, ticketsFrom, output}
+use Rattle.rules.specs.Program.{refusalLine, linesFrom, coverLines, ticketsFrom, output}
 use Rattle.rules.specs.Sound.{Sound}
 use Rattle.rules.specs.declared.Book.{Book}
-use Rattle.rules.proofs.Same.{same-or-not, below-or-not}
+use Rattle.fields.proofs.Compared.{same-or-not, below-or-not}
 use Rattle.rules.proofs.StepSound.{file-sound}
 use Rattle.course.specs.Running.{ran}
 use Rattle.course.proofs.PrintedBatches.{ran-sound, takes-one, Split, ran-splits, lines-append, after-append}
-use Rattle.lines.specs.Lines.{coversTo, refusalLine}
+use Rattle.lines.specs.Lines.{coversTo}
 use Rattle.lines.specs.Written.{Written}
-use Rattle.lines.proofs.ProgramText.{covers-are, refusal-is}
+use Rattle.lines.proofs.ProgramText.{covers-are}
 use Rattle.output.specs.Batch.{batch, Batched}
-use Rattle.output.specs.Pieces.{begun, Under, stepsLeft, linesLeft, refusedText, toPrint, nextBatch, pieceText, advanced, endedDay, dayAfter, turnsLeft, piecesTo, PieceOf}
+use Rattle.output.specs.Pieces.{begun, Under, stepsLeft, linesLeft, toPrint, nextBatch, pieceText, advanced, endedDay, dayAfter, turnsLeft, piecesTo, PieceOf}
 use Rattle.output.specs.declared.piece.Day.{Day}
 
 pub begun-under : (file : List ℕ) → Under file (begun file)
@@ -52,7 +52,7 @@ left-taken : (file : List ℕ) (d : Day) → d .ended ≡ false → d .refusal �
 unfolding toPrint
 left-taken file d going accepted = rw (going, eq-eqb (d .refusal) 0 accepted)
 
-refused-left : (file : List ℕ) (d : Day) → d .ended ≡ false → (d .refusal ≡ 0 → ⊥) → toPrint file d ≡ refusedText (d .refusal)
+refused-left : (file : List ℕ) (d : Day) → d .ended ≡ false → (d .refusal ≡ 0 → ⊥) → toPrint file d ≡ refusalLine (d .refusal)
 unfolding toPrint
 refused-left file d going refused = rw (going, ne-eqb (d .refusal) 0 refused)
 
@@ -79,7 +79,7 @@ module _ (file : List ℕ) (d : Day) where
     covers-day none = rw (eq-eqb (d .refusal) 0 accepted, le-ltb (d .taken) (d .tickets) none)
 
   module _ (refused : d .refusal ≡ 0 → ⊥) where
-    refusal-text : pieceText file d ≡ refusedText (d .refusal)
+    refusal-text : pieceText file d ≡ refusalLine (d .refusal)
     unfolding pieceText
     refusal-text = rw (ne-eqb (d .refusal) 0 refused)
 
@@ -181,7 +181,7 @@ module _ (file : List ℕ) (d : Day) (u : Under file d) where
   refusal-piece refused {text₀} {text′} {end} w within =
       record {
         day = sym (refusal-day file d refused);
-        text = subst (λ (t : List ℕ). Written text₀ text′ 0 t end) (refusal-is (d .refusal) ∙ sym (refusal-text file d refused)) w;
+        text = subst (λ (t : List ℕ). Written text₀ text′ 0 t end) (sym (refusal-text file d refused)) w;
         within = within;
         under = ended-under;
       }

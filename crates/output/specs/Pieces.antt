@@ -22,7 +22,7 @@ use Rattle.dayfile.specs.DayFile.{dayFile}
 use Rattle.rules.specs.Book.{bookOf}
 use Rattle.rules.specs.Tick.{Step}
 use Rattle.rules.specs.Step.{stepsOf, bookAfter}
-use Rattle.rules.specs.Program.{numbers, linesFrom, coverLines, ticketsFrom}
+use Rattle.rules.specs.Program.{refusalLine, linesFrom, coverLines, ticketsFrom}
 use Rattle.rules.specs.Sound.{Sound}
 use Rattle.rules.specs.declared.Book.{Book}
 use Rattle.lines.specs.Written.{Written}
@@ -54,11 +54,8 @@ stepsLeft file d = stepsOf (d .book) (ticketsFrom file (d .taken) (d .tickets - 
 abbrev pub linesLeft : Day → List Step → List ℕ
 linesLeft d ss = let c = bookAfter (d .book) ss in linesFrom (d .taken) ss ++ coverLines c (c .roster .size)
 
-abbrev pub refusedText : ℕ → List ℕ
-refusedText n = text "F" ++ numbers (n ∷ [])
-
 unfoldable pub toPrint : List ℕ → Day → List ℕ
-toPrint file d = cond (d .ended) [] (cond (eqb (d .refusal) 0) (linesLeft d (stepsLeft file d)) (refusedText (d .refusal)))
+toPrint file d = cond (d .ended) [] (cond (eqb (d .refusal) 0) (linesLeft d (stepsLeft file d)) (refusalLine (d .refusal)))
 
 abbrev pub nextBatch : List ℕ → Day → List Step
 nextBatch file d = batch (d .book) (drop (d .first + ticketLength * d .taken) file)
@@ -67,7 +64,7 @@ unfoldable pub pieceText : List ℕ → Day → List ℕ
 pieceText file d =
     cond (eqb (d .refusal) 0)
     (cond (ltb (d .taken) (d .tickets)) (linesFrom (d .taken) (nextBatch file d)) (coverLines (d .book) (d .book .roster .size)))
-    (refusedText (d .refusal))
+    (refusalLine (d .refusal))
 
 -- n tickets more
 abbrev pub advanced : Day → Book → ℕ → Day

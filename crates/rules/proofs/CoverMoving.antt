@@ -20,7 +20,7 @@ use Rattle.rules.specs.declared.decision.Move.{Move}
 use Rattle.rules.specs.declared.decision.Move.the-variants.{Stay, Give, Draw, Reserve, Release, Spend, Credit, Debit}
 use Rattle.rules.specs.declared.decision.Transfer.{Transfer}
 use Rattle.rules.specs.declared.Cover.{Cover}
-use Rattle.rules.proofs.Same.{same-or-not}
+use Rattle.fields.proofs.Compared.{same-or-not}
 
 -- what comes in, and what goes out
 abbrev pub gain : Move → ℕ → ℕ

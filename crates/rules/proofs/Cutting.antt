@@ -22,7 +22,7 @@ use Rattle.rules.specs.Find.{isOpen}
 use Rattle.rules.specs.Cut.{withHeld, withDebit, cutCover, cutTo}
 use Rattle.rules.specs.Sound.{CoversSound}
 use Rattle.rules.specs.declared.Cover.{Cover}
-use Rattle.rules.proofs.Same.{same-or-not, below-or-not}
+use Rattle.fields.proofs.Compared.{same-or-not, below-or-not}
 use Rattle.rules.proofs.CoverMoving.{Either, fitted, set-there, set-total, set-keeps}
 
 -- nothing held, no open debit

@@ -22,7 +22,7 @@ use Rattle.rules.specs.declared.Status.the-variants.{Expired}
 use Rattle.rules.specs.declared.Order.{Order}
 use Rattle.rules.specs.declared.Cover.{Cover}
 use Rattle.rules.specs.declared.Book.{Book}
-use Rattle.rules.proofs.Same.{same-or-not, below-or-not}
+use Rattle.fields.proofs.Compared.{same-or-not, below-or-not}
 use Rattle.rules.proofs.CoverMoving.{for-none, fitted, transfer-whole, transfer-leaves}
 use Rattle.rules.proofs.SoundKeeping.{later-sound, backed}
 use Rattle.rules.proofs.SweepSound.{Swept, swept, due-waits, tick-swept}

@@ -2,7 +2,6 @@ pub mod Names
 pub mod Edges
 pub mod LimitEdges
 pub mod Cases
-pub mod Same
 pub mod CoverMoving
 pub mod OrdersKeeping
 pub mod SoundKeeping

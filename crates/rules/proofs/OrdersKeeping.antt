@@ -19,7 +19,7 @@ use Rattle.rules.specs.Status.{isWaiting, withStatus}
 use Rattle.rules.specs.Sound.{waitingAmount, waitingSum, OrdersSound}
 use Rattle.rules.specs.declared.Status.{Status}
 use Rattle.rules.specs.declared.Order.{Order}
-use Rattle.rules.proofs.Same.{same-or-not}
+use Rattle.fields.proofs.Compared.{same-or-not}
 
 -- the clock goes on
 pub orders-later : (size clock clock′ n : ℕ) (os : List Order) → clock ≤ clock′ → OrdersSound size clock n os → OrdersSound size clock′ n os

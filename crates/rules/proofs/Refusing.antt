@@ -34,8 +34,8 @@ on number true a rest h e = absurd (omega arith)
 on number false a rest h e = (refl, e)
 
 -- of two numbers the first that is not 0 is 0: both are
-both : (m n : ℕ) → firstOf m n ≡ 0 → (m ≡ 0) × (n ≡ 0)
-both m n e = go (eqb m 0) refl e
+pub both-none : (m n : ℕ) → firstOf m n ≡ 0 → (m ≡ 0) × (n ≡ 0)
+both-none m n e = go (eqb m 0) refl e
   where
     go : (z : Bool) → eqb m 0 ≡ z → cond z n m ≡ 0 → (m ≡ 0) × (n ≡ 0)
     go true q e′ = (eqb-true m 0 q, e′)
@@ -43,8 +43,8 @@ both m n e = go (eqb m 0) refl e
 
 pub none-applies : (x : Finding) → firstRefusal x ≡ 0 → NoRefusal x
 none-applies x e =
-    let a = both (namingRefusal (namingOf x)) (firstOf (permissionRefusal (permissionOf x)) (backingRefusal (backingOf x))) e in
-    let c = both (permissionRefusal (permissionOf x)) (backingRefusal (backingOf x)) (a .1) in
+    let a = both-none (namingRefusal (namingOf x)) (firstOf (permissionRefusal (permissionOf x)) (backingRefusal (backingOf x))) e in
+    let c = both-none (permissionRefusal (permissionOf x)) (backingRefusal (backingOf x)) (a .1) in
     let s12 = on namingRefusal (refusal12 x) NoParticipant _ (omega arith) (a .0) in
     let s13 = on namingRefusal (refusal13 x) TxidHeld _ (omega arith) (s12 .1) in
     let s14 = on namingRefusal (refusal14 x) NoRoute _ (omega arith) (s13 .1) in

@@ -13,7 +13,7 @@ use Rattle.fields.proofs.Finding.{FoundAt}
 use Rattle.dayfile.specs.Roster.{participantOf}
 use Rattle.dayfile.specs.Guarantee.{Guaranteed}
 use Rattle.dayfile.specs.declared.roster.Roster.{Roster}
-use Rattle.rules.proofs.Same.{same-or-not, below-or-not}
+use Rattle.fields.proofs.Compared.{same-or-not, below-or-not}
 
 module _ (r : Roster) (g : Guaranteed r) (s : List ℕ) (q : ℕ) (found : FoundAt (λ p. same (participantOf r p .bic) s) (r .size) q) where
   -- two participants with one BIC are one

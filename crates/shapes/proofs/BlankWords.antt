@@ -4,17 +4,14 @@ use mathlib.Core.Bool.{Bool, true, false, _&&_, and-true, and-false, and-assoc, 
 use mathlib.Core.List.{List, [], _∷_}
 use Prim.Native.Nat.{ℕ, zero, suc, _+_, _*_, _<_}
 use native.Mathlib.Omega.{arith}
-use borrow.Author.Tests.{eqb-true, ne-eqb}
+use borrow.Author.Tests.{eqb-true}
 use lib.Dec.{eqb}
 use lib.ListN.{length, getD}
 use Rattle.fields.specs.Number.{part}
 use Rattle.fields.specs.Text.{blank}
-use Rattle.fields.proofs.Zeros.{blank-join, blank-one}
+use Rattle.fields.proofs.Zeros.{blank-join, blank-one, not-zero}
 use Rattle.index.specs.Words.{word}
 use Rattle.shapes.specs.Blank.{fourAre}
-
-not-zero : (n : ℕ) → 0 < n → eqb n 0 ≡ false
-not-zero n h = ne-eqb n 0 (λ e. omega arith)
 
 -- a word is 0 where all its bytes are
 pub blank-word : (s : List ℕ) → eqb (word s) 0 ≡ blank s

@@ -34,7 +34,7 @@ use Rattle.rules.specs.declared.Cover.{Cover}
 use Rattle.rules.specs.declared.Book.{Book}
 use Rattle.rules.proofs.Reporting.{step-few}
 use Rattle.rules.proofs.StepSound.{step-sound}
-use Rattle.index.specs.Chains.{buckets}
+use Rattle.index.specs.RowChains.{rowBuckets}
 use Rattle.course.specs.Room.{Applicable}
 use Rattle.course.specs.Expiry.{Passed}
 use Rattle.course.specs.Seeking.{soughtOrder, sought}
@@ -147,7 +147,7 @@ module _ {wordsOf : List ℕ → List ℕ} {bucketOf : List ℕ → ℕ} {b : Bo
   pub order-opened : {b′ : Book} {o : Order} {rows bucket : ℕ} {txids′ heads′ links′ : List ℕ} → v .does ≡ Opens → o ≡ newOrder (sought c e t)
       → b′ ≡ record { clock = c .clock; covers = cs; orders = set (c .orders) (c .count) o; count = c .count + 1; roster = c .roster }
       → rows ≡ rowsFollowed (sought c e t .way)
-      → ((s : List ℕ) → length s ≡ 35 → length (wordsOf s) ≡ 5) → bucket ≡ bucketOf (wordsOf (txidField t)) → bucket < buckets
+      → ((s : List ℕ) → length s ≡ 35 → length (wordsOf s) ≡ 5) → bucket ≡ bucketOf (wordsOf (txidField t)) → bucket < rowBuckets
       → heads′ ≡ set heads bucket (c .count + 1) → links′ ≡ set links (c .count) (getD heads bucket 0)
       → txids′ ≡ sets txids (5 * c .count) (wordsOf (txidField t))
       → Done wordsOf bucketOf b t n₀ text₀ b′ (v .refusal) rows n₂ text₂ m txids′ heads′ links′ all

@@ -16,7 +16,6 @@ use Rattle.rules.specs.declared.decision.Move.the-variants.{Give, Draw}
 use Rattle.rules.specs.declared.verdict.About.{About}
 use Rattle.rules.specs.declared.verdict.Facts.{Facts}
 use Rattle.rules.specs.declared.verdict.Verdict.{Verdict}
-use Rattle.rules.specs.declared.Cover.{Cover}
 use Rattle.verdict.specs.OwnStep.{unless, nothing, coverMoved, opened, settled, turnedDown, recalled, declined, returned, answered, cutVerdict}
 
 -- Cover in: available rises

@@ -12,7 +12,6 @@ use Rattle.rules.specs.declared.Status.the-variants as status
 use Rattle.rules.specs.declared.decision.Move.{Move}
 use Rattle.rules.specs.declared.decision.Move.the-variants.{Stay, Give, Draw, Reserve, Release, Spend}
 use Rattle.rules.specs.declared.verdict.About.{About}
-use Rattle.rules.specs.declared.verdict.Does.{Does}
 use Rattle.rules.specs.declared.verdict.Does.the-variants.{Nothing, Opens, Becomes, Cuts}
 use Rattle.rules.specs.declared.verdict.Mover.{Mover}
 use Rattle.rules.specs.declared.verdict.Notice.{Notice}

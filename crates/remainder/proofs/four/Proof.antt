@@ -1,5 +1,5 @@
 -- `remainder::four` meets its contract. Assumes nothing.
-use mathlib.Core.Path.{_≡_, _∙_, ap₂}
+use mathlib.Core.Path.{_∙_, ap₂}
 use Prim.Native.Nat.{_+_, _*_, _^_, _≤_}
 use denote.Ref.{now}
 use native.Mathlib.Omega.{arith}

@@ -1,5 +1,5 @@
 -- `remainder::three_scale` meets its contract. Assumes nothing.
-use mathlib.Core.Path.{_≡_, ap₂}
+use mathlib.Core.Path.{ap₂}
 use Prim.Native.Nat.{_+_, _*_, _^_, _≤_}
 use native.Mathlib.Omega.{arith}
 use Rattle.remainder.proofs.PairNumber.{most}

@@ -1,5 +1,4 @@
 -- `remainder::two` meets its contract. Assumes nothing.
-use mathlib.Core.Path.{_≡_}
 use Prim.Native.Nat.{_+_, _*_, _^_, _≤_, _<_}
 use native.Mathlib.Nat.{zero-mul, zero-add, add-zero}
 use native.Mathlib.Omega.{arith}

@@ -1,5 +1,4 @@
 -- `core::directory::directory_of` meets its contract. Assumes nothing.
-use Prim.Native.Nat.{ℕ}
 use native.Mathlib.Omega.{arith}
 use borrow.Author.Needs.{needs}
 use Rattle.codes.proofs.WholeCodes.{bic-length}

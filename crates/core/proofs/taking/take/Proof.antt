@@ -36,7 +36,6 @@
 -- place told-all: After-put-answer3
 -- place late: Then4
 -- place late-told: After-put-answer2
-use mathlib.Core.Path.{_≡_}
 use native.Mathlib.Omega.{arith}
 use borrow.Author.Needs.{needs}
 use Rattle.course.proofs.Running.{ended}

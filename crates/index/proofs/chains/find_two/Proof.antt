@@ -5,15 +5,15 @@ use Prim.Native.Nat.{ℕ, _+_, _-_, _*_, _≤_, _<_}
 use native.Mathlib.Omega.{arith}
 use denote.Ref.{now}
 use lib.ListN.{length}
-use Rattle.index.specs.Chains.{Searchable}
-use Rattle.index.proofs.Chaining.{LeftBelow, left-at-head, left-at-link, link-falls, found-there, found-nowhere}
+use Rattle.index.specs.RowChains.{RowSearchable}
+use Rattle.index.proofs.RowChains.{LeftBelow, left-at-head, left-at-link, link-falls, found-there, found-nowhere}
 use borrow.Author.Needs.{needs}
 use Rattle.index.proofs.chains.find_two.Statement.{statement}
 use Rattle.index.proofs.chains.find_two.Tie as tie
 
 abbrev Inv-loop : tie.InvT-loop
 Inv-loop heads links rows n bucket a b at₀ at =
-    (s : Searchable 2 n bucket heads links rows (a ∷ b ∷ []))
+    (s : RowSearchable 2 n bucket heads links rows (a ∷ b ∷ []))
     × LeftBelow 2 n bucket heads links rows (a ∷ b ∷ []) s at
 
 abbrev μ-loop : tie.MeasureT-loop

@@ -12,14 +12,13 @@ use Rattle.ticket.specs.declared.kinds.Kind.{Kind}
 use Rattle.ticket.specs.declared.kinds.Kind.the-variants.{Order}
 use Rattle.ticket.specs.declared.kinds.Kinded.the-variants.{As}
 use Rattle.rules.specs.declared.terms.Subject.{Subject}
-use Rattle.rules.specs.declared.terms.Subject.the-variants.{Nothing, Sender, NewOrder, HeldOrder}
+use Rattle.rules.specs.declared.terms.Subject.the-variants.{Sender, NewOrder, HeldOrder}
 use Rattle.shapes.specs.Subject.{TicketNaming}
 use Rattle.shapes.proofs.Forms.{only-order}
 use Rattle.index.specs.Words.{Bytes, bicWords, txidWords}
 use Rattle.sight.specs.Sight.{sightOf}
 use Rattle.sight.specs.Value.{formedSight}
 use Rattle.sight.specs.declared.Sight.{Sight}
-use Rattle.sight.specs.declared.subjects.Formed.{Formed}
 use Rattle.sight.proofs.Knowing.{known-sender, known-payee, known-order}
 use borrow.Author.Needs.{needs}
 use Rattle.sight.proofs.subjects.formed_of.Statement.{statement}

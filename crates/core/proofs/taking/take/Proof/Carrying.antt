@@ -1,7 +1,6 @@
 -- The moves of the verdict and its reports. Assumes nothing.
-use mathlib.Core.Path.{_≡_}
 use mathlib.Core.List.{List}
-use Prim.Native.Nat.{ℕ, _+_, _*_, _≤_}
+use Prim.Native.Nat.{_+_, _*_, _≤_}
 use native.Mathlib.Omega.{arith}
 use lib.ListN.{length, set}
 use Rattle.rules.specs.Book.{coverOf}
@@ -10,7 +9,7 @@ use Rattle.rules.specs.declared.Cover.{Cover}
 use Rattle.course.specs.Room.{mostNumber, Room}
 use Rattle.turns.proofs.VerdictFitting.{verdictReports}
 use Rattle.turns.proofs.CarryingOut.{CarriedOut, first-fits, second-room, second-fits, moves-carried-out, told-room}
-use Rattle.core.proofs.taking.take.Proof.Loop.{reports₀, long-reports, room}
+use Rattle.core.proofs.taking.take.Proof.Loop.{long-reports, room}
 use Rattle.core.proofs.taking.take.Proof.Expiring.{hd, swept-book, expired}
 use Rattle.core.proofs.taking.take.Proof.Judging.{swept-at, v, suits}
 use Rattle.core.proofs.taking.take.Proof.Places as at

@@ -1,5 +1,5 @@
 -- The end of a turn, whatever becomes of the order: nothing, opened, another status, a cut. It was one step of the rules. Assumes nothing.
-use mathlib.Core.Path.{_≡_, refl, sym, _∙_, ap}
+use mathlib.Core.Path.{refl, sym, _∙_, ap}
 use mathlib.Core.List.{List}
 use mathlib.Core.Logic.{⊎-elim}
 use Prim.Native.Nat.{ℕ, _+_, _*_, _≤_, _<_}
@@ -13,10 +13,10 @@ use Rattle.rules.specs.declared.Order.{Order}
 use Rattle.rules.specs.declared.Status.the-variants.{Waiting}
 use Rattle.rules.specs.declared.Book.{Book}
 use Rattle.index.specs.Words.{txidWords}
-use Rattle.index.specs.Chains.{rowBucket}
+use Rattle.index.specs.RowChains.{rowBucket}
 use Rattle.index.proofs.LentRows.{bucket-inside}
 use Rattle.ticket.specs.TicketLayout.{txidField}
-use Rattle.turns.proofs.Facts.{Searched, number-is, way-is, new-order}
+use Rattle.turns.proofs.Facts.{number-is, way-is, new-order}
 use Rattle.turns.proofs.CarryingOut.{cut-size, cut-room, cut-whole}
 use Rattle.turns.proofs.Done.{Done}
 use Rattle.turns.proofs.TurnEnds.{did-nothing, changed, order-opened, cut}

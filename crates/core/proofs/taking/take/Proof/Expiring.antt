@@ -1,12 +1,11 @@
 -- The ticket passes 7 to 11, and the loop over orders: each order's expiry, and the end, where all are done. Assumes nothing.
 use mathlib.Core.Path.{_≡_, refl, sym, _∙_, ap, subst}
 use mathlib.Core.Bool.{Bool}
-use mathlib.Core.List.{List}
 use mathlib.Core.Logic.{_⊎_, inl, inr, ⊎-elim}
 use Prim.Native.Nat.{ℕ, _+_, _-_, _*_, _≤_, _<_}
 use native.Mathlib.Omega.{arith}
 use borrow.Author.Tests.{ltb-true, ltb-false}
-use lib.ListN.{length, set, length-set}
+use lib.ListN.{length, set}
 use lib.Seq.{sets, length-sets}
 use Rattle.report.specs.ReportLayout.{reportsBytes}
 use Rattle.dayfile.specs.declared.roster.Roster.{Roster}
@@ -16,10 +15,10 @@ use Rattle.rules.specs.Tell.{listed}
 use Rattle.rules.specs.Sound.{Sound}
 use Rattle.rules.specs.declared.Book.{Book}
 use Rattle.rules.specs.declared.Cover.{Cover}
-use Rattle.course.specs.Expiry.{expiryOf, expiryIn, lapsed, Passed}
+use Rattle.course.specs.Expiry.{expiryOf, expiryIn, lapsed}
 use Rattle.course.specs.declared.Entry.{Entry}
 use Rattle.course.specs.declared.Expiry.{Expiry}
-use Rattle.course.proofs.Looping.{Sweeping, at-sound, at-count, at-roster, at-few, one-more}
+use Rattle.course.proofs.Looping.{Sweeping, at-sound, at-roster, at-few, one-more}
 use Rattle.course.proofs.SoughtFitting.{Freeable, expiry-fits}
 use Rattle.course.proofs.Applying.{listed-few}
 use Rattle.sight.specs.declared.Seen.{Seen}

@@ -1,8 +1,6 @@
 -- What the two loops of `take` keep, and what falls at each turn. Assumes nothing.
-use mathlib.Core.Path.{_≡_}
-use Prim.Native.Nat.{ℕ, _-_, _*_, _≤_}
+use Prim.Native.Nat.{_-_, _*_, _≤_}
 use lib.ListN.{length}
-use Rattle.rules.specs.Tick.{atTime}
 use Rattle.course.proofs.Looping.{Sweeping}
 use Rattle.core.proofs.LoopKeeping.{LoopKept}
 use Rattle.core.proofs.taking.take.Tie as tie

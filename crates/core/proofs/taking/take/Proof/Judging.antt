@@ -17,7 +17,7 @@ use Rattle.rules.specs.declared.verdict.Facts.{Facts}
 use Rattle.rules.specs.declared.verdict.Verdict.{Verdict}
 use Rattle.course.specs.Seeking.{seeksOpen, sought}
 use Rattle.verdict.specs.Judgement.{verdictOf}
-use Rattle.verdict.specs.Meaning.{aboutOf, factsOf}
+use Rattle.verdict.specs.Meaning.{factsOf}
 use Rattle.turns.proofs.Facts.{Searched, total-few, sender-in, order-in, payee-in, facts-are}
 use Rattle.turns.proofs.VerdictFitting.{Fits, fits}
 use Rattle.core.proofs.taking.take.Proof.Loop.{start, b, ticket}

@@ -1,16 +1,13 @@
 -- A ticket that 12 to 22 refuse: its turn is done once orders have expired. Assumes nothing.
 use mathlib.Core.Path.{_≡_, refl, sym, _∙_, ap, subst}
-use mathlib.Core.List.{List}
-use Prim.Native.Nat.{ℕ}
 use borrow.Author.Tests.{eqb-false, not-true}
 use Rattle.rules.specs.declared.verdict.Verdict.{Verdict}
 use Rattle.course.specs.Seeking.{sought}
 use Rattle.verdict.specs.OwnStep.{refusedVerdict}
-use Rattle.verdict.specs.Judgement.{verdictOf}
 use Rattle.verdict.specs.Meaning.{factsOf}
 use Rattle.verdict.proofs.VerdictLaws.{refused-alone}
 use Rattle.index.specs.Words.{txidWords}
-use Rattle.index.specs.Chains.{rowBucket}
+use Rattle.index.specs.RowChains.{rowBucket}
 use Rattle.turns.proofs.CarryingOut.{nothing-carried}
 use Rattle.turns.proofs.Done.{Done}
 use Rattle.turns.proofs.TurnEnds.{did-nothing}

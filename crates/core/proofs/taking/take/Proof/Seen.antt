@@ -1,8 +1,7 @@
 -- What was seen of the ticket: the turn of one that 7 to 11 refuse is done. Assumes nothing.
 use mathlib.Core.Path.{_≡_, sym, _∙_, ap}
 use mathlib.Core.Bool.{false}
-use mathlib.Core.List.{List}
-use Prim.Native.Nat.{ℕ, _+_, _*_}
+use Prim.Native.Nat.{ℕ}
 use lib.Dec.{eqb}
 use Rattle.report.specs.declared.answer.Answer.{Answer}
 use Rattle.rules.specs.Find.{senderIn, orderIn, routeIn}
@@ -10,9 +9,8 @@ use Rattle.rules.specs.Step.{stepOf}
 use Rattle.rules.specs.Taken.{answerOf}
 use Rattle.course.specs.Entry.{entryOf}
 use Rattle.index.specs.Words.{txidWords}
-use Rattle.index.specs.Chains.{rowBucket}
+use Rattle.index.specs.RowChains.{rowBucket}
 use Rattle.sight.specs.Sight.{sightOf, sightRefusal}
-use Rattle.sight.specs.declared.Sight.{Sight}
 use Rattle.turns.proofs.Done.{Done, turned-down, refused-answer}
 use Rattle.core.proofs.SeenEntry.{sight-refused}
 use Rattle.core.proofs.Searching.{all-found}

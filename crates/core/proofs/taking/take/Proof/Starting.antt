@@ -3,7 +3,6 @@ use mathlib.Core.Path.{refl, sym, _∙_}
 use native.Mathlib.Nat.{not-suc-le-zero}
 use native.Mathlib.Omega.{arith}
 use denote.Ref.{now}
-use Rattle.rules.specs.Book.{orderOf}
 use Rattle.course.proofs.Running.{started}
 use Rattle.course.proofs.Seeking.{total-sum}
 use Rattle.course.proofs.Summing.{all-total}

@@ -1,7 +1,7 @@
--- `orders::room::buffer_of` meets its contract. Assumes nothing.
+-- `book::handing::buffer_of` meets its contract. Assumes nothing.
 use borrow.Author.Tests.{lt-ltb, le-ltb}
-use Rattle.orders.proofs.room.buffer_of.Statement.{statement}
-use Rattle.orders.proofs.room.buffer_of.Tie as tie
+use Rattle.book.proofs.handing.buffer_of.Statement.{statement}
+use Rattle.book.proofs.handing.buffer_of.Tie as tie
 
 pub buffer-of-spec : {M : Type 1} → statement M
 buffer-of-spec =
