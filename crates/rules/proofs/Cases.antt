@@ -17,7 +17,7 @@ use Rattle.rules.specs.Find.{senderIn, orderIn, routeIn, wayIn, anyOpen}
 use Rattle.rules.specs.Cover.{total}
 use Rattle.rules.specs.Tick.{tick}
 use Rattle.rules.specs.Step.{stepOf, handed}
-use Rattle.rules.specs.Program.{output}
+use Rattle.rules.specs.Program.{decimal, numbers, output}
 use Rattle.rules.proofs.Names.{bicA, bicB, tx1, ibanD, twoBanks, day}
 use Rattle.rules.proofs.Edges.{edges}
 use Rattle.rules.proofs.LimitEdges.{limits}
