@@ -2,7 +2,7 @@
 use mathlib.Core.Path.{_≡_, refl, sym, _∙_}
 use mathlib.Core.Bool.{true, false}
 use mathlib.Core.List.{List, [], _∷_}
-use mathlib.Core.Logic.{_⊎_, inr, ⊎-elim}
+use mathlib.Core.Logic.{inr, ⊎-elim}
 use Prim.Native.Nat.{ℕ, _+_, _<_}
 use native.Mathlib.Omega.{arith}
 use lib.ListN.{set}
@@ -37,7 +37,7 @@ abbrev pub AllAbout : ℕ → List Report → Type 0
 AllAbout j [] = Unit {0}
 AllAbout j (r ∷ rs) = (r .order ≡ j) × AllAbout j rs
 
-pub others-quiet : (i j : ℕ) (rs : List Report) → AllAbout j rs → (i ≡ j → ⊥) → endingsIn i rs ≡ []
+others-quiet : (i j : ℕ) (rs : List Report) → AllAbout j rs → (i ≡ j → ⊥) → endingsIn i rs ≡ []
 others-quiet i j [] a differs = refl
 others-quiet i j (r ∷ rs) a differs =
     endings-without i r rs (ending-other-order i r (λ e. differs (sym e ∙ a .0))) ∙ others-quiet i j rs (a .1) differs

@@ -38,7 +38,7 @@ pub record SameOrder (o o′ : Order) : Type 0 where
   pub payee : o′ .payee ≡ o .payee
 
 -- an order that a ticket doesn't open is read off what was before
-pub of-before : {A : Type 0} (none : A) (row : Order → A) (f : Event → A) (i : ℕ) (e : Event) (h : History) → opens i e h ≡ false
+of-before : {A : Type 0} (none : A) (row : Order → A) (f : Event → A) (i : ℕ) (e : Event) (h : History) → opens i e h ≡ false
     → ofOrder none row f i (e ▹ h) ≡ ofOrder none row f i h
 of-before none row f i e h other = ap (λ (x : Bool). cond x (f e) (ofOrder none row f i h)) other
 
@@ -47,7 +47,7 @@ carry-append code amount [] ts a b = b
 carry-append code amount (r ∷ rs) ts a b = (a .0, a .1, carry-append code amount rs ts (a .2) b)
 
 -- a list of which nothing is there is empty
-pub none-there : (rs : List Report) → isNone rs ≡ true → rs ≡ []
+none-there : (rs : List Report) → isNone rs ≡ true → rs ≡ []
 none-there [] e = refl
 none-there (r ∷ rs) e = let z : _≡_ {A = ℕ} 0 1 = cc in absurd (omega arith)
 

@@ -40,7 +40,7 @@ inputs [] = []
 inputs (t ∷ ts) = record { ticket = t; buffer = replicate leastBuffer 0 } ∷ inputs ts
 
 -- a participant's eight sums: cover in and out, debits and credits, settled to and from, returns by and to
-abbrev pub sums : Roster → History → ℕ → List ℕ
+abbrev sums : Roster → History → ℕ → List ℕ
 sums ps h p =
     since (λ e before. coverIn ps p e)
     ∷ since (λ e before. coverOut ps p e)
@@ -56,11 +56,11 @@ sums ps h p =
     since f = sumOver (λ b. 0) f h
 
 -- a participant's cover in the book: available, reserved, held
-abbrev pub coverLeft : Book → ℕ → List ℕ
+abbrev coverLeft : Book → ℕ → List ℕ
 coverLeft b p = let c = coverOf (b .covers) p in c .available ∷ c .reserved ∷ c .held ∷ []
 
 -- an order as seen: amount, time, whether for a bank, whether it waits, and the codes of its endings, newest ticket first
-abbrev pub orderSeen : Roster → History → ℕ → List ℕ
+abbrev orderSeen : Roster → History → ℕ → List ℕ
 orderSeen ps h i =
     orderAmount i h
     ∷ orderTime i h
@@ -69,7 +69,7 @@ orderSeen ps h i =
     ∷ map (λ (r : Report). r .code) (allEndings i h)
 
 -- a row for each number below n
-abbrev pub eachTo : (ℕ → List ℕ) → ℕ → List (List ℕ)
+abbrev eachTo : (ℕ → List ℕ) → ℕ → List (List ℕ)
 eachTo row zero = []
 eachTo row (suc n) = eachTo row n ++ (row n ∷ [])
 
@@ -105,7 +105,7 @@ pub record WrittenHistory : Type 0 where
   pub book : Book
   pub fails : String
 
-abbrev pub newestFirst : List Event → History → History
+abbrev newestFirst : List Event → History → History
 newestFirst [] before = before
 newestFirst (e ∷ rest) before = newestFirst rest (e ▹ before)
 
@@ -113,24 +113,24 @@ abbrev pub written : WrittenHistory → History
 written w = newestFirst (w .events) (from (w .start))
 
 -- the names of the clauses that fail
-abbrev pub failing : List Bool → List String → List (List ℕ)
+abbrev failing : List Bool → List String → List (List ℕ)
 failing [] names = []
 failing (c ∷ cs) [] = []
 failing (c ∷ cs) (name ∷ names) = cond c [] (text name ∷ []) ++ failing cs names
 
-abbrev pub withCommas : List (List ℕ) → List ℕ
+abbrev withCommas : List (List ℕ) → List ℕ
 withCommas [] = []
 withCommas (s ∷ []) = s
 withCommas (s ∷ (t ∷ rest)) = s ++ text ", " ++ withCommas (t ∷ rest)
 
 -- the clauses' names, in the claim's order
-abbrev pub clauseNames : List String
+abbrev clauseNames : List String
 clauseNames = "told" ∷ "cover" ∷ "reserved" ∷ "held" ∷ "waiting" ∷ "expiry" ∷ "known" ∷ "once" ∷ "alike" ∷ []
 
-abbrev pub clausesOf : WrittenHistory → List Bool
+abbrev clausesOf : WrittenHistory → List Bool
 clausesOf w = clauses (written w) (w .book)
 
-abbrev pub failsOf : WrittenHistory → List ℕ
+abbrev failsOf : WrittenHistory → List ℕ
 failsOf w = withCommas (failing (clausesOf w) clauseNames)
 
 abbrev pub AllFalse : List WrittenHistory → Type 0

@@ -2,7 +2,7 @@
 use mathlib.Core.Path.{_≡_, refl, sym}
 use mathlib.Core.Bool.{Bool, true, false, _&&_, _||_, not, cond, and-false}
 use mathlib.Core.List.{List, [], _∷_}
-use mathlib.Core.Logic.{_⊎_, ⊎-elim}
+use mathlib.Core.Logic.{⊎-elim}
 use Prim.Native.Nat.{ℕ, _+_, _≤_, _<_}
 use native.Mathlib.Omega.{arith}
 use borrow.Author.Tests.{eqb-true, eq-eqb, ltb-true, ltb-false, le-ltb}
@@ -24,7 +24,7 @@ use Rattle.audit.specs.Orders.{orderCount, orderAmount, waits, waitingTo
 use Rattle.audit.specs.Claim.{AllCarry, codeOf, Claim}
 
 -- two truth values are the same
-abbrev pub agree : Bool → Bool → Bool
+abbrev agree : Bool → Bool → Bool
 agree true b = b
 agree false b = not b
 
@@ -41,20 +41,20 @@ and-both : (a b : Bool) → a ≡ true → b ≡ true → (a && b) ≡ true
 and-both a b e f = rw (e, f)
 
 module _ (ps : Roster) (h : History) (b : Book) where
-  abbrev pub coverAt : ℕ → Bool
+  abbrev coverAt : ℕ → Bool
   coverAt p = eqb (whole (coverOf (b .covers) p) + outgoing ps p h) (incoming ps p h)
 
-  abbrev pub reservedAt : ℕ → Bool
+  abbrev reservedAt : ℕ → Bool
   reservedAt p = eqb (coverOf (b .covers) p .reserved) (waitingTotal ps p h)
 
-  abbrev pub waitingAt : ℕ → Bool
+  abbrev waitingAt : ℕ → Bool
   waitingAt i = agree (isWaiting (orderOf (b .orders) i .status)) (waits i h)
 
-abbrev pub onceAt : History → ℕ → Bool
+abbrev onceAt : History → ℕ → Bool
 onceAt h i = eqb (endingTickets i h) (cond (waits i h) 0 1)
 
 -- a test of each event and what was before it
-abbrev pub eachOf : (Event → History → Bool) → History → Bool
+abbrev eachOf : (Event → History → Bool) → History → Bool
 eachOf test (from b) = true
 eachOf test (e ▹ before) = test e before && eachOf test before
 
@@ -79,10 +79,10 @@ each-so P Q so (from b) a = tt
 each-so P Q so (e ▹ before) a = (so e before (a .0), each-so P Q so before (a .1))
 
 -- each ending has a number below n
-abbrev pub isEndingCode : Report → Bool
+abbrev isEndingCode : Report → Bool
 isEndingCode r = isEnding (r .order) r
 
-abbrev pub endingsBelow : ℕ → List Report → Bool
+abbrev endingsBelow : ℕ → List Report → Bool
 endingsBelow n [] = true
 endingsBelow n (r ∷ rs) = (not (isEndingCode r) || ltb (r .order) n) && endingsBelow n rs
 
@@ -126,13 +126,13 @@ known-below n (r ∷ rs) k =
         absurd (omega arith)
 
 -- at an event, the orders before it and n more
-abbrev pub expiryAt : Roster → Event → History → ℕ → Bool
+abbrev expiryAt : Roster → Event → History → ℕ → Bool
 expiryAt ps e before i = agree (letsExpire i e before) (mustExpire ps i e before)
 
-abbrev pub expiryTest : Roster → ℕ → Event → History → Bool
+abbrev expiryTest : Roster → ℕ → Event → History → Bool
 expiryTest ps n e before = allTo (expiryAt ps e before) (orderCount before + n)
 
-abbrev pub knownIn : Event → History → Bool
+abbrev knownIn : Event → History → Bool
 knownIn e before = endingsBelow (orderCount before) (e .reports)
 
 -- no other order is let expire, and none must
@@ -149,11 +149,11 @@ expiry-tells ps n e before (t, k) i =
     (λ (l : orderCount before + n ≤ i). no-other ps e before i (omega arith) (k i (omega arith)))
     (below-or-not i (orderCount before + n))
 
-abbrev pub carry : ℕ → ℕ → List Report → Bool
+abbrev carry : ℕ → ℕ → List Report → Bool
 carry code amount [] = true
 carry code amount (r ∷ rs) = eqb (r .code) code && eqb (r .amount) amount && carry code amount rs
 
-abbrev pub alikeAt : History → ℕ → Bool
+abbrev alikeAt : History → ℕ → Bool
 alikeAt h i = carry (codeOf (allEndings i h)) (orderAmount i h) (allEndings i h)
 
 carry-true : (code amount : ℕ) (rs : List Report) → carry code amount rs ≡ true → AllCarry code amount rs
@@ -234,7 +234,7 @@ module _ (h : History) (b : Book) where
       }
 
   -- the claim holds: every clause passes
-  pub clauses-pass : Claim h b → allPass (clauses h b) ≡ true
+  clauses-pass : Claim h b → allPass (clauses h b) ≡ true
   unfolding Known
   clauses-pass c =
       all-passing (clauses h b) (

@@ -139,7 +139,7 @@ abbrev pub endingTickets : ℕ → History → ℕ
 endingTickets i h = sumOver (λ b. cond (isNone (startEndings i b)) 0 1) (λ e before. cond (eqb (ownEndings i e before) 0) 0 1) h
 
 -- the first report with a code is there, and goes to a participant
-abbrev pub toParticipant : Roster → List Report → Bool
+abbrev toParticipant : Roster → List Report → Bool
 toParticipant ps [] = false
 toParticipant ps (r ∷ rs) = ltb (r .to) (ps .size)
 

@@ -55,12 +55,12 @@ firstWith code [] = []
 firstWith code (r ∷ rs) = cond (eqb (r .code) code) (r ∷ []) (firstWith code rs)
 
 -- its amount
-abbrev pub amountIn : List Report → ℕ
+abbrev amountIn : List Report → ℕ
 amountIn [] = 0
 amountIn (r ∷ rs) = r .amount
 
 -- whether it goes to p
-abbrev pub goesTo : ℕ → List Report → Bool
+abbrev goesTo : ℕ → List Report → Bool
 goesTo p [] = false
 goesTo p (r ∷ rs) = eqb (r .to) p
 

@@ -18,14 +18,14 @@ use Rattle.classes.proofs.All.{no-zero}
 use Rattle.classes.specs.PaddedBytes.{stands}
 
 -- a byte that is not zero, or that has such a byte behind it, is no padding
-pub unpadded-used : (c : ℕ) (s : List ℕ) → eqb c 0 ≡ false → unpadded (c ∷ s) ≡ c ∷ unpadded s
+unpadded-used : (c : ℕ) (s : List ℕ) → eqb c 0 ≡ false → unpadded (c ∷ s) ≡ c ∷ unpadded s
 unpadded-used c s e = ap (λ (z : Bool). take (cond (z && blank s) 0 (suc (valueLength s))) (c ∷ s)) e
 
-pub unpadded-before : (c : ℕ) (s : List ℕ) → blank s ≡ false → unpadded (c ∷ s) ≡ c ∷ unpadded s
+unpadded-before : (c : ℕ) (s : List ℕ) → blank s ≡ false → unpadded (c ∷ s) ≡ c ∷ unpadded s
 unpadded-before c s e =
     ap (λ (b : Bool). take (cond b 0 (suc (valueLength s))) (c ∷ s)) (ap (λ (b : Bool). eqb c 0 && b) e ∙ and-false (eqb c 0))
 
-pub unpadded-blank : (s : List ℕ) → blank s ≡ true → unpadded s ≡ []
+unpadded-blank : (s : List ℕ) → blank s ≡ true → unpadded s ≡ []
 unpadded-blank [] e = refl
 unpadded-blank (c ∷ s) e = ap (λ (b : Bool). take (cond b 0 (suc (valueLength s))) (c ∷ s)) e
 

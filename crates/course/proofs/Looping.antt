@@ -48,7 +48,7 @@ module _ (b : Book) (s : Sound b) (n₀ : ℕ) (text₀ : List ℕ) where
     pub at-sound : Sound c
     at-sound = subst Sound (sym (w .book)) (swept b s m (omega arith) .sound)
 
-    pub at-count : c .count ≡ b .count
+    at-count : c .count ≡ b .count
     at-count = ap (λ (d : Book). d .count) (w .book) ∙ swept b s m (omega arith) .count
 
     pub at-roster : c .roster ≡ b .roster

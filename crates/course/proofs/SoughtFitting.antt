@@ -3,7 +3,7 @@
 use mathlib.Core.Path.{_≡_, refl, sym, _∙_, ap}
 use mathlib.Core.Bool.{Bool, true, false, cond}
 use mathlib.Core.List.{List}
-use mathlib.Core.Logic.{_⊎_, inl, inr, ⊎-elim}
+use mathlib.Core.Logic.{inl, inr, ⊎-elim}
 use Prim.Native.Nat.{ℕ, _≤_, _<_}
 use native.Mathlib.Omega.{arith}
 use borrow.Author.Tests.{eqb-true, ltb-false}
@@ -68,7 +68,7 @@ use Rattle.course.specs.declared.Entry.{Entry}
 use Rattle.course.specs.declared.Expiry.{Expiry}
 use Rattle.course.proofs.Taking.{sought-refuses}
 
-pub room-to-move : (how : Move) (n : ℕ) (c : Cover) → Enough how n c → n ≤ mostTotal → whole c ≤ mostTotal → Room how n c
+room-to-move : (how : Move) (n : ℕ) (c : Cover) → Enough how n c → n ≤ mostTotal → whole c ≤ mostTotal → Room how n c
 room-to-move Stay n c e a w = tt
 room-to-move Give n c e a w = omega arith
 room-to-move Draw n c e a w = e
@@ -113,7 +113,7 @@ module _ (b : Book) (s : Sound b) where
       (λ (l : b .count ≤ i). rw (s .orders .unused i l h) (omega arith))
       (below-or-not i (b .count))
 
-  pub any-txid : (i : ℕ) → i < mostOrders → length (orderOf (b .orders) i .txid) ≡ 35
+  any-txid : (i : ℕ) → i < mostOrders → length (orderOf (b .orders) i .txid) ≡ 35
   any-txid i h =
       ⊎-elim
       (λ (l : i < b .count). s .orders .padded i l)
@@ -181,7 +181,7 @@ module _ (b : Book) (s : Sound b) where
       }
 
   -- all stays as it is
-  pub stays-applicable : (e : Entry) (t : List ℕ) (cuts : Bool) (told : Told) → (cuts ≡ true → told ≡ Nobody) → Applicable b (orderKept (sought b e t) nobody cuts told)
+  stays-applicable : (e : Entry) (t : List ℕ) (cuts : Bool) (told : Told) → (cuts ≡ true → told ≡ Nobody) → Applicable b (orderKept (sought b e t) nobody cuts told)
   stays-applicable e t cuts told alone = kept-applicable e t nobody cuts told (omega arith) (omega arith) tt (λ c. (refl, refl, alone c))
 
   -- the order gets a status that is not Waiting
@@ -235,7 +235,7 @@ module _ (b : Book) (s : Sound b) where
     sender-known : (k : Kind) → namesSender (termsOf k .subject) ≡ true → NoRefusal (finding b (f k) t) → who k < mostParticipants
     sender-known k named none = participant-below b s (who k) (accepting.sender-found b (f k) t (none .r12) named .below)
 
-    pub decided-applicable : (k : Kind) → Tells t (f k) → NoRefusal (finding b (f k) t) → Applicable b (decisionOf (sought b (entry k) t))
+    decided-applicable : (k : Kind) → Tells t (f k) → NoRefusal (finding b (f k) t) → Applicable b (decisionOf (sought b (entry k) t))
     decided-applicable kind.CoverIn tells none =
         kept-applicable (entry kind.CoverIn) t _ false Nobody (sender-known kind.CoverIn refl none) (tells .most)
         (sender-room kind.CoverIn Give refl none (tells .most) tt) (λ c. never (sym c))

@@ -53,7 +53,7 @@ changed : (n : ℕ) (cs : List Cover) → Fitted n cs → (p : ℕ) → p < n �
 changed n cs fit p few c = let e = set-total fit p few c in let l = sum-part (λ q. whole (coverOf cs q)) n p few in omega arith
 
 module _ (cs : List Cover) (long : length cs ≡ mostParticipants) (p : ℕ) (few : p < mostParticipants) where
-  pub one-of-all : whole (coverOf cs p) ≤ allOf cs
+  one-of-all : whole (coverOf cs p) ≤ allOf cs
   unfolding allOf
   one-of-all = sum-part (λ q. whole (coverOf cs q)) mostParticipants p few
 

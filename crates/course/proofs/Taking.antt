@@ -44,7 +44,7 @@ use Rattle.course.specs.Taking.{unswept, sweptFor, carriedOut, takenAs, 
 use Rattle.course.specs.declared.Entry.{Entry}
 
 -- a finding whose order is the book's own
-pub record Own (b : Book) (x : Finding) : Type 0 where
+record Own (b : Book) (x : Finding) : Type 0 where
   pub order : x .about ≡ orderOf (b .orders) (numberOf (x .order))
   pub count : x .count ≡ b .count
 

@@ -22,7 +22,7 @@ use Rattle.course.proofs.Taking.{step-taken}
 use Rattle.course.proofs.SoughtFitting.{entered, judged-applicable}
 
 module _ (b : Book) (s : Sound b) (t : List ℕ) where
-  abbrev pub entry : Entry
+  abbrev entry : Entry
   entry = entryOf (b .clock) t
 
   abbrev pub start : Book
@@ -38,7 +38,7 @@ module _ (b : Book) (s : Sound b) (t : List ℕ) where
   pub start-sound : Sound start
   start-sound = later-sound b s (entry .time) (entered (b .clock) t .later)
 
-  pub after-swept : Swept start after
+  after-swept : Swept start after
   after-swept = go (eqb (entry .refusal) 0)
     where
       go : (z : Bool) → Swept start (cond z (sweepTo start (start .count)) (unswept start))

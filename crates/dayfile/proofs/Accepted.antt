@@ -8,7 +8,7 @@ use Prim.Native.Nat.{ℕ, _+_, _*_, _≤_, _<_}
 use native.Mathlib.Nat.{not-suc-le-zero}
 use native.Mathlib.Omega.{arith}
 use borrow.Author.Tests.{not-true}
-use lib.ListN.{length, length-replicate, getD-replicate}
+use lib.ListN.{length-replicate, getD-replicate}
 use Rattle.fields.specs.Number.{part}
 use Rattle.fields.specs.Text.{same}
 use Rattle.fields.proofs.Tests.{and-left, and-right}
@@ -23,7 +23,7 @@ use Rattle.dayfile.proofs.Passing.{Accepted, Refused, file-outcome, pas
 use Rattle.dayfile.specs.declared.DayFile.{DayFile}
 use Rattle.dayfile.specs.declared.header.Header.{Header}
 
-pub empty-guaranteed : Guaranteed emptyRoster
+empty-guaranteed : Guaranteed emptyRoster
 empty-guaranteed =
     record {
       size = omega arith;
@@ -78,7 +78,7 @@ module _ (h : Header) (f : List ℕ) (few : h .counts .participants ≤ 32) (sho
       none-at (λ j. same (part 11 (from + width * j) f) (part 11 (from + width * q) f)) q p
       (not-true _ (and-right ok (not (bicAmong from width q (part 11 (from + width * q) f) f)) e)) l
 
-  pub roster-guaranteed : Guaranteed (rosterOf h f)
+  roster-guaranteed : Guaranteed (rosterOf h f)
   roster-guaranteed =
       record {
         size = few;
@@ -101,7 +101,7 @@ module _ (h : Header) (f : List ℕ) (few : h .counts .participants ≤ 32) (sho
         routeUnused = λ i b l. row-past 64 noRoute (λ j. routeAt (route-place j) f) (h .counts .routes) i _ b l;
       }
 
-  pub roster-numbers : h .offsets .participants ≡ 12 → h .offsets .routes ≡ 12 + 24 * h .counts .participants → RosterNumbers f (rosterOf h f)
+  roster-numbers : h .offsets .participants ≡ 12 → h .offsets .routes ≡ 12 + 24 * h .counts .participants → RosterNumbers f (rosterOf h f)
   roster-numbers first behind =
       record {
         participant =
@@ -154,7 +154,3 @@ with-tickets f k h =
     (λ (a : Accepted f). ap (λ (d : DayFile). d .refusal) (a .file))
     (λ (r : Refused f). absurd (let none = ap (λ (d : DayFile). d .tickets) (r .file) in omega arith))
     (file-outcome f)
-
--- its tickets lie within it
-pub tickets-within : (f : List ℕ) (k : ℕ) → k < dayFile f .tickets → dayFile f .first + 108 * k + 108 ≤ length f
-tickets-within f k h = let g = file-guaranteed f (with-tickets f k h) in omega arith

@@ -50,10 +50,10 @@ module _ (r : Roster) (g : Guaranteed r) where
             is = follows-row (targetIn (r .routes)) row few k e below ∙ ap oneMore (a .is);
           }
 
-  pub arrives : (row : ℕ) → row < r .rows → Arrives r (followed (targetIn (r .routes)) row)
+  arrives : (row : ℕ) → row < r .rows → Arrives r (followed (targetIn (r .routes)) row)
   arrives row l = to (suc row) row (omega arith) l
 
-  pub from-found : (f : Found) → isFound f ≡ true → numberOf f < r .rows → Arrives r (followedFrom r f)
+  from-found : (f : Found) → isFound f ≡ true → numberOf f < r .rows → Arrives r (followedFrom r f)
   from-found (found.At row) e l = arrives row l
   from-found found.Nothing e l = let z : _≡_ {A = ℕ} 0 1 = cc in absurd (omega arith)
 

@@ -9,7 +9,7 @@ use Rattle.dayfile.specs.declared.DayFile.{DayFile}
 use Rattle.dayfile.specs.declared.header.Sections.{Sections}
 use Rattle.dayread.specs.declared.Outcome.{Outcome}
 
-abbrev pub noSections : Sections
+abbrev noSections : Sections
 noSections = record { participants = 0; routes = 0; tickets = 0 }
 
 abbrev pub refusedHeader : ℕ → Outcome

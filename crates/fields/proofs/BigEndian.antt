@@ -23,7 +23,7 @@ numberAt-join v w at s h =
     ∙ number-append (part v at s) (part w (at + v) s)
     ∙ ap (λ (k : ℕ). numberAt v at s * 256 ^ k + numberAt w (at + v) s) (length-part w (at + v) s h)
 
-pub numberAt-one : (at : ℕ) (s : List ℕ) → at < length s → numberAt 1 at s ≡ getD s at 0
+numberAt-one : (at : ℕ) (s : List ℕ) → at < length s → numberAt 1 at s ≡ getD s at 0
 numberAt-one at s h = ap number (part-one at s h) ∙ omega arith
 
 pub pos : (w : ℕ) → 0 < 256 ^ w
@@ -53,7 +53,7 @@ bytesOf-mod (suc w) m n h =
     ∙ mod-mod-of-dvd 256 (n / 256 ^ w) (dvd-mul-left 256 m))
     (bytesOf-mod w (m * 256) n (mul-pos h (lit< tt)))
 
-pub bytesOf-join : (v w n : ℕ) → bytesOf (v + w) n ≡ bytesOf v (n / 256 ^ w) ++ bytesOf w (n % 256 ^ w)
+bytesOf-join : (v w n : ℕ) → bytesOf (v + w) n ≡ bytesOf v (n / 256 ^ w) ++ bytesOf w (n % 256 ^ w)
 bytesOf-join v w n =
     bytesOf-append v w n
     ∙ ap (λ (t : List ℕ). bytesOf v (n / 256 ^ w) ++ t)

@@ -31,7 +31,7 @@ last-passes test (suc n) i e = go (test n) refl (last-passes test n i)
     go true t on = let e′ : suc n ≡ suc i = rw t at e in let q : n ≡ i = omega arith in ap test (sym q) ∙ t
     go false t on = on (rw t at e)
 
-pub last-same : (f g : ℕ → Bool) (n : ℕ) → ((i : ℕ) → i < n → f i ≡ g i) → lastTo f n ≡ lastTo g n
+last-same : (f g : ℕ → Bool) (n : ℕ) → ((i : ℕ) → i < n → f i ≡ g i) → lastTo f n ≡ lastTo g n
 last-same f g zero h = refl
 last-same f g (suc n) h = simp (last-same f g n (λ i l. h i (omega arith)), h n (omega arith))
 

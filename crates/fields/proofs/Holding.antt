@@ -2,7 +2,7 @@
 -- Assumes nothing.
 use mathlib.Core.Path.{_≡_, refl, sym, _∙_, ap}
 use mathlib.Core.List.{List, [], _∷_, _++_, map, append-assoc, append-nil}
-use Prim.Native.Nat.{ℕ, zero, suc, _+_, _*_, _^_, _≤_, _<_}
+use Prim.Native.Nat.{ℕ, zero, suc, _+_, _*_, _^_, _<_}
 use native.Mathlib.Nat.{not-suc-le-zero, mul-suc, mul-zero}
 use native.Mathlib.Omega.{arith}
 use lib.ListN.{length, getD, take, length-append}
@@ -57,12 +57,6 @@ held-byte {f} {b} at h = ap (λ (t : List ℕ). getD t at 0) (h .is) ∙ getD-at
 
 pub held-number : {f : List ℕ} (w at n : ℕ) → HoldsAt f at (bytesOf w n) → n < 256 ^ w → numberAt w at f ≡ n
 held-number w at n h l = ap number (held-part w at h (length-bytesOf w n)) ∙ reads-back w n l
-
-pub held-end : {f s : List ℕ} {at : ℕ} → HoldsAt f at s → at + length s ≤ length f
-held-end {f} {s} {at} h =
-    let e = ap length (h .is) ∙ length-append (h .front) (s ++ h .back) ∙ ap (λ (k : ℕ). length (h .front) + k) (length-append s (h .back)) in
-    let p = h .place in
-    omega arith
 
 -- a row that is made of another value
 pub mapped-row : {A : Type 0} (f : A → List ℕ) (l : List A) (i : ℕ) (d : A) → i < length l → getD (map f l) i [] ≡ f (getD l i d)

@@ -11,7 +11,7 @@ use Rattle.fields.proofs.Stores.{sets-append}
 use Rattle.fields.proofs.Holding.{HoldsAt, held-first, held-in, held-at, mapped-row, joined-row}
 
 -- a run of stores from the start
-pub sets-first : (bs s : List ℕ) → length bs ≤ length s → sets s 0 bs ≡ bs ++ drop (length bs) s
+sets-first : (bs s : List ℕ) → length bs ≤ length s → sets s 0 bs ≡ bs ++ drop (length bs) s
 sets-first bs s h = sets-eq bs s 0 (omega arith) ∙ ap (λ (k : ℕ). bs ++ drop k s) (zero-add (length bs))
 
 -- and one behind it
@@ -32,7 +32,7 @@ module _ {A : Type 0} (w : ℕ) (bytes : A → List ℕ) (width : (a : A) → le
       length-append (bytes a) (joined (map bytes l))
       ∙ (let one = width a in let rest = laid-length l in let m = mul-suc w (length l) in omega arith)
 
-  pub rows-more : (l : List A) (a : A) → joined (map bytes (l ++ (a ∷ []))) ≡ joined (map bytes l) ++ bytes a
+  rows-more : (l : List A) (a : A) → joined (map bytes (l ++ (a ∷ []))) ≡ joined (map bytes l) ++ bytes a
   rows-more [] a = append-nil (bytes a)
   rows-more (x ∷ l) a = ap (λ (t : List ℕ). bytes x ++ t) (rows-more l a) ∙ sym (append-assoc (bytes x) (joined (map bytes l)) (bytes a))
 

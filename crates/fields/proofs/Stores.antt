@@ -31,10 +31,10 @@ module _ (vs l : List ℕ) (i : ℕ) (h : i + length vs ≤ length l) where
   front : length (take i l) ≡ i
   front = length-take-le i l (omega arith)
 
-  pub sets-before : take i (sets l i vs) ≡ take i l
+  sets-before : take i (sets l i vs) ≡ take i l
   sets-before = ap (take i) (sets-eq vs l i h ∙ append-assoc (take i l) vs (drop (i + length vs) l)) ∙ take-at (take i l) (vs ++ drop (i + length vs) l) i front
 
-  pub sets-after : drop (i + length vs) (sets l i vs) ≡ drop (i + length vs) l
+  sets-after : drop (i + length vs) (sets l i vs) ≡ drop (i + length vs) l
   sets-after =
       ap (drop (i + length vs)) (sets-eq vs l i h)
       ∙ drop-at (take i l ++ vs) (drop (i + length vs) l) (i + length vs) (length-append (take i l) vs ∙ ap (λ (k : ℕ). k + length vs) front)
@@ -46,7 +46,7 @@ module _ (vs l : List ℕ) (i : ℕ) (h : i + length vs ≤ length l) where
       ∙ take-at vs (drop (i + length vs) l) (length vs) refl
 
 -- a part of a part
-pub drop-take : (m n : ℕ) (s : List ℕ) → drop m (take (m + n) s) ≡ take n (drop m s)
+drop-take : (m n : ℕ) (s : List ℕ) → drop m (take (m + n) s) ≡ take n (drop m s)
 drop-take zero n s = ap (λ (k : ℕ). take k s) (zero-add n)
 drop-take (suc m) n [] = ap (drop (suc m)) (take-nil (suc m + n)) ∙ sym (take-nil n)
 drop-take (suc m) n (x ∷ s) = ap (λ (k : ℕ). drop (suc m) (take k (x ∷ s))) (suc-add m n) ∙ drop-take m n s

@@ -1,10 +1,8 @@
 -- What a test that passed tells. Assumes nothing.
 use mathlib.Core.Path.{_≡_, refl}
 use mathlib.Core.Bool.{Bool, true, false, _&&_, _||_, cond}
-use Prim.Native.Nat.{ℕ, _≤_}
+use Prim.Native.Nat.{ℕ}
 use native.Mathlib.Omega.{arith}
-use borrow.Author.Tests.{leb-true}
-use lib.Dec.{leb}
 
 pub and-left : (a b : Bool) → (a && b) ≡ true → a ≡ true
 and-left true b e = refl
@@ -13,10 +11,6 @@ and-left false b e = e
 pub and-right : (a b : Bool) → (a && b) ≡ true → b ≡ true
 and-right true b e = e
 and-right false b e = cc
-
--- a byte within a range is not below it
-pub not-below : (low high c : ℕ) → (leb low c && leb c high) ≡ true → low ≤ c
-not-below low high c e = leb-true low c (and-left (leb low c) (leb c high) e)
 
 -- the first of two different answers was given: the test passed
 pub passed : {A : Type 0} (b : Bool) (yea nay : A) → (nay ≡ yea → ⊥) → cond b yea nay ≡ yea → b ≡ true

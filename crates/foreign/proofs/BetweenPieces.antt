@@ -62,7 +62,7 @@ module _ (file buffer : List ℕ) where
         long : p .length ≡ length piece
         long = q .text .end ∙ zero-add (length piece)
 
-        pub piece-left : take (p .length) spare ≡ piece
+        piece-left : take (p .length) spare ≡ piece
         piece-left =
             ap₂ {C = List ℕ} take long (q .text .text) ∙ sets-part piece spare₀ 0 (let n = long in let w = q .within in omega arith)
 

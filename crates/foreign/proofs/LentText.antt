@@ -20,7 +20,7 @@ lent-part [] (y ∷ t) room = absurd (not-suc-le-zero room)
 lent-part (x ∷ p) [] room = refl
 lent-part (x ∷ p) (y ∷ t) room = ap {B = List ℕ} (λ r. x ∷ r) (lent-part p t (le-of-suc-le-suc room))
 
-pub lent-none : (p : List ℕ) → lent p [] ≡ []
+lent-none : (p : List ℕ) → lent p [] ≡ []
 lent-none [] = refl
 lent-none (x ∷ p) = refl
 

@@ -14,7 +14,7 @@ use Rattle.rules.specs.Tick.{Step}
 use Rattle.rules.specs.Taken.{answersOf, reportsIn}
 use Rattle.rules.specs.declared.Book.{Book}
 use Rattle.course.specs.Running.{ran, Ran}
-use Rattle.book.specs.Opening.{opened}
+use Rattle.book.specs.Opening.{openedDay}
 use Rattle.book.specs.declared.opening.Opened.{Opened}
 use Rattle.foreign.specs.Stepped.{stepsTaken, Stepped}
 
@@ -37,7 +37,7 @@ module _ (file answers₀ reports₀ : List ℕ) where
       (w .taken) (w .answers) (w .reports)
 
   -- of what was opened
-  module _ (o : Opened) (e : o ≡ opened file) where
+  module _ (o : Opened) (e : o ≡ openedDay file) where
     pub refused-stepped : (o .refusal ≡ 0 → ⊥) → Stepped file answers₀ reports₀ 0 answers₀ reports₀
     refused-stepped h = refused (λ z. h (ap (λ (x : Opened). x .refusal) e ∙ z))
 

@@ -27,10 +27,10 @@ answer-times true n m e h = rw (e, one-mul) h
 answer-times false n m e h = rw (e, zero-mul) (omega arith)
 
 -- so two bytes are four digits at most
-pub worth-most : (c : ℕ) → worth c ≤ 40
+worth-most : (c : ℕ) → worth c ≤ 40
 worth-most c = omega (arith, answer-times (ltb 57 c) (c % 32 / 16 * 16 + 9) 25 refl (omega arith))
 
-pub scale-most : (c : ℕ) → scale c ≤ 100
+scale-most : (c : ℕ) → scale c ≤ 100
 scale-most c = omega (arith, flag-most (not (eqb c 0)) refl, flag-most (ltb 57 c) refl)
 
 pub pair-worth-most : (a b : ℕ) → pairWorth a b ≤ 4040

@@ -56,7 +56,7 @@ number-of a b c d t h e =
     ∙ ap (λ (n : ℕ). n % 97) (spelt-behind (behind 0 v) first (first-spelt a b c d v shaped) ∙ four-behind w)
     ∙ sym (ap (λ (u : List ℕ). remainder (rearranged u)) is)
 
-pub iban-number : (s : List ℕ) → length s ≡ 34 → ibanShape (unpadded s) ≡ true → speltMoved s ≡ remainder (rearranged (unpadded s))
+iban-number : (s : List ℕ) → length s ≡ 34 → ibanShape (unpadded s) ≡ true → speltMoved s ≡ remainder (rearranged (unpadded s))
 iban-number [] h e = absurd (omega arith)
 iban-number (a ∷ []) h e = absurd (omega arith)
 iban-number (a ∷ b ∷ []) h e = absurd (omega arith)

@@ -30,13 +30,13 @@ module _ (s : List ℕ) (e : isIban s ≡ true) where
   bounds : lengths ≡ true
   bounds = and-left lengths _ (and-left _ _ (and-left front _ shaped))
 
-  pub iban-least : 5 ≤ length s
+  iban-least : 5 ≤ length s
   iban-least = leb-true 5 (length s) (and-left _ _ bounds)
 
   pub iban-length : length s ≤ 34
   iban-length = leb-true (length s) 34 (and-right (leb 5 (length s)) _ bounds)
 
-  pub iban-end : (i : ℕ) → i + 1 ≡ length s → eqb (getD s i 0) 0 ≡ false
+  iban-end : (i : ℕ) → i + 1 ≡ length s → eqb (getD s i 0) 0 ≡ false
   iban-end i h =
       let least = iban-least in
       let last : eqb (getD (drop 4 s) (i - 4) 0) 0 ≡ false =

@@ -17,7 +17,7 @@ use Rattle.codes.specs.Bic.{isBic}
 use Rattle.codes.specs.Txid.{isTxid}
 use Rattle.codes.proofs.WholeCodes.{bic-length}
 use Rattle.index.specs.Words.{Bytes}
-use Rattle.index.proofs.RowChains.{never}
+use Rattle.fields.proofs.Tests.{never}
 use Rattle.index.proofs.Comparing.{rest-bytes}
 
 -- no class has a number that is no byte

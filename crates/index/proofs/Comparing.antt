@@ -15,7 +15,7 @@ use Rattle.fields.specs.Text.{same}
 use Rattle.fields.proofs.Same.{same-true, same-refl}
 use Rattle.fields.proofs.Stores.{length-part}
 use Rattle.index.specs.Words.{Bytes, word, bicWords, txidWords}
-use Rattle.index.proofs.RowChains.{never}
+use Rattle.fields.proofs.Tests.{never}
 
 -- what a function is told of a slice of bytes
 pub slice-bytes : (s : List ℕ) → ((i : ℕ) → Fits w8 (getD s i 0)) → Bytes s

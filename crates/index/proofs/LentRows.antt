@@ -36,7 +36,7 @@ module _ (words : List ℕ → List ℕ) (wide : ℕ)
     (tells : (a b : List ℕ) → length a ≡ wide → length b ≡ wide → Bytes a → Bytes b → same (words a) (words b) ≡ same a b)
     (field : ℕ → List ℕ) {width n : ℕ} {rows : List ℕ} (held : Indexed width (λ i. words (field i)) n rows)
     (long : (i : ℕ) → i < n → length (field i) ≡ wide) (bytes : (i : ℕ) → i < n → Bytes (field i)) where
-  pub found-by-words : (s : List ℕ) → length s ≡ wide → Bytes s → firstRow width n (words s) rows ≡ firstTo (λ i. same (field i) s) n
+  found-by-words : (s : List ℕ) → length s ≡ wide → Bytes s → firstRow width n (words s) rows ≡ firstTo (λ i. same (field i) s) n
   found-by-words s as-long of-bytes =
       found-indexed held (words s)
       ∙ first-same (λ i. same (words (field i)) (words s)) (λ i. same (field i) s) n (λ i l. tells (field i) s (long i l) as-long (bytes i l) of-bytes)

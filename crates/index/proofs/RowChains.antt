@@ -21,7 +21,7 @@ use Rattle.fields.proofs.Chaining.{last-few, last-passes}
 use Rattle.index.specs.RowChains.{rowBuckets, lastFound, Distinct, RowSearchable}
 
 -- what passes g passes f: the last of g is not behind the last of f
-pub last-told : (f g : ℕ → Bool) (n : ℕ) → ((i : ℕ) → i < n → g i ≡ true → f i ≡ true) → lastTo g n ≡ lastTo g (lastTo f n)
+last-told : (f g : ℕ → Bool) (n : ℕ) → ((i : ℕ) → i < n → g i ≡ true → f i ≡ true) → lastTo g n ≡ lastTo g (lastTo f n)
 last-told f g zero tells = refl
 last-told f g (suc n) tells = go (f n) refl (g n) refl (last-told f g n (λ i l. tells i (omega arith)))
   where

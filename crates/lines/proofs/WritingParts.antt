@@ -1,16 +1,15 @@
 -- Writing text in parts, one behind the other. Assumes nothing.
 use mathlib.Core.Path.{_≡_, refl, sym, _∙_, ap, ap₂}
 use mathlib.Core.List.{List, [], _∷_, _++_}
-use Prim.Native.Nat.{ℕ, _+_, _≤_}
-use native.Mathlib.Nat.{add-zero, zero-add, add-assoc}
-use lib.ListN.{length, set, take, drop, length-append}
-use lib.Seq.{sets, take-append-seam}
+use Prim.Native.Nat.{ℕ, _+_}
+use native.Mathlib.Nat.{add-zero, add-assoc}
+use lib.ListN.{length, set, length-append}
+use lib.Seq.{sets}
 use Rattle.fields.proofs.Stores.{sets-append}
-use Rattle.fields.proofs.Laid.{sets-first}
 use Rattle.lines.specs.Written.{Written}
 
 -- nothing, one byte, and two parts
-pub written-none : (s : List ℕ) (at : ℕ) → Written s s at [] at
+written-none : (s : List ℕ) (at : ℕ) → Written s s at [] at
 written-none s at = record { text = refl; end = sym (add-zero at) }
 
 pub written-byte : (s : List ℕ) (at b : ℕ) → Written s (set s at b) at (b ∷ []) (at + 1)
@@ -22,12 +21,6 @@ written-more {s} {t} {u} {a} {b} {at} {m} {r} v w =
       text = w .text ∙ ap₂ (λ (l : List ℕ) (k : ℕ). sets l k b) (v .text) (v .end) ∙ sym (sets-append s at a b);
       end = w .end ∙ ap (λ (k : ℕ). k + length b) (v .end) ∙ add-assoc at (length a) (length b) ∙ ap (λ (k : ℕ). at + k) (sym (length-append a b));
     }
-
--- what was written from the start is what stands there
-pub written-stands : {s t bytes : List ℕ} {r : ℕ} → Written s t 0 bytes r → r ≤ length s → take r t ≡ bytes
-written-stands {s} {t} {bytes} {r} w h =
-    let e : r ≡ length bytes = w .end ∙ zero-add (length bytes) in
-    ap₂ take e (w .text ∙ sets-first bytes s (rw e at h)) ∙ take-append-seam bytes (drop (length bytes) s)
 
 -- the text s₀ became s, as long: bytes stand from a place on, up to end
 pub record Filled (s₀ s : List ℕ) (at : ℕ) (bytes : List ℕ) (end : ℕ) : Type 0 where

@@ -8,7 +8,7 @@ use lib.ListN.{getD}
 use Rattle.remainder.specs.Carried.{carried, scaled, carriedMoved}
 
 -- a remainder serves for the number
-pub mod-scaled : (n m p d : ℕ) → (n % m * p + d) % m ≡ (n * p + d) % m
+mod-scaled : (n m p d : ℕ) → (n % m * p + d) % m ≡ (n * p + d) % m
 mod-scaled n m p d = sym (ap (λ (x : ℕ). x % m) split ∙ mul-add-mod-self-right (n / m * p) m (n % m * p + d))
   where
     split : n * p + d ≡ n / m * p * m + (n % m * p + d)
@@ -33,7 +33,7 @@ by-remainders n p d =
 
 module _ (numbers scales : List ℕ) where
   -- j pairs, and k behind them
-  pub carried-join : (n at j k : ℕ) → carried numbers scales (carried numbers scales n at j) (at + j) k ≡ carried numbers scales n at (j + k)
+  carried-join : (n at j k : ℕ) → carried numbers scales (carried numbers scales n at j) (at + j) k ≡ carried numbers scales n at (j + k)
   carried-join n at j zero = ap (carried numbers scales n at) (sym (add-zero j))
   carried-join n at j (suc k) =
       ap₂ (λ (m i : ℕ). m * getD scales i 0 + getD numbers i 0) (carried-join n at j k) (add-assoc at j k)

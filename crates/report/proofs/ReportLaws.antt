@@ -6,11 +6,11 @@ use Prim.Native.Nat.{ℕ, zero, suc, _+_, _*_, _≤_, _<_}
 use native.Mathlib.Nat.{add-zero, not-suc-le-zero}
 use native.Mathlib.Numerals.{add-one, add-two, add-four}
 use native.Mathlib.Omega.{arith}
-use lib.ListN.{length, getD, set, take, drop, length-append}
+use lib.ListN.{length, getD, set, drop, length-append}
 use lib.Seq.{sets, getD-take, getD-drop}
 use Rattle.fields.specs.Number.{part, number, bytesOf}
 use Rattle.fields.specs.Text.{joined}
-use Rattle.fields.proofs.Stores.{sets-append, sets-before, sets-after, sets-part, part-part}
+use Rattle.fields.proofs.Stores.{sets-append, part-part}
 use Rattle.fields.proofs.BigEndian.{reads-back}
 use Rattle.fields.proofs.Holding.{HoldsAt, held-part}
 use Rattle.fields.proofs.Laid.{sets-behind, laid-length, length-rows-laid, row-held}
@@ -43,21 +43,6 @@ fitting-at : (rs : List Report) (i : ℕ) (d : Report) → AllFitting rs → i <
 fitting-at [] i d f h = absurd (not-suc-le-zero h)
 fitting-at (r ∷ rs) zero d f h = f .0
 fitting-at (r ∷ rs) (suc i) d f h = fitting-at rs i d (f .1) (omega arith)
-
-module _ (s : List ℕ) (n : ℕ) (r : Report) (h : 12 * n + 12 ≤ length s) where
-  -- report n is written: what stands before it and after it keeps its value
-  pub kept-before : take (12 * n) (sets s (12 * n) (reportBytes r)) ≡ take (12 * n) s
-  kept-before = sets-before (reportBytes r) s (12 * n) h
-
-  pub kept-after : drop (12 * n + 12) (sets s (12 * n) (reportBytes r)) ≡ drop (12 * n + 12) s
-  kept-after = sets-after (reportBytes r) s (12 * n) h
-
-  -- and it reads back
-  pub report-reads-back : FittingReport r → reportAt (sets s (12 * n) (reportBytes r)) n ≡ r
-  report-reads-back f =
-      sym (in-place (sets s (12 * n) (reportBytes r)) n)
-      ∙ ap (λ (t : List ℕ). reportAt t 0) (sets-part (reportBytes r) s (12 * n) h ∙ sym (append-nil (reportBytes r)))
-      ∙ own-bytes r f []
 
 report-width : (r : Report) → length (reportBytes r) ≡ 12
 report-width r = refl
@@ -100,7 +85,7 @@ put-two s n r t =
     ∙ put-further s n (r ∷ []) (t ∷ [])
 
 -- more reports behind those laid down
-pub laid-further : (rs more : List Report) (s : List ℕ) → 12 * length rs + 12 * length more ≤ length s
+laid-further : (rs more : List Report) (s : List ℕ) → 12 * length rs + 12 * length more ≤ length s
     → sets (laid rs s) (12 * length rs) (reportsBytes more) ≡ laid (rs ++ more) s
 laid-further rs more s h =
     sets-behind (reportsBytes rs) (reportsBytes more) s (12 * length rs) (12 * length (rs ++ more)) (length-reports rs)
@@ -110,11 +95,6 @@ laid-further rs more s h =
 pub laid-further-at : (rs more : List Report) (s : List ℕ) (n : ℕ) → n ≡ length rs → 12 * n + 12 * length more ≤ length s
     → sets (laid rs s) (12 * n) (reportsBytes more) ≡ laid (rs ++ more) s
 laid-further-at rs more s n e h = ap (λ (m : ℕ). sets (laid rs s) (12 * m) (reportsBytes more)) e ∙ laid-further rs more s (omega arith)
-
--- one report more
-pub laid-more : (rs : List Report) (s : List ℕ) (r : Report) → 12 * length rs + 12 ≤ length s
-    → sets (laid rs s) (12 * length rs) (reportBytes r) ≡ laid (rs ++ (r ∷ [])) s
-laid-more rs s r h = put-one (laid rs s) (12 * length rs) r ∙ laid-further rs (r ∷ []) s (omega arith)
 
 -- report i of those laid down
 pub report-laid : (rs : List Report) (s : List ℕ) (i : ℕ) (d : Report) → AllFitting rs → i < length rs → reportAt (laid rs s) i ≡ getD rs i d

@@ -4,7 +4,7 @@ use mathlib.Core.Path.{_≡_, refl, sym, _∙_, ap}
 use mathlib.Core.Bool.{Bool, true, false, cond}
 use mathlib.Core.List.{List}
 use mathlib.Core.Logic.{_⊎_, inl, inr, ⊎-elim}
-use Prim.Native.Nat.{ℕ, _+_, _-_, _≤_, _<_}
+use Prim.Native.Nat.{ℕ, _+_, _≤_, _<_}
 use native.Mathlib.Omega.{arith}
 use borrow.Author.Tests.{eq-eqb, ne-eqb}
 use lib.Dec.{eqb}
@@ -43,7 +43,7 @@ loss Spend n c = n
 loss Credit n c = c .held
 loss Debit n c = 0
 
-pub whole-moved : (m : Move) (n : ℕ) (c : Cover) → Enough m n c → whole (moved m n c) + loss m n c ≡ whole c + gain m n
+whole-moved : (m : Move) (n : ℕ) (c : Cover) → Enough m n c → whole (moved m n c) + loss m n c ≡ whole c + gain m n
 whole-moved Stay n c h = refl
 whole-moved Give n c h = omega arith
 whole-moved Draw n c h = omega arith
@@ -74,7 +74,7 @@ unbound Spend n = n
 unbound Credit n = 0
 unbound Debit n = 0
 
-pub reserved-moved : (m : Move) (n : ℕ) (c : Cover) → Enough m n c → moved m n c .reserved + unbound m n ≡ c .reserved + bound m n
+reserved-moved : (m : Move) (n : ℕ) (c : Cover) → Enough m n c → moved m n c .reserved + unbound m n ≡ c .reserved + bound m n
 reserved-moved Stay n c h = refl
 reserved-moved Give n c h = refl
 reserved-moved Draw n c h = refl
@@ -88,7 +88,7 @@ reserved-moved Debit n c h = refl
 abbrev pub Either : Cover → Type 0
 Either c = (c .held ≡ 0) ⊎ (c .debit ≡ 0)
 
-pub either-moved : (m : Move) (n : ℕ) (c : Cover) → Either c → Either (moved m n c)
+either-moved : (m : Move) (n : ℕ) (c : Cover) → Either c → Either (moved m n c)
 either-moved Stay n c e = e
 either-moved Give n c e = e
 either-moved Draw n c e = e
@@ -139,7 +139,7 @@ module _ {size : ℕ} {cs : List Cover} (fit : Fitted size cs) where
         ∙ ap (λ (w : Cover). totalOf size cs + whole w) set-here
 
     -- what holds of c, and of the others as they were
-    pub set-each : (P : ℕ → Cover → Type 0) → P p c → ((q : ℕ) → (q ≡ p → ⊥) → q < size → P q (coverOf cs q))
+    set-each : (P : ℕ → Cover → Type 0) → P p c → ((q : ℕ) → (q ≡ p → ⊥) → q < size → P q (coverOf cs q))
         → (q : ℕ) → q < size → P q (coverOf (set cs p c) q)
     set-each P this all q l =
         ⊎-elim

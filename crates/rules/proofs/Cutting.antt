@@ -88,7 +88,7 @@ module _ (r : Roster) (few : r .size ≤ mostParticipants) {due : ℕ → ℕ} {
           }
 
 -- each participant's cover when all are cut
-pub cut-long : (r : Roster) (cs : List Cover) (n : ℕ) → length (cutTo r cs n) ≡ length cs
+cut-long : (r : Roster) (cs : List Cover) (n : ℕ) → length (cutTo r cs n) ≡ length cs
 cut-long r cs zero = refl
 cut-long r cs (suc p) = length-set (cutTo r cs p) p (cutCover (participantOf r p .opening) (coverOf cs p)) ∙ cut-long r cs p
 

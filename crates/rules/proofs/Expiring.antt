@@ -2,7 +2,7 @@
 use mathlib.Core.Path.{_≡_, refl, sym, _∙_, ap₂}
 use mathlib.Core.Bool.{Bool, true, false, cond}
 use mathlib.Core.List.{List, [], _∷_, _++_, append-nil}
-use mathlib.Core.Logic.{_⊎_, ⊎-elim}
+use mathlib.Core.Logic.{⊎-elim}
 use Prim.Native.Nat.{ℕ, zero, suc, _≤_, _<_}
 use native.Mathlib.Nat.{not-suc-le-zero}
 use native.Mathlib.Omega.{arith}
@@ -43,7 +43,7 @@ abbrev pub AllCode : ℕ → List Report → Type 0
 AllCode code [] = Unit {0}
 AllCode code (r ∷ rs) = (r .code ≡ code) × AllCode code rs
 
-pub code-append : (code : ℕ) (rs ts : List Report) → AllCode code rs → AllCode code ts → AllCode code (rs ++ ts)
+code-append : (code : ℕ) (rs ts : List Report) → AllCode code rs → AllCode code ts → AllCode code (rs ++ ts)
 code-append code [] ts a b = b
 code-append code (r ∷ rs) ts a b = (a .0, code-append code rs ts (a .1) b)
 

@@ -52,7 +52,7 @@ pub fitting-append : (rs ts : List Report) → AllFitting rs → AllFitting ts �
 fitting-append [] ts a b = b
 fitting-append (r ∷ rs) ts a b = (a .0, fitting-append rs ts (a .1) b)
 
-pub few-append : (m n : ℕ) (rs ts : List Report) → Few m rs → Few n ts → Few (m + n) (rs ++ ts)
+few-append : (m n : ℕ) (rs ts : List Report) → Few m rs → Few n ts → Few (m + n) (rs ++ ts)
 few-append m n rs ts a b =
     record { fit = fitting-append rs ts (a .fit) (b .fit); few = rw (length-append rs ts) (let x = a .few in let y = b .few in omega arith) }
 
@@ -120,7 +120,7 @@ module _ (b : Book) (s : Sound b) where
       go false true = few-one 0 _ (fit-cut b s p 10 (k - a) h (omega arith) (omega arith))
       go false false = few-none 1
 
-  pub cut-few : (p : ℕ) → p ≤ b .roster .size → Few p (cutReportsTo (b .roster) (b .covers) p)
+  cut-few : (p : ℕ) → p ≤ b .roster .size → Few p (cutReportsTo (b .roster) (b .covers) p)
   cut-few zero h = few-none 0
   cut-few (suc p) h =
       few-more (p + 1) (suc p) _ (omega arith)
@@ -138,7 +138,7 @@ module _ (b : Book) (s : Sound b) where
     fit-payee : (code : ℕ) → code < 12 → FittingReport (toPayee x code)
     fit-payee code c = fit-order b s _ code (numberOf (x .order)) (x .about .amount) (s .orders .payee _ h) c (order-below b s _ h) (s .orders .most _ h)
 
-    pub settled-few : Few 32 (listed (settledTold x))
+    settled-few : Few 32 (listed (settledTold x))
     settled-few = go (x .bank)
       where
         go : (z : Bool) → Few 32 (listed (cond z (Two (toPayer x 2) (toPayee x 2)) (One (toPayer x 2))))
@@ -150,7 +150,7 @@ module _ (b : Book) (s : Sound b) where
     settled-answer-few mark.Asked = few-two 30 _ _ (fit-payer 2 (omega arith)) (fit-payee 8 (omega arith))
     settled-answer-few mark.Declined = few-two 30 _ _ (fit-payer 2 (omega arith)) (fit-payer 7 (omega arith))
 
-    pub answer-few : (u : Status) → Few 32 (listed (inquiryAnswer x u))
+    answer-few : (u : Status) → Few 32 (listed (inquiryAnswer x u))
     answer-few status.Waiting = go (x .bank)
       where
         go : (z : Bool) → Few 32 (cond z (toPayer x 9) (toPayee x 8) ∷ [])
@@ -161,13 +161,13 @@ module _ (b : Book) (s : Sound b) where
     answer-few status.Returned = few-one 31 _ (fit-payer 6 (omega arith))
     answer-few (status.Settled m) = settled-answer-few m
 
-    pub payer-few : (code : ℕ) → code < 12 → Few 32 (toPayer x code ∷ [])
+    payer-few : (code : ℕ) → code < 12 → Few 32 (toPayer x code ∷ [])
     payer-few code c = few-one 31 _ (fit-payer code c)
 
-    pub payee-few : (code : ℕ) → code < 12 → Few 32 (toPayee x code ∷ [])
+    payee-few : (code : ℕ) → code < 12 → Few 32 (toPayee x code ∷ [])
     payee-few code c = few-one 31 _ (fit-payee code c)
 
-    pub return-few : n ≤ mostOrder → Few 32 (listed (One (record { to = x .about .payer; code = 6; order = numberOf (x .order); amount = n })))
+    return-few : n ≤ mostOrder → Few 32 (listed (One (record { to = x .about .payer; code = 6; order = numberOf (x .order); amount = n })))
     return-few m = few-one 31 _ (fit-order b s _ 6 (numberOf (x .order)) n (s .orders .payer _ h) (omega arith) (order-below b s _ h) m)
 
   module _ (n time : ℕ) (t : List ℕ) where

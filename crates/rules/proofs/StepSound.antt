@@ -57,7 +57,7 @@ asked-not-waiting status.Returned e = refl
 asked-not-waiting (status.Settled m) e = refl
 
 -- a decision that keeps the order: one cover moves
-pub kept-applied : (b : Book) (f : Fields) (t : List ℕ) (m : Transfer) (told : Told)
+kept-applied : (b : Book) (f : Fields) (t : List ℕ) (m : Transfer) (told : Told)
     → applied b (orderKept (finding b f t) m false told) ≡ withCovers b (transferred m (b .covers))
 kept-applied b f t m told =
     ap₂ (λ (cs : List Cover) (os : List Order). record { clock = b .clock; covers = cs; orders = os; count = b .count; roster = b .roster })
@@ -65,10 +65,10 @@ kept-applied b f t m told =
     (set-getD (b .orders) (accepting.orderNumber b f t) noOrder)
 
 -- and where none moves, the book is as it was
-pub same-applied : (b : Book) (f : Fields) (t : List ℕ) (told : Told) → applied b (orderKept (finding b f t) nobody false told) ≡ b
+same-applied : (b : Book) (f : Fields) (t : List ℕ) (told : Told) → applied b (orderKept (finding b f t) nobody false told) ≡ b
 same-applied b f t told = kept-applied b f t nobody told ∙ ap (withCovers b) (nobody-moves (b .covers))
 
-pub cut-applied : (b : Book) (f : Fields) (t : List ℕ) (told : Told)
+cut-applied : (b : Book) (f : Fields) (t : List ℕ) (told : Told)
     → applied b (orderKept (finding b f t) nobody true told) ≡ withCovers b (cutTo (b .roster) (b .covers) (b .roster .size))
 cut-applied b f t told =
     ap₂

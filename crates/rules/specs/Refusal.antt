@@ -116,7 +116,7 @@ abbrev pub confirms : Cover → ℕ → Bool
 confirms c n = cond (eqb (c .held) 0) (not (eqb (c .debit) 0) && leb n (c .debit)) (eqb n (c .held))
 
 -- 21. Cut with held or open debit anywhere; confirm with neither, or an amount its rule excludes
-abbrev pub againstCut : Flow → Finding → Bool
+abbrev againstCut : Flow → Finding → Bool
 againstCut flow.Nothing x = false
 againstCut flow.Brings x = false
 againstCut flow.Draws x = false

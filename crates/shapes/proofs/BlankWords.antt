@@ -23,7 +23,7 @@ blank-word (zero ∷ s) = go (word s) ∙ blank-word s
     go (suc n) = not-zero (0 + 256 * suc n) (omega arith) ∙ sym (not-zero (suc n) (omega arith))
 blank-word (suc b ∷ s) = not-zero (suc b + 256 * word s) (omega arith) ∙ sym (ap (λ (z : Bool). z && blank s) (not-zero (suc b) (omega arith)))
 
-pub blank-four : (at : ℕ) (t : List ℕ) → fourAre 0 at t ≡ blank (part 32 at t)
+blank-four : (at : ℕ) (t : List ℕ) → fourAre 0 at t ≡ blank (part 32 at t)
 blank-four at t =
     simp (
       blank-word (part 8 at t),

@@ -4,7 +4,7 @@ use mathlib.Core.Bool.{Bool, true, false, cond}
 use mathlib.Core.List.{List}
 use Prim.Native.Nat.{ℕ, _<_}
 use native.Mathlib.Omega.{arith}
-use borrow.Author.Tests.{eqb-true, eqb-false}
+use borrow.Author.Tests.{eqb-false}
 use lib.Dec.{ltb, eqb}
 use Rattle.fields.specs.declared.search.Found.{Found}
 use Rattle.ticket.specs.TicketLayout.{kindByte, flagByte, amountOf, timeOf}
@@ -28,7 +28,6 @@ use Rattle.sight.specs.Sight.{seenAs, sightAs, sightOf}
 use Rattle.shapes.specs.Amounts.{amountsOf}
 use Rattle.shapes.specs.Subject.{TicketNaming}
 use Rattle.sight.specs.Value.{valueSight}
-use Rattle.sight.specs.declared.Seen.{Seen}
 use Rattle.sight.specs.declared.Sight.{Sight}
 use Rattle.sight.specs.declared.Sight.the-variants.{Read, Refused}
 use Rattle.shapes.proofs.Forms.{formed-kind, no-account}
@@ -76,27 +75,10 @@ module _ (clock : ℕ) (t : List ℕ) (sender order route : Found) where
       sight-named k (formed-kind s k t n j e) (no-account k t (ap opensOrder (n .names) ∙ opens))
       ∙ ap (asked k) (n .names)
 
--- what it tells of the entry
-pub record Saw (clock : ℕ) (t : List ℕ) (sender order route : Found) (seen : Seen) : Type 0 where
-  pub passes : entryOf clock t .refusal ≡ 0
-  pub is : seen ≡ seenAs (entryOf clock t) sender order route
-
 module _ (clock : ℕ) (t : List ℕ) (sender order route : Found) where
   -- by the test of its refusal
   abbrev tested : Bool → Sight
   tested b = cond b (Read (seenAs (entryOf clock t) sender order route)) (Refused (entryOf clock t .refusal))
-
-  pub saw : (seen : Seen) → sightOf clock t sender order route ≡ Read seen → Saw clock t sender order route seen
-  saw seen e = go (eqb (entryOf clock t .refusal) 0) refl
-    where
-      go : (b : Bool) → eqb (entryOf clock t .refusal) 0 ≡ b → Saw clock t sender order route seen
-      go true q =
-          let e′ : _≡_ {A = Sight} (Read (seenAs (entryOf clock t) sender order route)) (Read seen) = sym (ap tested q) ∙ e in
-          record { passes = eqb-true (entryOf clock t .refusal) 0 q; is = cc }
-      go false q =
-          let e′ : _≡_ {A = Sight} (Refused (entryOf clock t .refusal)) (Read seen) = sym (ap tested q) ∙ e in
-          let z : _≡_ {A = ℕ} 0 1 = cc in
-          absurd (omega arith)
 
   pub refused : (n : ℕ) → sightOf clock t sender order route ≡ Refused n → (entryOf clock t .refusal ≡ n) × (0 < n)
   refused n e = go (eqb (entryOf clock t .refusal) 0) refl

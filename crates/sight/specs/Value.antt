@@ -31,7 +31,7 @@ use Rattle.sight.specs.declared.subjects.Formed.the-variants as formed
 abbrev pub statedBy : Amounts → List ℕ → Stated
 statedBy amounts t = cond (ltb (amountOf t) (amounts .least)) Zero (Amount (amountOf t))
 
-abbrev pub statedAmount : Stated → ℕ
+abbrev statedAmount : Stated → ℕ
 statedAmount (Amount n) = n
 statedAmount Zero = 0
 
@@ -39,7 +39,7 @@ statedAmount Zero = 0
 abbrev pub limitBy : Amounts → ℕ → Limit
 limitBy amounts n = cond (ltb (amounts .most) n) Above Within
 
-abbrev pub valueRefusal : ℕ → List ℕ → Amounts → ℕ
+abbrev valueRefusal : ℕ → List ℕ → Amounts → ℕ
 valueRefusal clock t amounts =
     firstOf (statedRefusal (statedBy amounts t))
     (firstOf (amountLimitRefusal (limitBy amounts (statedAmount (statedBy amounts t))))

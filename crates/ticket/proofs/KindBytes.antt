@@ -71,7 +71,3 @@ pub bytes-kinded : (kind flag : ℕ) (k : Kind) → KindBytes k kind flag → ki
 bytes-kinded kind flag k b =
     ap (λ (n : ℕ). kinded n flag) (b .number)
     ∙ number-kinded flag k (simp (le-leb (flagLow k) flag (b .low), le-leb flag (flagHigh k) (b .high)))
-
--- so the bytes are of one kind only
-pub one-kind : (kind flag : ℕ) (j k : Kind) → KindBytes j kind flag → KindBytes k kind flag → j ≡ k
-one-kind kind flag j k a b = let p = bytes-kinded kind flag j a in let q = bytes-kinded kind flag k b in cc

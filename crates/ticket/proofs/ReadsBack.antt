@@ -87,19 +87,19 @@ amount-passes most n h = go (eqb most 0) refl
 
 -- a well-formed ticket: its widths, each check in turn, and what it reads as
 module _ (k : Kind) (w : WrittenTicket) (f : WellFormedTicket k w) where
-  pub sender-fits : length (w .sender) ≤ 11
+  sender-fits : length (w .sender) ≤ 11
   sender-fits = bic-width (formOf k .sender) (w .sender) (f .sender)
 
-  pub payee-fits : length (w .payee) ≤ 11
+  payee-fits : length (w .payee) ≤ 11
   payee-fits = bic-width (formOf k .payee) (w .payee) (f .payee)
 
-  pub txid-fits : length (w .txid) ≤ 35
+  txid-fits : length (w .txid) ≤ 35
   txid-fits = txid-width (formOf k .txid) (w .txid) (f .txid)
 
-  pub iban-fits : length (w .iban) ≤ 34
+  iban-fits : length (w .iban) ≤ 34
   iban-fits = iban-width (formOf k .iban) (w .iban) (f .iban)
 
-  pub amount-fits : w .amount < 256 ^ 8
+  amount-fits : w .amount < 256 ^ 8
   amount-fits = let a = f .most in let b = most-fits k in omega arith
 
   whole : length (ticketBytes w) ≡ layout.ticketLength

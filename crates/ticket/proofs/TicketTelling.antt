@@ -10,7 +10,7 @@ use lib.ListN.{length}
 use Rattle.codes.specs.Txid.{isTxid}
 use Rattle.fields.proofs.Tests.{and-left, and-right}
 use Rattle.ticket.specs.TicketLayout as layout
-use Rattle.ticket.specs.Kind.{kindNumber, flagLow, flagHigh, kinded}
+use Rattle.ticket.specs.Kind.{kinded}
 use Rattle.ticket.specs.Form.{formOf}
 use Rattle.ticket.specs.Shape.{bicIfListed, txidIfListed, blankUnlessListed, wellFormed, shapeAs, shapeOf, accountOf}
 use Rattle.ticket.specs.Amount.{statedIn, limitOf}
@@ -144,23 +144,3 @@ listed-txid t f tells listed = rw listed at (and-right before (txidIfListed (for
 -- its kind and flag bytes are those of its kind
 pub tells-bytes : (t : List ℕ) (f : Fields) → Tells t f → KindBytes (f .kind) (layout.kindByte t) (layout.flagByte t)
 tells-bytes t f tells = kinded-tells (layout.kindByte t) (layout.flagByte t) (f .kind) (tells .kind)
-
-module _ (t : List ℕ) (f : Fields) (read : reading t ≡ Read f) where
-  pub kind-byte : layout.kindByte t ≡ kindNumber (f .kind)
-  kind-byte = tells-bytes t f (read-tells t f read) .number
-
-  pub flag-byte : (flagLow (f .kind) ≤ layout.flagByte t) × (layout.flagByte t ≤ flagHigh (f .kind))
-  flag-byte = let b = tells-bytes t f (read-tells t f read) in (b .low, b .high)
-
-  -- a test of either computes once the kind is known
-  pub kind-test : (n : ℕ) → eqb (layout.kindByte t) n ≡ eqb (kindNumber (f .kind)) n
-  kind-test n = ap (λ (b : ℕ). eqb b n) kind-byte
-
-  pub flag-only : flagLow (f .kind) ≡ flagHigh (f .kind) → layout.flagByte t ≡ flagLow (f .kind)
-  flag-only one = let b = flag-byte in omega arith
-
-  pub time-read : layout.timeOf t ≡ f .time
-  time-read = sym (read-tells t f read .time)
-
-  pub amount-read : layout.amountOf t ≡ f .amount
-  amount-read = sym (read-tells t f read .amount)

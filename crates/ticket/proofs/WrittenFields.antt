@@ -1,29 +1,18 @@
 -- The fields of a ticket that was written, each with the widths that it takes. Assumes nothing.
-use mathlib.Core.Path.{_≡_, refl, sym, _∙_, ap}
-use mathlib.Core.Bool.{true}
+use mathlib.Core.Path.{_≡_, sym, _∙_, ap}
 use mathlib.Core.List.{List, [], _∷_, _++_, append-assoc}
 use Prim.Native.Nat.{ℕ, _^_, _≤_, _<_}
 use native.Mathlib.Omega.{arith}
 use lib.ListN.{length, take, drop, length-append, length-replicate}
 use lib.Seq.{take-at, drop-at, drop-drop}
-use Rattle.iban.specs.Iban.{isIban}
-use Rattle.codes.specs.Txid.{isTxid}
-use Rattle.fields.specs.Text.{unpadded, padded}
+use Rattle.fields.specs.Text.{padded}
 use Rattle.fields.proofs.BigEndian.{reads-back}
-use Rattle.fields.proofs.Padding.{length-padded, padded-full, unpadded-padded}
-use Rattle.codes.proofs.WholeCodes.{txid-whole, txid-length}
-use Rattle.iban.proofs.WholeIban.{iban-whole, iban-length}
-use Rattle.ticket.specs.TicketLayout.{ticketLength, kindByte, flagByte, timeOf, amountOf, senderOf, payeeOf, txidField, txidOf, ibanField, ibanOf, lastField}
+use Rattle.fields.proofs.Padding.{length-padded}
+use Rattle.ticket.specs.TicketLayout.{ticketLength, timeOf, amountOf, senderOf, payeeOf, txidField, ibanField, lastField}
 use Rattle.ticket.specs.TicketWriting.{WrittenTicket, ticketBytes}
 
 regroup : (a b c d e : List ℕ) → a ++ b ++ c ++ d ++ e ≡ a ++ (b ++ (c ++ (d ++ e)))
 regroup a b c d e = simp append-assoc
-
-pub written-kind : (w : WrittenTicket) → kindByte (ticketBytes w) ≡ w .kind
-written-kind w = refl
-
-pub written-flag : (w : WrittenTicket) → flagByte (ticketBytes w) ≡ w .flag
-written-flag w = refl
 
 pub written-time : (w : WrittenTicket) → w .time < 256 ^ 4 → timeOf (ticketBytes w) ≡ w .time
 written-time w h = reads-back 4 (w .time) h
@@ -66,19 +55,3 @@ module _ (w : WrittenTicket) where
 
     pub length-written : length (ticketBytes w) ≡ ticketLength
     length-written = simp (length-append, length-replicate) (omega arith)
-
--- the fields' values
-pub written-sender : (w : WrittenTicket) → length (w .sender) ≡ 11 → senderOf (ticketBytes w) ≡ w .sender
-written-sender w s = sender-field w (omega arith) ∙ padded-full 11 (w .sender) s
-
-pub written-payee : (w : WrittenTicket) → length (w .sender) ≤ 11 → length (w .payee) ≡ 11 → payeeOf (ticketBytes w) ≡ w .payee
-written-payee w s p = payee-field w s (omega arith) ∙ padded-full 11 (w .payee) p
-
-pub written-txid : (w : WrittenTicket) → length (w .sender) ≤ 11 → length (w .payee) ≤ 11 → isTxid (w .txid) ≡ true → txidOf (ticketBytes w) ≡ w .txid
-written-txid w s p x =
-    ap unpadded (txid-field w s p (txid-length (w .txid) x)) ∙ unpadded-padded 35 (w .txid) ∙ txid-whole (w .txid) x
-
-pub written-iban : (w : WrittenTicket) → length (w .sender) ≤ 11 → length (w .payee) ≤ 11 → length (w .txid) ≤ 35 → isIban (w .iban) ≡ true
-    → ibanOf (ticketBytes w) ≡ w .iban
-written-iban w s p x i =
-    ap unpadded (iban-field w s p x (iban-length (w .iban) i)) ∙ unpadded-padded 34 (w .iban) ∙ iban-whole (w .iban) i

@@ -16,13 +16,13 @@ mostCover = 1_000_000_000_000_000_000
 abbrev pub mostOrder : ℕ
 mostOrder = 99_999_999_999
 
-abbrev pub coverForm : ℕ → Form
+abbrev coverForm : ℕ → Form
 coverForm least = record { sender = true; payee = false; txid = false; iban = false; least = least; most = mostCover }
 
-abbrev pub aboutForm : ℕ → ℕ → Form
+abbrev aboutForm : ℕ → ℕ → Form
 aboutForm least most = record { sender = true; payee = false; txid = true; iban = false; least = least; most = most }
 
-abbrev pub emptyForm : Form
+abbrev emptyForm : Form
 emptyForm = record { sender = false; payee = false; txid = false; iban = false; least = 0; most = 0 }
 
 abbrev pub formOf : Kind → Form

@@ -24,10 +24,10 @@ pub record KindRow : Type 0 where
   pub high : ℕ
 
 -- a kind without a flag, and one with flags from low to high
-abbrev pub plain : ℕ → KindRow
+abbrev plain : ℕ → KindRow
 plain n = record { number = n; low = 0; high = 0 }
 
-abbrev pub flags : ℕ → ℕ → ℕ → KindRow
+abbrev flags : ℕ → ℕ → ℕ → KindRow
 flags n low high = record { number = n; low = low; high = high }
 
 abbrev pub kindRow : Kind → KindRow

@@ -1,8 +1,6 @@
--- The paper's number for each answer of each check and of the whole reading: 0 where the ticket passes. The number and the flags
--- of each kind are in `Kind.antt`. Assumes nothing.
+-- The paper's number for each answer of each check: 0 where the ticket passes. The number and the flags of each kind are in
+-- `Kind.antt`. Assumes nothing.
 use Prim.Native.Nat.{ℕ}
-use Rattle.ticket.specs.declared.Reading.{Reading}
-use Rattle.ticket.specs.declared.Reading.the-variants.{Read, Refused}
 use Rattle.ticket.specs.declared.kinds.Kinded.{Kinded}
 use Rattle.ticket.specs.declared.kinds.Kinded.the-variants.{As, Unknown}
 use Rattle.ticket.specs.declared.shapes.Shape.{Shape}
@@ -34,7 +32,3 @@ statedRefusal Zero = 9
 abbrev pub amountLimitRefusal : Limit → ℕ
 amountLimitRefusal Within = 0
 amountLimitRefusal Above = 10
-
-abbrev pub readingRefusal : Reading → ℕ
-readingRefusal (Read f) = 0
-readingRefusal (Refused n) = n

@@ -60,17 +60,17 @@ pub record WellFormedTicket (k : Kind) (w : WrittenTicket) : Type 0 where
   pub iban : IfListed (formOf k .iban) isIban (w .iban)
 
 -- a kind that lists a sender and an amount
-abbrev pub coverWritten : Kind → ℕ → List ℕ → ℕ → WrittenTicket
+abbrev coverWritten : Kind → ℕ → List ℕ → ℕ → WrittenTicket
 coverWritten k time sender n =
     record { kind = kindNumber k; flag = 0; time = time; amount = n; sender = sender; payee = []; txid = []; iban = [] }
 
 -- a kind that lists a sender and a TxId, with its flag and its amount
-abbrev pub aboutWritten : Kind → ℕ → List ℕ → ℕ → ℕ → List ℕ → WrittenTicket
+abbrev aboutWritten : Kind → ℕ → List ℕ → ℕ → ℕ → List ℕ → WrittenTicket
 aboutWritten k time sender flag n txid =
     record { kind = kindNumber k; flag = flag; time = time; amount = n; sender = sender; payee = []; txid = txid; iban = [] }
 
 -- a kind that lists nothing
-abbrev pub emptyWritten : Kind → ℕ → WrittenTicket
+abbrev emptyWritten : Kind → ℕ → WrittenTicket
 emptyWritten k time =
     record { kind = kindNumber k; flag = 0; time = time; amount = 0; sender = []; payee = []; txid = []; iban = [] }
 

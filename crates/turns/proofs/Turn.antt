@@ -113,7 +113,7 @@ module _ {b : Book} {t : List ℕ} {e : Entry} {n₀ : ℕ} {text₀ : List ℕ}
   abbrev pub sweptStep : Step
   sweptStep = sweepTo start (b .count)
 
-  pub book-is : c ≡ sweptStep .book
+  book-is : c ≡ sweptStep .book
   book-is = w .sweeping .book ∙ ap (λ (x : Step). x .book) (w .all)
 
   pub told-is : n ≡ n₀ + length (sweptStep .reports)

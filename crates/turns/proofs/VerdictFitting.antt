@@ -5,7 +5,7 @@
 --     fits         the verdict on what is sought has it
 use mathlib.Core.Path.{_≡_, refl, sym, _∙_, ap, ap₂, subst}
 use mathlib.Core.List.{List}
-use Prim.Native.Nat.{ℕ, _-_, _≤_, _<_}
+use Prim.Native.Nat.{ℕ, _≤_, _<_}
 use native.Mathlib.Omega.{arith}
 use lib.ListN.{set}
 use Rattle.dayfile.specs.FileLimits.{mostParticipants}
@@ -90,7 +90,7 @@ module _ {b : Book} {t : List ℕ} {e : Entry} {n₀ : ℕ} {text₀ : List ℕ}
       }))
 
   -- the covers after the first move, and after both, whatever becomes of the order
-  pub first-moved : movedBy (v .first) (v .amount) (c .covers) ≡ transferred (transferBy (v .first) (v .amount)) (c .covers)
+  first-moved : movedBy (v .first) (v .amount) (c .covers) ≡ transferred (transferBy (v .first) (v .amount)) (c .covers)
   first-moved = sym (transferred-by (v .first) (v .amount) (c .covers) (put .first))
 
   pub both-moved : (d : Does)

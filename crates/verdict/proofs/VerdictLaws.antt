@@ -69,7 +69,7 @@ module _ (P : Verdict → Type 0) (refused : (n : ℕ) → P (refusedVerdict n))
       either (confirmsRefusal (x .sender) (x .cover .held) (x .cover .debit) (x .total) (x .amount)) (stepFor kind.Confirm x)
   by-kind kind.Tick x = λ (h : P nothing). h
 
-  pub every : (x : Facts) → P (stepFor (x .kind) x) → P (verdictOf x)
+  every : (x : Facts) → P (stepFor (x .kind) x) → P (verdictOf x)
   every x = by-kind (x .kind) x
 
 -- a step is not refused

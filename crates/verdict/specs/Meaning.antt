@@ -72,7 +72,7 @@ noticesTold a b i n =
     cond (eqb (a .code) 0) Nobody (cond (eqb (b .code) 0) (One (reportBy a i n)) (Two (reportBy a i n) (reportBy b i n)))
 
 -- which order is written, what it becomes, how many are held then, whether all covers are cut, rows followed
-abbrev pub verdictDecision : ℕ → Order → ℕ → Bool → ℕ → Verdict → Decision
+abbrev verdictDecision : ℕ → Order → ℕ → Bool → ℕ → Verdict → Decision
 verdictDecision i o count cuts rows v =
     record {
       number = i;

@@ -18,10 +18,10 @@ use Rattle.rules.specs.declared.verdict.Notice.{Notice}
 use Rattle.rules.specs.declared.verdict.Verdict.{Verdict}
 
 -- who moves, and how
-abbrev pub mover : ℕ → Move → Mover
+abbrev mover : ℕ → Move → Mover
 mover who how = record { who = who; how = how }
 
-abbrev pub noMover : Mover
+abbrev noMover : Mover
 noMover = mover 0 Stay
 
 -- to whom, and which code

@@ -20,7 +20,7 @@ use Rattle.dayrows.proofs.chains.bic_repeats.Statement.{statement}
 use Rattle.dayrows.proofs.chains.bic_repeats.Tie as tie
 
 -- what the first i rows left
-pub record Looked (start width i : ℕ) (f heads links : List ℕ) (found : Bool) : Type 0 where
+record Looked (start width i : ℕ) (f heads links : List ℕ) (found : Bool) : Type 0 where
   pub headed : length heads ≡ bicBuckets
   pub linked : length links ≡ 64
   pub chained : Chained bicBuckets (λ j. bicBucket (bicIn start width f j)) i heads links

@@ -77,10 +77,10 @@ module _ (c : at.After-slice-known6) where
   abbrev pub left-at : at.Left-loop2
   left-at = swept-at judged-at
 
-  abbrev pub first-new : Cover
+  abbrev first-new : Cover
   first-new = to.first-from-After-slice-known6 c .moved2 .result
 
-  abbrev pub second-new : Cover
+  abbrev second-new : Cover
   second-new = to.second-from-After-slice-known6 c .moved3 .result
 
   -- the covers as the code has them

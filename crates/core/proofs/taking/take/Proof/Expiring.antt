@@ -48,10 +48,10 @@ module _ (c : at.After-known-told) where
   pub taken : TakenUp (b outer) (ticket outer) entry
   taken = record { sound = sound outer; is = sighted .is; passes = refl }
 
-  abbrev pub begins : Book
+  abbrev begins : Book
   begins = atTime (b outer) (entry .time)
 
-  pub begins-sound : Sound begins
+  begins-sound : Sound begins
   begins-sound = clocked-sound taken
 
 -- an order is looked at
@@ -68,19 +68,19 @@ module _ (c : at.In-loop2) where
   sweeping : Sweeping (begins passed) (outer passed .loop .n) (outer passed .loop .reports) now-book number (c .before .loop2 .n) (c .before .loop2 .reports)
   sweeping = c .before .loop2 .inv .0
 
-  pub now-count : now-book .count ≡ b (outer passed) .count
+  now-count : now-book .count ≡ b (outer passed) .count
   now-count = loop-count (taken passed) sweeping (c .before .loop2 .inv .2)
 
   pub below : number < b (outer passed) .count
   below = let t = c .loop2-test .taken in let e = now-count in omega arith
 
-  pub now-sound : Sound now-book
+  now-sound : Sound now-book
   now-sound = at-sound (begins passed) (begins-sound passed) _ _ sweeping below
 
   pub number-below : number < 256
   number-below = let h = below in let s = sound (outer passed) .orders .count in omega arith
 
-  pub in-use : number < now-book .count
+  in-use : number < now-book .count
   in-use = c .loop2-test .taken
 
   -- the order's parties are participants
@@ -110,7 +110,7 @@ module _ (c : at.After-expire) where
   roster-is : book .roster ≡ start h .args .t1 .roster
   roster-is = at-roster (begins (passed in-loop)) (begins-sound (passed in-loop)) _ _ (sweeping in-loop) (below in-loop) ∙ h .loop .inv .roster
 
-  pub lapse-is : c .expire .result ≡ expiryIn book i
+  lapse-is : c .expire .result ≡ expiryIn book i
   lapse-is =
       c .expire .ensures
       ∙ ap (λ (z : Bool). expiryOf (book .clock) i (orderOf (book .orders) i) z)

@@ -53,7 +53,7 @@ module _ (c : at.Joined3) where
   abbrev anywhere : Bool
   anywhere = anyTo (λ q. isOpen (coverOf (swept-book at-cut .covers) q)) (r .size)
 
-  pub open-is : c .if3 .unconfirmed ≡ cond seeks anywhere false
+  open-is : c .if3 .unconfirmed ≡ cond seeks anywhere false
   open-is =
       ⊎-elim
       (λ x. x .3 ∙ x .2 .ensures ∙ ap (λ (z : Bool). cond z anywhere false) (sym (x .0 .taken) ∙ c .before .is-cut .ensures))
@@ -88,7 +88,7 @@ module _ (c : at.After-is-bank2) where
   pub all-few : hd swept-f .loop .total ≤ mostTotal
   all-few = total-few (expired swept-f) (hd swept-f .loop .inv .sum)
 
-  abbrev pub facts : (x : Facts) × (x ≡ factsOf (sought (swept-book swept-f) (entry (seen-at swept-f)) (ticket (hd swept-f))))
+  abbrev facts : (x : Facts) × (x ≡ factsOf (sought (swept-book swept-f) (entry (seen-at swept-f)) (ticket (hd swept-f))))
   facts = (
     _,
     facts-are (expired swept-f) (searched (to.numbers-from-After-is-bank2 c)) (sym (hd swept-f .loop .inv .roster))
