@@ -47,11 +47,11 @@ use Rattle.core.proofs.Searching.{txids-lent}
 use Rattle.core.proofs.taking.take.Statement.{statement}
 use Rattle.core.proofs.taking.take.Tie as tie
 use Rattle.core.proofs.taking.take.Proof.Invariants.{Inv-loop2, μ-loop2, Inv-loop, μ-loop}
-use Rattle.core.proofs.taking.take.Proof.Starting.{begun}
+use Rattle.core.proofs.taking.take.Proof.Starting.{loop-begun}
 use Rattle.core.proofs.taking.take.Proof.Loop.{start, tickets, answers₀, reports₀, sound, long-answers, long-reports, ticket-is, head, more, room, next-fits, whole-ticket, txid-long, last, none-more}
 use Rattle.core.proofs.taking.take.Proof.Seen.{refused-done, refused-is}
 use Rattle.core.proofs.taking.take.Proof.Expiring.{outer, taken, below, number-below, payer-below, payee-below, early, freeable, told-fits, one-expired}
-use Rattle.core.proofs.taking.take.Proof.Judging.{sender-number, order-number, payee-number, all-few, suits}
+use Rattle.core.proofs.taking.take.Proof.Judging.{sender-number, order-number, payee-number, swept-total-few, suits}
 use Rattle.core.proofs.taking.take.Proof.Refusing.{late-done}
 use Rattle.core.proofs.taking.take.Proof.Carrying.{first-sum, second-has, second-sum, notices-fit}
 use Rattle.core.proofs.taking.take.Proof.Ending.{space, few-participants, cut-fits, uncut-whole, done}
@@ -80,7 +80,7 @@ take-spec =
     (λ c. let h = c .before .txids-of .ensures .0 in search needs)
     (λ c κs. let few = to.start-from-After-txids c .pre .0 .orders .count in let h = c .before .txids-of .ensures .0 in (omega arith, omega arith))
     (λ c κs. let s = to.start-from-After-covers c in (s .pre .0 .roster .size, rw (total-sum (s .args .t1)) (s .pre .0 .limited)))
-    (λ c. begun c)
+    (λ c. loop-begun c)
     (λ c. let g = start c .good in search needs)
     (λ c. let g = start c .good in let h = c .loop .inv .going .ticketsLeft in search needs)
     (λ c. let g = start c .good in search needs)
@@ -148,7 +148,7 @@ take-spec =
     (λ c. let h = payee-number (c .before .before) in search needs)
     (λ c. payee-number (c .before .before))
     (λ c κs. search needs)
-    (λ c κs. all-few c)
+    (λ c κs. swept-total-few c)
     (λ c. let h = late-done (to.late-from-After-put-answer-arg2 c) .told in omega arith)
     (λ c. let d = late-done (to.late-from-After-put-answer-arg2 c) in let h = d .told in let few = d .fewTold in omega arith)
     (λ c κs.

@@ -10,7 +10,7 @@ use Rattle.course.specs.Room.{mostNumber, Room}
 use Rattle.turns.proofs.VerdictFitting.{verdictReports}
 use Rattle.turns.proofs.CarryingOut.{CarriedOut, first-fits, second-room, second-fits, moves-carried-out, told-room}
 use Rattle.core.proofs.taking.take.Proof.Loop.{long-reports, room}
-use Rattle.core.proofs.taking.take.Proof.Expiring.{hd, swept-book, expired}
+use Rattle.core.proofs.taking.take.Proof.Expiring.{loop-head, swept-book, expired}
 use Rattle.core.proofs.taking.take.Proof.Judging.{swept-at, v, suits}
 use Rattle.core.proofs.taking.take.Proof.Places as at
 use Rattle.core.proofs.taking.take.Proof.Ways as to
@@ -23,9 +23,9 @@ module _ (c : at.After-moved2) where
   abbrev swept-1 : at.Left-loop2
   swept-1 = swept-at judged-1
 
-  pub first-sum : (whole (coverOf (swept-book swept-1 .covers) (v judged-1 .first .who)) ≤ hd swept-1 .loop .total)
-      × (hd swept-1 .loop .total + whole (c .moved2 .result) ≤ mostNumber)
-  first-sum = first-fits (expired swept-1) (suits judged-1) (c .moved2 .ensures) (hd swept-1 .loop .inv .sum)
+  pub first-sum : (whole (coverOf (swept-book swept-1 .covers) (v judged-1 .first .who)) ≤ loop-head swept-1 .loop .total)
+      × (loop-head swept-1 .loop .total + whole (c .moved2 .result) ≤ mostNumber)
+  first-sum = first-fits (expired swept-1) (suits judged-1) (c .moved2 .ensures) (loop-head swept-1 .loop .inv .sum)
 
 -- the second is about to
 module _ (c : at.After-old2) where
@@ -38,7 +38,7 @@ module _ (c : at.After-old2) where
   pub second-has : Room (v judged-2 .second .how) (v judged-2 .amount)
       (coverOf (set (swept-book (swept-at judged-2) .covers) (v judged-2 .first .who) (moved-2 .moved2 .result)) (v judged-2 .second .who))
   second-has =
-      second-room (expired (swept-at judged-2)) (suits judged-2) (moved-2 .moved2 .ensures) (hd (swept-at judged-2) .loop .inv .sum)
+      second-room (expired (swept-at judged-2)) (suits judged-2) (moved-2 .moved2 .ensures) (loop-head (swept-at judged-2) .loop .inv .sum)
 
 -- it has
 module _ (c : at.After-moved3) where
@@ -55,7 +55,7 @@ module _ (c : at.After-moved3) where
       ≤ sum-3 .total-with .result)
       × (sum-3 .total-with .result + whole (c .moved3 .result) ≤ mostNumber)
   second-sum =
-      second-fits (expired (swept-at judged-3)) (suits judged-3) (first-3 .moved2 .ensures) (hd (swept-at judged-3) .loop .inv .sum)
+      second-fits (expired (swept-at judged-3)) (suits judged-3) (first-3 .moved2 .ensures) (loop-head (swept-at judged-3) .loop .inv .sum)
       (sum-3 .total-with .ensures) (c .moved3 .ensures)
 
 -- there is room for what is told
@@ -66,7 +66,7 @@ module _ (c : at.After-put-notices-arg) where
   pub notices-fit : 12 * swept-at judged-4 .before .loop2 .n + 12 * length (verdictReports (v judged-4)) ≤ length (swept-at judged-4 .before .loop2 .reports)
   notices-fit =
       let has = room (to.room-from-After-put-notices-arg c) .report in
-      let long = long-reports (hd (swept-at judged-4)) in
+      let long = long-reports (loop-head (swept-at judged-4)) in
       told-room (expired (swept-at judged-4)) (suits judged-4) (omega arith)
 
 -- told
@@ -91,7 +91,7 @@ module _ (c : at.After-slice-known6) where
       (to.total-from-After-slice-known6 c .total-with2 .result) (to.told-from-After-slice-known6 c .put-notices .result)
       (to.told-from-After-slice-known6 c .put-notices .last .0)
   carried-out =
-      moves-carried-out (expired left-at) (suits judged-at) (to.first-from-After-slice-known6 c .moved2 .ensures) (hd left-at .loop .inv .sum)
+      moves-carried-out (expired left-at) (suits judged-at) (to.first-from-After-slice-known6 c .moved2 .ensures) (loop-head left-at .loop .inv .sum)
       (to.sum-from-After-slice-known6 c .total-with .ensures) (to.second-from-After-slice-known6 c .moved3 .ensures)
       (to.total-from-After-slice-known6 c .total-with2 .ensures) (to.told-from-After-slice-known6 c .put-notices .ensures .1)
       (to.told-from-After-slice-known6 c .put-notices .ensures .0)

@@ -165,8 +165,8 @@ module _ (c : at.Left-loop2) where
   abbrev pub seen-at : at.After-known-told
   seen-at = to.passed-from-Left-loop2 c
 
-  abbrev pub hd : at.At-loop
-  hd = outer seen-at
+  abbrev pub loop-head : at.At-loop
+  loop-head = outer seen-at
 
   abbrev pub swept-book : Book
   swept-book = c .before .loop2 .b
@@ -174,6 +174,6 @@ module _ (c : at.Left-loop2) where
   stops : (swept-book .count ≤ c .before .loop2 .next) ⊎ (swept-book .clock - orderOf (swept-book .orders) (c .before .loop2 .next) .time < 20)
   stops = ⊎-elim (λ x. inl (let h = x .left in omega arith)) (λ x. inr (ltb-true _ _ (sym (x .2 .ensures) ∙ x .3 .taken))) (c .loop2-test .came)
 
-  pub expired : Expired (b hd) (ticket hd) (entry seen-at) (hd .loop .n) (hd .loop .reports) swept-book (c .before .loop2 .next) (c .before .loop2 .n)
+  pub expired : Expired (b loop-head) (ticket loop-head) (entry seen-at) (loop-head .loop .n) (loop-head .loop .reports) swept-book (c .before .loop2 .next) (c .before .loop2 .n)
       (c .before .loop2 .reports)
-  expired = expiries-done (taken seen-at) (hd .loop .inv .passed) (c .before .loop2 .inv .0) (c .before .loop2 .inv .1) (c .before .loop2 .inv .2) stops
+  expired = expiries-done (taken seen-at) (loop-head .loop .inv .passed) (c .before .loop2 .inv .0) (c .before .loop2 .inv .1) (c .before .loop2 .inv .2) stops

@@ -12,7 +12,7 @@ use Rattle.turns.proofs.CarryingOut.{nothing-carried}
 use Rattle.turns.proofs.Done.{Done}
 use Rattle.turns.proofs.TurnEnds.{did-nothing}
 use Rattle.core.proofs.taking.take.Proof.Loop.{b, ticket}
-use Rattle.core.proofs.taking.take.Proof.Expiring.{entry, seen-at, hd, swept-book, expired}
+use Rattle.core.proofs.taking.take.Proof.Expiring.{entry, seen-at, loop-head, swept-book, expired}
 use Rattle.core.proofs.taking.take.Proof.Judging.{swept-at, v, verdict-is}
 use Rattle.core.proofs.taking.take.Proof.Places as at
 use Rattle.core.proofs.taking.take.Proof.Ways as to
@@ -25,7 +25,7 @@ module _ (c : at.Then4) where
   left = swept-at j
 
   abbrev pub before : at.At-loop
-  before = hd left
+  before = loop-head left
 
   refused-is : v j ≡ refusedVerdict (v j .refusal)
   refused-is =
