@@ -44,12 +44,15 @@ pub unmoved : (ps : Roster) (e : Event) → isYes e ≡ false → isKind 6 e ≡
 unmoved ps e no-yes no-return =
     record {
       settled =
-          sum-zero (λ p. settledFrom p e) (ps .size) (λ p l. rw no-yes) ∙ sym (sum-zero (λ p. settledTo ps p e) (ps .size) (λ p l. rw no-yes));
+          sum-zero (λ p. settledFrom p e) (ps .size) (λ p l. rw no-yes)
+          ∙ sym (sum-zero (λ p. settledTo ps p e) (ps .size) (λ p l. rw no-yes));
       returned =
-          sum-zero (λ p. returnBy ps p e) (ps .size) (λ p l. rw no-return) ∙ sym (sum-zero (λ p. returnTo p e) (ps .size) (λ p l. rw no-return));
+          sum-zero (λ p. returnBy ps p e) (ps .size) (λ p l. rw no-return)
+          ∙ sym (sum-zero (λ p. returnTo p e) (ps .size) (λ p l. rw no-return));
     }
 
-module _ {ps : Roster} {h : History} {w : Book} {t : List ℕ} {f : Fields} {rs₀ : List Report} (k : AcceptedTicket ps h w t f rs₀) (named : namesOrder (termsOf (f .kind) .subject) ≡ true) where
+module _ {ps : Roster} {h : History} {w : Book} {t : List ℕ} {f : Fields} {rs₀ : List Report} (k : AcceptedTicket ps h w t f rs₀)
+    (named : namesOrder (termsOf (f .kind) .subject) ≡ true) where
   -- the parties of the order that a ticket is about
   pub payer-known : accepting.theOrder w f t .payer < ps .size
   payer-known =
@@ -69,10 +72,12 @@ module _ {ps : Roster} {h : History} {w : Book} {t : List ℕ} {time n : ℕ} {r
       let party : accepting.senderNumber w f t ≡ o .payee = accepting.right-party w f t (k .passed .r17) refl in
       record {
         settled =
-            sum-same (λ p. settledFrom p (takenEvent t rs₀ rs)) (λ p. onlyFor (o .payer) p (o .amount)) (ps .size) (λ p l. rw (kind-is k, yes-flag k, yes-told k))
+            sum-same (λ p. settledFrom p (takenEvent t rs₀ rs)) (λ p. onlyFor (o .payer) p (o .amount)) (ps .size)
+            (λ p l. rw (kind-is k, yes-flag k, yes-told k))
             ∙ only-sum (o .payer) (o .amount) (ps .size) (payer-known k refl)
             ∙ sym
-            (sum-same (λ p. settledTo ps p (takenEvent t rs₀ rs)) (λ p. onlyFor (o .payee) p (o .amount)) (ps .size) (λ p l. rw (kind-is k, yes-flag k, yes-told k, sent k refl p l, party))
+            (sum-same (λ p. settledTo ps p (takenEvent t rs₀ rs)) (λ p. onlyFor (o .payee) p (o .amount)) (ps .size)
+            (λ p l. rw (kind-is k, yes-flag k, yes-told k, sent k refl p l, party))
             ∙ only-sum (o .payee) (o .amount) (ps .size) (payee-known k refl));
         returned =
             sum-zero (λ p. returnBy ps p (takenEvent t rs₀ rs)) (ps .size) (λ p l. rw (kind-is k))
@@ -101,10 +106,12 @@ module _ {ps : Roster} {h : History} {w : Book} {t : List ℕ} {time n : ℕ} {r
             sum-zero (λ p. settledFrom p (takenEvent t rs₀ rs)) (ps .size) (λ p l. rw (kind-is k))
             ∙ sym (sum-zero (λ p. settledTo ps p (takenEvent t rs₀ rs)) (ps .size) (λ p l. rw (kind-is k)));
         returned =
-            sum-same (λ p. returnBy ps p (takenEvent t rs₀ rs)) (λ p. onlyFor (accepting.senderNumber w f t) p n) (ps .size) (λ p l. rw (kind-is k, sent k refl p l, amount-is k))
+            sum-same (λ p. returnBy ps p (takenEvent t rs₀ rs)) (λ p. onlyFor (accepting.senderNumber w f t) p n) (ps .size)
+            (λ p l. rw (kind-is k, sent k refl p l, amount-is k))
             ∙ only-sum (accepting.senderNumber w f t) n (ps .size) (sender-known k refl)
             ∙ sym
-            (sum-same (λ p. returnTo p (takenEvent t rs₀ rs)) (λ p. onlyFor (o .payer) p n) (ps .size) (λ p l. rw (kind-is k, first, amount-is k))
+            (sum-same (λ p. returnTo p (takenEvent t rs₀ rs)) (λ p. onlyFor (o .payer) p n) (ps .size)
+            (λ p l. rw (kind-is k, first, amount-is k))
             ∙ only-sum (o .payer) n (ps .size) (payer-known k refl));
       }
     where
@@ -120,7 +127,8 @@ module _ {ps : Roster} {h : History} {w : Book} {t : List ℕ} {time n : ℕ} {r
   no-balanced : AcceptedTicket ps h w t (fieldsOf kind.No time n) rs₀
       → Balanced ps (takenEvent t rs₀ (toldBy w (decisionOf (finding w (fieldsOf kind.No time n) t))))
   no-balanced k =
-      unmoved ps (takenEvent t rs₀ (toldBy w (decisionOf (finding w (fieldsOf kind.No time n) t)))) (rw (kind-is k, no-flag k)) (rw (kind-is k))
+      unmoved ps (takenEvent t rs₀ (toldBy w (decisionOf (finding w (fieldsOf kind.No time n) t))))
+      (rw (kind-is k, no-flag k)) (rw (kind-is k))
 
   pub own-balanced : (j : Kind) → AcceptedTicket ps h w t (fieldsOf j time n) rs₀
       → Balanced ps (takenEvent t rs₀ (toldBy w (decisionOf (finding w (fieldsOf j time n) t))))

@@ -28,8 +28,36 @@ use Rattle.rules.specs.declared.Book.{Book}
 use Rattle.rules.proofs.Names.{bicA, bicB, bicL, tx1, tx2, tx3, tx4, tx5, tx6, tx7, tx8, ibanD}
 use Rattle.audit.specs.History.{Event}
 use Rattle.audit.proofs.Testing.{claim-holds}
-use Rattle.audit.proofs.HistoryRows.{Day, IsRight, seenOn, bookOn, inputs, WrittenHistory, AllFalse, AllTrue, all-false, all-true, event, report, cover, order, bookAt, bookWith}
-use Rattle.audit.proofs.HistoryParts.{banks, toLinked, opening, orderedMore, settledAt, quiet, expiredAt, atFirst, settledCovers, freedCovers}
+use Rattle.audit.proofs.HistoryRows.{
+  Day,
+  IsRight,
+  seenOn,
+  bookOn,
+  inputs,
+  WrittenHistory,
+  AllFalse,
+  AllTrue,
+  all-false,
+  all-true,
+  event,
+  report,
+  cover,
+  order,
+  bookAt,
+  bookWith,
+}
+use Rattle.audit.proofs.HistoryParts.{
+  banks,
+  toLinked,
+  opening,
+  orderedMore,
+  settledAt,
+  quiet,
+  expiredAt,
+  atFirst,
+  settledCovers,
+  freedCovers,
+}
 use Rattle.audit.proofs.Days.{busyDay}
 
 -- the busy day from its 28th ticket on, after the second cut: the first bank has 380 held, the second an open debit of 50
@@ -58,7 +86,8 @@ afternoon = record {
 -- two banks and a linked system, with orders of every status; the first bank has 80 held
 abbrev overNight : Book
 overNight =
-    bookAt 100 (bookOf (fileBytes (bankOpening bicA 500 ∷ bank bicB ∷ linked bicL ∷ []) (direct bicA 0 ∷ direct bicB 1 ∷ direct bicL 2 ∷ []) []) .roster)
+    bookAt 100 (bookOf
+    (fileBytes (bankOpening bicA 500 ∷ bank bicB ∷ linked bicL ∷ []) (direct bicA 0 ∷ direct bicB 1 ∷ direct bicL 2 ∷ []) []) .roster)
     (cover 500 200 80 ∷ cover 1000 60 0 ∷ cover 0 0 0 ∷ [])
     (order tx1 0 1 400 5 (Settled None)
     ∷ order tx2 0 1 100 6 Expired
@@ -164,7 +193,8 @@ abbrev pub ofOrdersBefore : List WrittenHistory
 ofOrdersBefore =
     since "an order of the start that the book no longer holds" waiting (quiet 6 ∷ []) atFirst [] "held"
     ∷ since "an order that ended before is Waiting" settled (quiet 6 ∷ []) settledCovers (Waiting ∷ []) "waiting"
-    ∷ since "an order that waits in the start has ended, and nobody was told" waiting (quiet 6 ∷ []) freedCovers (Refused ∷ []) "reserved, waiting"
+    ∷ since "an order that waits in the start has ended, and nobody was told" waiting (quiet 6 ∷ []) freedCovers
+    (Refused ∷ []) "reserved, waiting"
     ∷ since "a waiting order of the start doesn't expire after 20 seconds" waiting (quiet 25 ∷ []) atFirst (Waiting ∷ []) "expiry"
     ∷ since "a waiting order of the start expires a second early" waiting (expiredAt 24 ∷ []) freedCovers (Expired ∷ []) "expiry"
     ∷ since "a waiting order of the start for a linked system expires" (startOf toLinked atFirst Waiting)
@@ -183,15 +213,22 @@ ofOrdersBefore =
 abbrev pub ofEndingsBefore : List WrittenHistory
 ofEndingsBefore =
     since "an order settled before is told to expire" settled (expiredAt 25 ∷ []) settledCovers (Settled None ∷ []) "once, alike"
-    ∷ since "an order settled before settles again" settled (settledAt 6 ∷ []) (cover 200 0 0 ∷ cover 800 0 0 ∷ []) (Settled None ∷ []) "once"
-    ∷ since "an order refused before settles" (startOf banks freedCovers Refused) (settledAt 6 ∷ []) settledCovers (Settled None ∷ []) "once, alike"
-    ∷ since "an order that expired before expires again" (startOf banks freedCovers Expired) (expiredAt 25 ∷ []) freedCovers (Expired ∷ []) "once"
+    ∷ since "an order settled before settles again" settled (settledAt 6 ∷ []) (cover 200 0 0 ∷ cover 800 0 0 ∷ [])
+    (Settled None ∷ []) "once"
+    ∷ since "an order refused before settles" (startOf banks freedCovers Refused) (settledAt 6 ∷ []) settledCovers
+    (Settled None ∷ []) "once, alike"
+    ∷ since "an order that expired before expires again" (startOf banks freedCovers Expired) (expiredAt 25 ∷ [])
+    freedCovers (Expired ∷ []) "once"
     ∷ since "an order settled before, told as expired by an inquiry" settled (told 4 400 ∷ []) settledCovers (Settled None ∷ []) "alike"
-    ∷ since "an order refused before, told as settled by an inquiry" (startOf banks freedCovers Refused) (told 2 400 ∷ []) freedCovers (Refused ∷ []) "alike"
-    ∷ since "an order that expired before, told as refused by an inquiry" (startOf banks freedCovers Expired) (told 3 400 ∷ []) freedCovers (Expired ∷ []) "alike"
-    ∷ since "an order returned before, told as refused by an inquiry" (startOf banks freedCovers Returned) (told 3 400 ∷ []) freedCovers (Returned ∷ []) "alike"
+    ∷ since "an order refused before, told as settled by an inquiry" (startOf banks freedCovers Refused) (told 2 400 ∷ [])
+    freedCovers (Refused ∷ []) "alike"
+    ∷ since "an order that expired before, told as refused by an inquiry" (startOf banks freedCovers Expired) (told 3 400 ∷ [])
+    freedCovers (Expired ∷ []) "alike"
+    ∷ since "an order returned before, told as refused by an inquiry" (startOf banks freedCovers Returned) (told 3 400 ∷ [])
+    freedCovers (Returned ∷ []) "alike"
     ∷ since "a repeat with another amount than the row's" settled (told 2 401 ∷ []) settledCovers (Settled None ∷ []) "alike"
-    ∷ since "an order that waits in the start, ended by an inquiry alone" waiting (toldAt 10 2 400 ∷ []) freedCovers (Settled None ∷ []) "once"
+    ∷ since "an order that waits in the start, ended by an inquiry alone" waiting (toldAt 10 2 400 ∷ []) freedCovers
+    (Settled None ∷ []) "once"
     ∷ since "an order settled before, told in a refused inquiry" settled
     (event (inquiryTicket 30 bicB tx1) 17 (report 0 2 0 400 ∷ []) ∷ [])
     settledCovers (Settled None ∷ []) "once"
@@ -219,9 +256,12 @@ endings-before-false = all-false ofEndingsBefore refl
 abbrev pub rightStarts : List WrittenHistory
 rightStarts =
     since "nothing was seen yet" settled [] settledCovers (Settled None ∷ []) ""
-    ∷ since "held in the start confirmed as a credit" withHeld (event (confirmTicket 6 bicA 900) 0 [] ∷ []) (cover 100 0 0 ∷ cover 0 0 0 ∷ []) [] ""
-    ∷ since "open debit in the start confirmed in part" withDebit (event (confirmTicket 6 bicA 40) 0 [] ∷ []) (cover 70 0 0 ∷ cover 0 0 0 ∷ []) [] ""
-    ∷ since "a waiting order of the start settles in its last second" waiting (settledAt 24 ∷ told 2 400 ∷ []) settledCovers (Settled None ∷ []) ""
+    ∷ since "held in the start confirmed as a credit" withHeld (event (confirmTicket 6 bicA 900) 0 [] ∷ [])
+    (cover 100 0 0 ∷ cover 0 0 0 ∷ []) [] ""
+    ∷ since "open debit in the start confirmed in part" withDebit (event (confirmTicket 6 bicA 40) 0 [] ∷ [])
+    (cover 70 0 0 ∷ cover 0 0 0 ∷ []) [] ""
+    ∷ since "a waiting order of the start settles in its last second" waiting (settledAt 24 ∷ told 2 400 ∷ [])
+    settledCovers (Settled None ∷ []) ""
     ∷ since "a waiting order of the start expires" waiting (expiredAt 25 ∷ told 4 400 ∷ []) freedCovers (Expired ∷ []) ""
     ∷ since "an order settled before is repeated, twice" settled (told 2 400 ∷ told 2 400 ∷ []) settledCovers (Settled None ∷ []) ""
     ∷ since "an order refused before is repeated" (startOf banks freedCovers Refused) (told 3 400 ∷ []) freedCovers (Refused ∷ []) ""

@@ -143,6 +143,7 @@ on-append : (h : History) (ss ts : List Seen) → eventsOn h (ss ++ ts) ≡ even
 on-append h [] ts = refl
 on-append h (s ∷ ss) ts = on-append (eventOf s ▹ h) ss ts
 
-pub beginnings : (b : Book) (earlier later : List Input) → historyOf b (earlier ++ later) ≡ eventsOn (historyOf b earlier) (seenFrom (bookFrom b earlier) later)
+pub beginnings : (b : Book) (earlier later : List Input)
+    → historyOf b (earlier ++ later) ≡ eventsOn (historyOf b earlier) (seenFrom (bookFrom b earlier) later)
 beginnings b earlier later =
     ap (eventsOn (from b)) (seen-append b earlier later) ∙ on-append (from b) (seenFrom b earlier) (seenFrom (bookFrom b earlier) later)

@@ -30,7 +30,22 @@ use Rattle.audit.specs.Sums.{lastCut, goesOut, comesIn}
 use Rattle.audit.specs.Orders.{asksAbout}
 use Rattle.audit.proofs.Events.{Growth, OwnStep}
 use Rattle.audit.proofs.ReportTelling.{cut-after}
-use Rattle.audit.proofs.Own.{order-left, cover-goes, AcceptedTicket, takenEvent, OwnStepOf, kind-is, amount-is, sent, sender-below, sender-known, steady, orders-kept, uncut, moved-own}
+use Rattle.audit.proofs.Own.{
+  order-left,
+  cover-goes,
+  AcceptedTicket,
+  takenEvent,
+  OwnStepOf,
+  kind-is,
+  amount-is,
+  sent,
+  sender-below,
+  sender-known,
+  steady,
+  orders-kept,
+  uncut,
+  moved-own,
+}
 
 -- a refused ticket does nothing of its own
 pub nothing-own : (ps : Roster) (h : History) (w : Book) (t : List ℕ) (n : ℕ) (rs₀ : List Report) → AllCode 4 rs₀ → eqb n 0 ≡ false
@@ -41,7 +56,8 @@ nothing-own ps h w t n rs₀ c₀ refused =
       growth = Growth.keeps (rw refused) refl;
       order = λ i l. order-left (asksAbout i e h) i (orderOf (w .orders) i) (orderOf (w .orders) i) [] refl refl;
       none = λ i l. refl;
-      cover = λ p l. cover-goes ps h e p (coverOf (w .covers) p) (coverOf (w .covers) p) (rw refused) (cut-after p (lastCut p h) rs₀ [] c₀ tt) (inr refl) (inr refl);
+      cover = λ p l. cover-goes ps h e p (coverOf (w .covers) p) (coverOf (w .covers) p) (rw refused)
+          (cut-after p (lastCut p h) rs₀ [] c₀ tt) (inr refl) (inr refl);
     }
   where
     e : Event
@@ -85,15 +101,21 @@ module _ {ps : Roster} {h : History} {w : Book} {t : List ℕ} {time n : ℕ} {r
       c = coverOf (w .covers) who
 
       -- what is told of the last cut decides which of the two it is
-      comes : (x : Bool) → eqb (lastCut who h) 10 ≡ x → (p : ℕ) → p < ps .size → comesIn ps p (takenEvent t rs₀ []) h ≡ onlyFor who p (cond x n 0)
+      comes : (x : Bool) → eqb (lastCut who h) 10 ≡ x → (p : ℕ) → p < ps .size
+          → comesIn ps p (takenEvent t rs₀ []) h ≡ onlyFor who p (cond x n 0)
       comes x e p l =
           rw (kind-is k, sent k refl p l, amount-is k)
-          (let o = only-if who p n (λ q. eqb (lastCut q h) 10) in let same : onlyFor who p (cond (eqb (lastCut who h) 10) n 0) ≡ onlyFor who p (cond x n 0) = rw e in omega arith)
+          (let o = only-if who p n (λ q. eqb (lastCut q h) 10) in
+          let same : onlyFor who p (cond (eqb (lastCut who h) 10) n 0) ≡ onlyFor who p (cond x n 0) = rw e in
+          omega arith)
 
-      goes : (x : Bool) → eqb (lastCut who h) 11 ≡ x → (p : ℕ) → p < ps .size → goesOut ps p (takenEvent t rs₀ []) h ≡ onlyFor who p (cond x n 0)
+      goes : (x : Bool) → eqb (lastCut who h) 11 ≡ x → (p : ℕ) → p < ps .size
+          → goesOut ps p (takenEvent t rs₀ []) h ≡ onlyFor who p (cond x n 0)
       goes x e p l =
           rw (kind-is k, sent k refl p l, amount-is k)
-          (let o = only-if who p n (λ q. eqb (lastCut q h) 11) in let same : onlyFor who p (cond (eqb (lastCut who h) 11) n 0) ≡ onlyFor who p (cond x n 0) = rw e in omega arith)
+          (let o = only-if who p n (λ q. eqb (lastCut q h) 11) in
+          let same : onlyFor who p (cond (eqb (lastCut who h) 11) n 0) ≡ onlyFor who p (cond x n 0) = rw e in
+          omega arith)
 
       -- what is not nothing is what was told
       told : (held code : ℕ) → eqb held 0 ≡ false → (held ≡ 0) ⊎ (lastCut who h ≡ code) → lastCut who h ≡ code
@@ -101,11 +123,14 @@ module _ {ps : Roster} {h : History} {w : Book} {t : List ℕ} {time n : ℕ} {r
       told held code e (inr was) = was
 
       go : (z : Bool) → eqb (c .held) 0 ≡ z → confirms c n ≡ true
-          → OwnStep ps h (takenEvent t rs₀ []) w (applied w (orderKept (finding w (fieldsOf kind.Confirm time n) t) (by who (cond z Debit Credit) n) false Told.Nobody)) []
+          → OwnStep ps h (takenEvent t rs₀ []) w
+          (applied w (orderKept (finding w (fieldsOf kind.Confirm time n) t) (by who (cond z Debit Credit) n) false Told.Nobody)) []
       go true e right =
           let both : (not (eqb (c .debit) 0) && leb n (c .debit)) ≡ true = rw e at right in
-          let was = told (c .debit) 10 (not-true _ (and-left (not (eqb (c .debit) 0)) (leb n (c .debit)) both)) (k .midway .debit who (sender-known k refl)) in
-          moved-own k (by who Debit n) (sender-below k refl) tt (rw (kind-is k)) (inr refl) (inl refl) (goes false (rw was)) (comes true (rw was))
+          let was = told (c .debit) 10 (not-true _ (and-left (not (eqb (c .debit) 0)) (leb n (c .debit)) both))
+          (k .midway .debit who (sender-known k refl)) in
+          moved-own k (by who Debit n) (sender-below k refl) tt (rw (kind-is k)) (inr refl) (inl refl)
+          (goes false (rw was)) (comes true (rw was))
       go false e right =
           let all : n ≡ c .held = eqb-true n (c .held) (rw e at right) in
           let was = told (c .held) 11 e (k .midway .held who (sender-known k refl)) in
@@ -119,4 +144,5 @@ module _ {ps : Roster} {h : History} {w : Book} {t : List ℕ} {time n : ℕ} {r
       (rw (kind-is k)) (λ i. refl)
       (λ p l.
       rw (nobody-moves (transferred nobody (w .covers)), nobody-moves (w .covers))
-      (cover-goes ps h (takenEvent t rs₀ []) p (coverOf (w .covers) p) (coverOf (w .covers) p) (rw (kind-is k)) (uncut k [] tt p) (inr refl) (inr refl)))
+      (cover-goes ps h (takenEvent t rs₀ []) p (coverOf (w .covers) p) (coverOf (w .covers) p) (rw (kind-is k))
+      (uncut k [] tt p) (inr refl) (inr refl)))

@@ -57,7 +57,8 @@ other-told : (q p told : ℕ) (o : Opening) (c : Cover) → (q ≡ p → ⊥) �
 other-told q p told opening.None c differs = refl
 other-told q p told (opening.Cover n) c differs = go (ltb n (c .available)) (ltb (c .available) n)
   where
-    go : (x y : Bool) → lastCutIn p told (cond x (tellCut q 11 (c .available - n) ∷ []) (cond y (tellCut q 10 (n - c .available) ∷ []) [])) ≡ told
+    go : (x y : Bool)
+        → lastCutIn p told (cond x (tellCut q 11 (c .available - n) ∷ []) (cond y (tellCut q 10 (n - c .available) ∷ []) [])) ≡ told
     go true y = simp (ne-eqb q p differs)
     go false true = simp (ne-eqb q p differs)
     go false false = refl
@@ -80,7 +81,8 @@ module _ (r : Roster) (cs : List Cover) (p told : ℕ) where
       ∙ ⊎-elim
       (λ (e : q ≡ p). rw e (ap own (not-yet-told p (omega arith))))
       (λ (differs : q ≡ p → ⊥).
-      other-told q p (lastCutIn p told (cutReportsTo r cs q)) (participantOf r q .opening) (coverOf cs q) differs ∙ all-told q (below differs (below-or-not p q)))
+      other-told q p (lastCutIn p told (cutReportsTo r cs q)) (participantOf r q .opening) (coverOf cs q) differs
+      ∙ all-told q (below differs (below-or-not p q)))
       (same-or-not q p)
     where
       below : (q ≡ p → ⊥) → (p < q) ⊎ (q ≤ p) → p < q
@@ -108,7 +110,8 @@ module _ {ps : Roster} {h : History} {w : Book} {t : List ℕ} {time n : ℕ} {r
   abbrev rs : List Report
   rs = cutReportsTo (w .roster) (w .covers) (w .roster .size)
 
-  cut-cover : (p : ℕ) → p < w .roster .size → OwnCover ps h (takenEvent t rs₀ rs) p (coverOf (w .covers) p) (coverOf (cutTo (w .roster) (w .covers) (w .roster .size)) p)
+  cut-cover : (p : ℕ) → p < w .roster .size
+      → OwnCover ps h (takenEvent t rs₀ rs) p (coverOf (w .covers) p) (coverOf (cutTo (w .roster) (w .covers) (w .roster .size)) p)
   cut-cover p l =
       let o = participantOf (w .roster) p .opening in
       let c = coverOf (w .covers) p in

@@ -22,7 +22,8 @@ use Rattle.audit.proofs.Agreeing.{OrderAgrees}
 
 -- order i was o and is o′ after reports rs; asks: the ticket is an inquiry about it
 pub data Fate (asks : Bool) (i : ℕ) (o o′ : Order) (rs : List Report) : Type 0 where
-  kept : endingsIn i rs ≡ [] → isWaiting (o′ .status) ≡ isWaiting (o .status) → endCode (o′ .status) ≡ endCode (o .status) → Fate asks i o o′ rs
+  kept : endingsIn i rs ≡ [] → isWaiting (o′ .status) ≡ isWaiting (o .status)
+      → endCode (o′ .status) ≡ endCode (o .status) → Fate asks i o o′ rs
   repeated : asks ≡ true → isWaiting (o .status) ≡ false → isWaiting (o′ .status) ≡ false → endCode (o′ .status) ≡ endCode (o .status)
       → (r : Report) → endingsIn i rs ≡ r ∷ [] → AllCarry (endCode (o .status)) (o .amount) (r ∷ []) → Fate asks i o o′ rs
   ended : isWaiting (o .status) ≡ true → isWaiting (o′ .status) ≡ false
@@ -69,7 +70,8 @@ no-tickets i (e ▹ h) q =
     let before = no-tickets i h (both .1) in
     rw (this, before)
 
-module _ (ps : Roster) (h : History) (i : ℕ) (o o′ : Order) (e : Event) (a : OrderAgrees ps h i o) (other : opens i e h ≡ false) (s : SameOrder o o′) where
+module _ (ps : Roster) (h : History) (i : ℕ) (o o′ : Order) (e : Event) (a : OrderAgrees ps h i o) (other : opens i e h ≡ false)
+    (s : SameOrder o o′) where
   -- how the endings of this event count
   counts : ℕ → ℕ
   counts n = cond (eqb (n - cond (asksAbout i e h) 1 0) 0) 0 1
@@ -126,11 +128,17 @@ module _ (ps : Roster) (h : History) (i : ℕ) (o o′ : Order) (e : Event) (a :
   order-goes (repeated asks w w′ c r is carries) =
       together
       (ap isNone (so-far (r ∷ []) is) ∙ sym w′)
-      (let t = tickets (r ∷ []) is in let n = repeat-counts asks in let b = a .once in let q = ap ends w in let q′ = ap ends w′ in omega arith)
+      (let t = tickets (r ∷ []) is in
+      let n = repeat-counts asks in
+      let b = a .once in let q = ap ends w in
+      let q′ = ap ends w′ in omega arith)
       (rw (so-far (r ∷ []) is, c) (carry-append (endCode (o .status)) (o .amount) (r ∷ []) (allEndings i h) carries (a .alike)))
   order-goes (ended w w′ r more is carries l) =
       let before : allEndings i h ≡ [] = none-there (allEndings i h) (a .waiting ∙ w) in
       together
       (ap isNone (so-far (r ∷ more) is) ∙ sym w′)
-      (let t = tickets (r ∷ more) is in let n = end-counts (length more) l in let b = a .once in let q = ap ends w in let q′ = ap ends w′ in omega arith)
+      (let t = tickets (r ∷ more) is in
+      let n = end-counts (length more) l in
+      let b = a .once in let q = ap ends w in
+      let q′ = ap ends w′ in omega arith)
       (rw (so-far (r ∷ more) is, before) (carry-append (endCode (o′ .status)) (o .amount) (r ∷ more) [] carries tt))

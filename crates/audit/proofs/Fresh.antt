@@ -27,8 +27,44 @@ use Rattle.rules.specs.declared.Order.{Order}
 use Rattle.rules.specs.declared.Book.{Book}
 use Rattle.rules.proofs.StepSound.{file-sound}
 use Rattle.audit.specs.History.{Event, History, from, _▹_, participants, Each, sumOver, isKind, isSentBy}
-use Rattle.audit.specs.Sums.{amountIf, coverIn, coverOut, cutBefore, lastCutIn, lastCut, settledTo, settledFrom, returnBy, returnTo, goesOut, comesIn, outgoing, incoming}
-use Rattle.audit.specs.Orders.{isOrder, orderCount, ofOrder, orderAmount, orderTime, isForBank, startEndings, allEndings, isNone, waits, waitingPart, waitingTotal, isFirst4, letsExpire, setsClock, mustExpire, asksAbout, ownEndings, endingTickets, tellsParties}
+use Rattle.audit.specs.Sums.{
+  amountIf,
+  coverIn,
+  coverOut,
+  cutBefore,
+  lastCutIn,
+  lastCut,
+  settledTo,
+  settledFrom,
+  returnBy,
+  returnTo,
+  goesOut,
+  comesIn,
+  outgoing,
+  incoming,
+}
+use Rattle.audit.specs.Orders.{
+  isOrder,
+  orderCount,
+  ofOrder,
+  orderAmount,
+  orderTime,
+  isForBank,
+  startEndings,
+  allEndings,
+  isNone,
+  waits,
+  waitingPart,
+  waitingTotal,
+  isFirst4,
+  letsExpire,
+  setsClock,
+  mustExpire,
+  asksAbout,
+  ownEndings,
+  endingTickets,
+  tellsParties,
+}
 use Rattle.audit.specs.Claim.{AllCarry, codeOf, ClaimOf, Claim}
 use Rattle.audit.specs.Run.{eventOf, eventsOn}
 use Rattle.audit.proofs.Nothing as alone
@@ -70,12 +106,14 @@ module _ (file : List ℕ) where
   same-sum first zeros f g each [] = zeros
   same-sum first zeros f g each (e ∷ es) = ap₂ _+_ (each e es) (same-sum first zeros f g each es)
 
-  each-alone : (P : Event → History → Type 0) (Q : Event → List Event → Type 0) → ((e : Event) (es : List Event) → P e (onFresh es) → Q e es)
+  each-alone : (P : Event → History → Type 0) (Q : Event → List Event → Type 0)
+      → ((e : Event) (es : List Event) → P e (onFresh es) → Q e es)
       → (es : List Event) → Each P (onFresh es) → alone.Each Q es
   each-alone P Q so [] c = tt
   each-alone P Q so (e ∷ es) c = (so e es (c .0), each-alone P Q so es (c .1))
 
-  alone-each : (P : Event → History → Type 0) (Q : Event → List Event → Type 0) → ((e : Event) (es : List Event) → Q e es → P e (onFresh es))
+  alone-each : (P : Event → History → Type 0) (Q : Event → List Event → Type 0)
+      → ((e : Event) (es : List Event) → Q e es → P e (onFresh es))
       → (es : List Event) → alone.Each Q es → Each P (onFresh es)
   alone-each P Q so [] c = tt
   alone-each P Q so (e ∷ es) c = (so e es (c .0), alone-each P Q so es (c .1))
@@ -93,13 +131,15 @@ module _ (file : List ℕ) where
     same-out =
         same-sum (λ b. 0) refl (goesOut ps p) (alone.goesOut ps p)
         (λ e es.
-        ap (λ (n : ℕ). coverOut ps p e + amountIf (isKind 10 e && isSentBy ps p e && eqb n 11) e + settledFrom p e + returnBy ps p e) (same-cut es))
+        ap (λ (n : ℕ). coverOut ps p e + amountIf (isKind 10 e && isSentBy ps p e && eqb n 11) e + settledFrom p e + returnBy ps p e)
+        (same-cut es))
 
     same-in : (es : List Event) → incoming ps p (onFresh es) ≡ alone.incoming ps p es
     same-in =
         same-sum (λ b. whole (coverOf (b .covers) p)) (ap whole no-cover) (comesIn ps p) (alone.comesIn ps p)
         (λ e es.
-        ap (λ (n : ℕ). coverIn ps p e + amountIf (isKind 10 e && isSentBy ps p e && eqb n 10) e + settledTo ps p e + returnTo p e) (same-cut es))
+        ap (λ (n : ℕ). coverIn ps p e + amountIf (isKind 10 e && isSentBy ps p e && eqb n 10) e + settledTo ps p e + returnTo p e)
+        (same-cut es))
 
   -- what is put together from them
   same-waits : (i : ℕ) (es : List Event) → waits i (onFresh es) ≡ alone.waits i es
@@ -119,7 +159,8 @@ module _ (file : List ℕ) where
 
   same-must : (i : ℕ) (e : Event) (es : List Event) → mustExpire ps i e (onFresh es) ≡ alone.mustExpire ps i e es
   same-must i e es =
-      ap₂ (λ (x y : Bool). setsClock e && (x && y && leb 20 (timeOf (e .ticket) - orderTime i (onFresh es)))) (same-waits i es) (same-of _ _ _ i es)
+      ap₂ (λ (x y : Bool). setsClock e && (x && y && leb 20 (timeOf (e .ticket) - orderTime i (onFresh es))))
+      (same-waits i es) (same-of _ _ _ i es)
       ∙ ap (λ (n : ℕ). setsClock e && (alone.waits i es && alone.isForBank ps i es && leb 20 (timeOf (e .ticket) - n))) (same-of _ _ _ i es)
 
   same-asks : (i : ℕ) (e : Event) (es : List Event) → asksAbout i e (onFresh es) ≡ alone.asksAbout i e es
@@ -198,4 +239,5 @@ pub events-demand3 : (file : List ℕ) (inputs : List Input)
     → ClaimOfEvents file (seenNewestFirst (seenFrom (bookOf file) inputs) []) (bookFrom (bookOf file) inputs)
 events-demand3 file inputs =
     to-events file (seenNewestFirst (seenFrom (bookOf file) inputs) []) (bookFrom (bookOf file) inputs)
-    (subst (λ (h : History). Claim h (bookFrom (bookOf file) inputs)) (on-fresh file (seenFrom (bookOf file) inputs) []) (demand3 file inputs))
+    (subst (λ (h : History). Claim h (bookFrom (bookOf file) inputs))
+    (on-fresh file (seenFrom (bookOf file) inputs) []) (demand3 file inputs))

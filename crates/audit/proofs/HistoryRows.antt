@@ -1,9 +1,9 @@
 -- Rows of histories. A day is what the rules give for a book and tickets; a written history is put down by hand, right or wrong.
---     Day          a book, tickets, and what the sums, the orders and the book at the end come to
---     IsRight      they come to that, and the claim holds
+--     Day               a book, tickets, and what the sums, the orders and the book at the end come to
+--     IsRight           they come to that, and the claim holds
 --     WrittenHistory    a book, events, the book at the end, and the claim's clauses that fail of them, by name
---     AllFalse     of each, just these clauses fail, and the claim is false
---     AllTrue      of each, no clause fails, and the claim holds
+--     AllFalse          of each, just these clauses fail, and the claim is false
+--     AllTrue           of each, no clause fails, and the claim holds
 -- Assumes nothing.
 use Prim.Native.Nat.{ℕ, zero, suc, _-_}
 use Prim.Native.String.{String}

@@ -11,7 +11,21 @@ use Rattle.rules.specs.declared.Status.the-variants.{Waiting, Refused, Expired,
 use Rattle.rules.specs.declared.Recall.the-variants.{None}
 use Rattle.rules.proofs.Names.{bicA, bicB, tx1, ibanD}
 use Rattle.audit.proofs.HistoryRows.{WrittenHistory, AllFalse, AllTrue, all-false, all-true, event, report, cover}
-use Rattle.audit.proofs.HistoryParts.{banks, toLinked, opening, row, lodged, ordered, orderedLinked, orderedMore, settledAt, quiet, expiredAt, settledCovers, freedCovers}
+use Rattle.audit.proofs.HistoryParts.{
+  banks,
+  toLinked,
+  opening,
+  row,
+  lodged,
+  ordered,
+  orderedLinked,
+  orderedMore,
+  settledAt,
+  quiet,
+  expiredAt,
+  settledCovers,
+  freedCovers,
+}
 
 -- 01 'A reviewer will try'
 abbrev pub reviewers : List WrittenHistory
@@ -37,7 +51,8 @@ mistakes =
     ∷ expiredAt 4294967295
     ∷ [])
     freedCovers (Expired ∷ []) "expiry"
-    ∷ row "timing out an order for a linked system" toLinked (lodged ∷ orderedLinked ∷ expiredAt 25 ∷ []) freedCovers (Expired ∷ []) "expiry"
+    ∷ row "timing out an order for a linked system" toLinked (lodged ∷ orderedLinked ∷ expiredAt 25 ∷ [])
+    freedCovers (Expired ∷ []) "expiry"
     ∷ row "letting a refusal 18 stop the clock: the second order's time-out at 26 is not seen" banks
     (lodged ∷ ordered ∷ orderedMore ∷ settledAt 7 ∷ event (yesTicket 26 bicB tx1) 18 [] ∷ [])
     (cover 100 500 0 ∷ cover 400 0 0 ∷ []) (Settled None ∷ Waiting ∷ []) "expiry"

@@ -115,7 +115,8 @@ rosterIn file = dayFile file .roster
 
 pub record ClaimOfEvents (file : List ℕ) (es : List Event) (b : Book) : Type 0 where
   pub told : Each (λ e before. tellsParties (rosterIn file) e ≡ true) es
-  pub cover : (p : ℕ) → p < rosterIn file .size → whole (coverOf (b .covers) p) + outgoing (rosterIn file) p es ≡ incoming (rosterIn file) p es
+  pub cover : (p : ℕ) → p < rosterIn file .size
+      → whole (coverOf (b .covers) p) + outgoing (rosterIn file) p es ≡ incoming (rosterIn file) p es
   pub reserved : (p : ℕ) → p < rosterIn file .size → coverOf (b .covers) p .reserved ≡ waitingTotal (rosterIn file) p es
   pub held : b .count ≡ orderCount es
   pub waiting : (i : ℕ) → i < orderCount es → isWaiting (orderOf (b .orders) i .status) ≡ waits i es

@@ -97,7 +97,8 @@ module _ (ps : Roster) (h : History) (b : Book) (a : Agrees ps h b) (t : List �
           txid =
               λ i m.
               let m′ : i < b .count = rw (← expires .count) m in
-              a .order i m′ .txid ∙ ap unpadded (sym (ap (λ (o : Order). o .txid) (expires .order i m′) ∙ same (dueIn (atTime b (f .time)) i) (orderOf (b .orders) i)));
+              a .order i m′ .txid ∙ ap unpadded
+              (sym (ap (λ (o : Order). o .txid) (expires .order i m′) ∙ same (dueIn (atTime b (f .time)) i) (orderOf (b .orders) i)));
           held = λ p m. rw (expires .cover p (rw (a .roster) m) .held) (a .cover p m .held);
           debit = λ p m. rw (expires .cover p (rw (a .roster) m) .debit) (a .cover p m .debit);
         }
@@ -121,7 +122,8 @@ module _ (ps : Roster) (h : History) (b : Book) (a : Agrees ps h b) (t : List �
     taken : NoRefusal (finding w f t)
         → Agrees ps (happens (accepted (tick b (f .time)) (decisionOf (finding w f t))) ▹ h) (applied w (decisionOf (finding w f t)))
     taken passed =
-        agrees-after ps h b w (applied w (decisionOf (finding w f t))) t 0 rs₀ (toldBy w (decisionOf (finding w f t))) (dueIn (atTime b (f .time))) a expires
+        agrees-after ps h b w (applied w (decisionOf (finding w f t))) t 0 rs₀ (toldBy w (decisionOf (finding w f t)))
+        (dueIn (atTime b (f .time))) a expires
         (own-sound w (swept .sound) (f .amount) (f .time) t (f .kind) tells passed)
         (own-step (f .kind) (the-ticket passed))
         (must-be-due f tells 0 (rs₀ ++ toldBy w (decisionOf (finding w f t))) refl)

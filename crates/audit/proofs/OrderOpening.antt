@@ -29,7 +29,8 @@ use Rattle.audit.proofs.ReportTelling.{first-after}
 use Rattle.audit.proofs.Own.{AcceptedTicket, takenEvent, OwnStepOf, order-left, kind-is, amount-is, sent, sender-below}
 use Rattle.audit.proofs.About.{two-covers}
 
-module _ {ps : Roster} {h : History} {w : Book} {t : List ℕ} {time n : ℕ} {rs₀ : List Report} (k : AcceptedTicket ps h w t (fieldsOf kind.Order time n) rs₀) where
+module _ {ps : Roster} {h : History} {w : Book} {t : List ℕ} {time n : ℕ} {rs₀ : List Report}
+    (k : AcceptedTicket ps h w t (fieldsOf kind.Order time n) rs₀) where
   abbrev f : Fields
   f = fieldsOf kind.Order time n
 
@@ -44,10 +45,12 @@ module _ {ps : Roster} {h : History} {w : Book} {t : List ℕ} {time n : ℕ} {r
   no-ending i = simp and-false
 
   last : orderOf (set (w .orders) (w .count) o) (w .count) ≡ o
-  last = getD-set-same (w .orders) (w .count) o noOrder (rw (k .midway .sound .orders .long) (accepting.order-room w f t (k .passed .r15) refl))
+  last = getD-set-same (w .orders) (w .count) o noOrder
+      (rw (k .midway .sound .orders .long) (accepting.order-room w f t (k .passed .r15) refl))
 
   pub order-payee : o .payee < ps .size
-  order-payee = subst (λ (r : Roster). o .payee < r .size) (k .midway .roster) (accepting.payee-known w f t (k .midway .sound .roster) (k .passed .r14) refl)
+  order-payee = subst (λ (r : Roster). o .payee < r .size) (k .midway .roster)
+      (accepting.payee-known w f t (k .midway .sound .roster) (k .passed .r14) refl)
 
   opened : Opened ps (takenEvent t rs₀ rs) o
   opened =
@@ -75,7 +78,8 @@ module _ {ps : Roster} {h : History} {w : Book} {t : List ℕ} {time n : ℕ} {r
         none = λ i l. no-ending i;
         cover =
             λ p l.
-            two-covers k rs (refl, tt) (by (o .payer) Reserve n) nobody sender (omega arith) (accepting.cover-there w f t (k .passed .r20) refl) tt refl refl refl refl p
+            two-covers k rs (refl, tt) (by (o .payer) Reserve n) nobody sender (omega arith)
+            (accepting.cover-there w f t (k .passed .r20) refl) tt refl refl refl refl p
             (rw (kind-is k) (let z = for-none (o .payer) p in let v = for-none 0 p in omega arith))
             (rw (kind-is k) (let z = for-none (o .payer) p in let v = for-none 0 p in omega arith));
       }

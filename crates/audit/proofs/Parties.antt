@@ -35,7 +35,11 @@ module _ {ps : Roster} {h : History} {w : Book} {t : List ℕ} {time n : ℕ} {r
   own-parties kind.CoverOut k = rw (kind-is k)
   own-parties kind.Order k =
       let o = newOrder (finding w (fieldsOf kind.Order time n) t) in
-      rw (kind-is k, first-after 1 rs₀ (tellOrder (o .payee) 1 (w .count) o ∷ []) (k .code) refl, lt-ltb (o .payee) (ps .size) (order-payee k))
+      rw (
+        kind-is k,
+        first-after 1 rs₀ (tellOrder (o .payee) 1 (w .count) o ∷ []) (k .code) refl,
+        lt-ltb (o .payee) (ps .size) (order-payee k),
+      )
   own-parties kind.Yes k =
       let o = accepting.theOrder w (fieldsOf kind.Yes time n) t in
       rw (kind-is k, yes-flag k, yes-told k, lt-ltb (o .payer) (ps .size) (payer-known k refl))

@@ -52,7 +52,8 @@ asked-code status.Returned e = refl
 asked-code (status.Settled m) e = refl
 
 -- one report that is no ending, and a status with the same end
-marked-order : (asks : Bool) (i : ℕ) (o : Order) (s : Status) (r : Report) → isEnding i r ≡ false → isWaiting s ≡ false → isWaiting (o .status) ≡ false
+marked-order : (asks : Bool) (i : ℕ) (o : Order) (s : Status) (r : Report) → isEnding i r ≡ false → isWaiting s ≡ false
+    → isWaiting (o .status) ≡ false
     → endCode s ≡ endCode (o .status) → OwnOrder asks i o (withStatus o s) (r ∷ [])
 marked-order asks i o s r isnt w′ w c =
     record { fate = Fate.kept (rw isnt) (w′ ∙ sym w) c; same = status-same o s; quiet = rw (isnt, w) }
@@ -60,7 +61,8 @@ marked-order asks i o s r isnt w′ w c =
 module _ {ps : Roster} {h : History} {w : Book} {t : List ℕ} {f : Fields} {rs₀ : List Report} (k : AcceptedTicket ps h w t f rs₀)
     (named : namesOrder (termsOf (f .kind) .subject) ≡ true) (sends : namesSender (termsOf (f .kind) .subject) ≡ true) where
   -- the order's mark changes, one report that is no ending is told, and no cover moves
-  mark-own : (s : Status) (r : Report) → r .order ≡ accepting.orderNumber w f t → isEnding (accepting.orderNumber w f t) r ≡ false → isCut r ≡ false
+  mark-own : (s : Status) (r : Report) → r .order ≡ accepting.orderNumber w f t
+      → isEnding (accepting.orderNumber w f t) r ≡ false → isCut r ≡ false
       → isWaiting s ≡ false → isWaiting (accepting.theOrder w f t .status) ≡ false → endCode s ≡ endCode (accepting.theOrder w f t .status)
       → isOrder (takenEvent t rs₀ (r ∷ [])) ≡ false
       → ((p : ℕ) → goesOut ps p (takenEvent t rs₀ (r ∷ [])) h ≡ 0) → ((p : ℕ) → comesIn ps p (takenEvent t rs₀ (r ∷ [])) h ≡ 0)
@@ -84,7 +86,8 @@ module _ {ps : Roster} {h : History} {w : Book} {t : List ℕ} {time n : ℕ} {r
       let o = accepting.theOrder w f t in
       let right = accepting.status-meets w f t (k .passed .r18) in
       mark-own k refl refl (status.Settled mark.Asked) (toPayee (finding w f t) 5) refl (and-false (eqb j j)) refl refl
-      (unmarked-not-waiting (o .status) right) (sym (unmarked-code (o .status) right)) (rw (kind-is k)) (λ p. rw (kind-is k)) (λ p. rw (kind-is k))
+      (unmarked-not-waiting (o .status) right) (sym (unmarked-code (o .status) right)) (rw (kind-is k))
+      (λ p. rw (kind-is k)) (λ p. rw (kind-is k))
 
   pub decline-own : AcceptedTicket ps h w t (fieldsOf kind.Decline time n) rs₀
       → OwnStepOf ps h w t (fieldsOf kind.Decline time n) rs₀
@@ -94,7 +97,8 @@ module _ {ps : Roster} {h : History} {w : Book} {t : List ℕ} {time n : ℕ} {r
       let o = accepting.theOrder w f t in
       let right = accepting.status-meets w f t (k .passed .r18) in
       mark-own k refl refl (status.Settled mark.Declined) (toPayer (finding w f t) 7) refl (and-false (eqb j j)) refl refl
-      (asked-not-waiting (o .status) right) (sym (asked-code (o .status) right)) (rw (kind-is k)) (λ p. rw (kind-is k)) (λ p. rw (kind-is k))
+      (asked-not-waiting (o .status) right) (sym (asked-code (o .status) right)) (rw (kind-is k))
+      (λ p. rw (kind-is k)) (λ p. rw (kind-is k))
 
   -- the payee's available falls, the payer's rises, as told by report 6
   pub return-own : AcceptedTicket ps h w t (fieldsOf kind.Return time n) rs₀
@@ -106,10 +110,13 @@ module _ {ps : Roster} {h : History} {w : Book} {t : List ℕ} {time n : ℕ} {r
       let s = k .midway .sound in
       let held = order-held k (r ∷ []) refl in
       let first : firstWith 6 (rs₀ ++ (r ∷ [])) ≡ r ∷ [] = first-after 6 rs₀ (r ∷ []) (k .code) refl in
-      about-own k (r ∷ []) (withStatus o status.Returned) (transferred (by (o .payer) Give n) (transferred (by (o .payee) Draw n) (w .covers))) refl (rw (kind-is k)) (refl, tt)
-      (marked-order _ j o status.Returned r (and-false (eqb j j)) refl (asked-not-waiting (o .status) right) (sym (asked-code (o .status) right)))
+      about-own k (r ∷ []) (withStatus o status.Returned)
+      (transferred (by (o .payer) Give n) (transferred (by (o .payee) Draw n) (w .covers))) refl (rw (kind-is k)) (refl, tt)
+      (marked-order _ j o status.Returned r (and-false (eqb j j)) refl (asked-not-waiting (o .status) right)
+      (sym (asked-code (o .status) right)))
       (λ p l.
-      two-covers k (r ∷ []) (refl, tt) (by (o .payee) Draw n) (by (o .payer) Give n) (s .orders .payee j held) (s .orders .payer j held) enough tt refl refl refl refl p
+      two-covers k (r ∷ []) (refl, tt) (by (o .payee) Draw n) (by (o .payer) Give n) (s .orders .payee j held) (s .orders .payer j held)
+      enough tt refl refl refl refl p
       (rw (kind-is k, sent k refl p l, party, amount-is k) (let z = for-none (o .payer) p in omega arith))
       (rw (kind-is k, first, amount-is k) (let z = for-none (o .payee) p in omega arith)))
     where

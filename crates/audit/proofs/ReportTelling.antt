@@ -32,9 +32,11 @@ fours-no-cuts (r ∷ rs) c = (ap (λ (n : ℕ). eqb n 10 || eqb n 11) (c .0), fo
 
 -- the expiries' reports, and then the ticket's own
 pub cut-after : (p told : ℕ) (rs₀ rs : List Report) → AllCode 4 rs₀ → NoCuts rs → lastCutIn p told (rs₀ ++ rs) ≡ told
-cut-after p told rs₀ rs c n = cuts-append p told rs₀ rs ∙ ap (λ (x : ℕ). lastCutIn p x rs) (no-cuts p told rs₀ (fours-no-cuts rs₀ c)) ∙ no-cuts p told rs n
+cut-after p told rs₀ rs c n =
+    cuts-append p told rs₀ rs ∙ ap (λ (x : ℕ). lastCutIn p x rs) (no-cuts p told rs₀ (fours-no-cuts rs₀ c)) ∙ no-cuts p told rs n
 
 pub first-after : (code : ℕ) (rs₀ rs : List Report) → AllCode 4 rs₀ → eqb 4 code ≡ false → firstWith code (rs₀ ++ rs) ≡ firstWith code rs
 first-after code [] rs c n = refl
 first-after code (r ∷ rs₀) rs c n =
-    ap (λ (x : Bool). cond x (r ∷ []) (firstWith code (rs₀ ++ rs))) (ap (λ (k : ℕ). eqb k code) (c .0) ∙ n) ∙ first-after code rs₀ rs (c .1) n
+    ap (λ (x : Bool). cond x (r ∷ []) (firstWith code (rs₀ ++ rs))) (ap (λ (k : ℕ). eqb k code) (c .0) ∙ n)
+    ∙ first-after code rs₀ rs (c .1) n

@@ -20,7 +20,17 @@ use Rattle.rules.specs.declared.Book.{Book}
 use Rattle.fields.proofs.Compared.{below-or-not}
 use Rattle.audit.specs.History.{Event, History, from, _▹_, participants, Each}
 use Rattle.audit.specs.Sums.{outgoing, incoming}
-use Rattle.audit.specs.Orders.{orderCount, orderAmount, waits, waitingTotal, letsExpire, mustExpire, endingTickets, allEndings, tellsParties}
+use Rattle.audit.specs.Orders.{
+  orderCount,
+  orderAmount,
+  waits,
+  waitingTotal,
+  letsExpire,
+  mustExpire,
+  endingTickets,
+  allEndings,
+  tellsParties,
+}
 use Rattle.audit.specs.Claim.{AllCarry, codeOf, Claim}
 
 -- two truth values are the same
@@ -58,23 +68,29 @@ abbrev eachOf : (Event → History → Bool) → History → Bool
 eachOf test (from b) = true
 eachOf test (e ▹ before) = test e before && eachOf test before
 
-each-true : (test : Event → History → Bool) (P : Event → History → Type 0) → ((e : Event) (before : History) → test e before ≡ true → P e before)
+each-true : (test : Event → History → Bool) (P : Event → History → Type 0)
+    → ((e : Event) (before : History) → test e before ≡ true → P e before)
     → (h : History) → eachOf test h ≡ true → Each P h
 each-true test P tells (from b) t = tt
-each-true test P tells (e ▹ before) t =
-    (tells e before (and-left (test e before) (eachOf test before) t), each-true test P tells before (and-right (test e before) (eachOf test before) t))
+each-true test P tells (e ▹ before) t = (
+  tells e before (and-left (test e before) (eachOf test before) t),
+  each-true test P tells before (and-right (test e before) (eachOf test before) t),
+)
 
-true-each : (test : Event → History → Bool) (P : Event → History → Type 0) → ((e : Event) (before : History) → P e before → test e before ≡ true)
+true-each : (test : Event → History → Bool) (P : Event → History → Type 0)
+    → ((e : Event) (before : History) → P e before → test e before ≡ true)
     → (h : History) → Each P h → eachOf test h ≡ true
 true-each test P tells (from b) c = refl
-true-each test P tells (e ▹ before) c = and-both (test e before) (eachOf test before) (tells e before (c .0)) (true-each test P tells before (c .1))
+true-each test P tells (e ▹ before) c =
+    and-both (test e before) (eachOf test before) (tells e before (c .0)) (true-each test P tells before (c .1))
 
 -- two facts of each event
 both-each : (P Q : Event → History → Type 0) (h : History) → Each P h → Each Q h → Each (λ e before. P e before × Q e before) h
 both-each P Q (from start) a b = tt
 both-each P Q (e ▹ before) a b = ((a .0, b .0), both-each P Q before (a .1) (b .1))
 
-each-so : (P Q : Event → History → Type 0) → ((e : Event) (before : History) → P e before → Q e before) → (h : History) → Each P h → Each Q h
+each-so : (P Q : Event → History → Type 0) → ((e : Event) (before : History) → P e before → Q e before)
+    → (h : History) → Each P h → Each Q h
 each-so P Q so (from b) a = tt
 each-so P Q so (e ▹ before) a = (so e before (a .0), each-so P Q so before (a .1))
 
@@ -140,12 +156,14 @@ no-other : (ps : Roster) (e : Event) (before : History) (i : ℕ) → orderCount
     → letsExpire i e before ≡ mustExpire ps i e before
 no-other ps e before i l none = simp (none, and-false, le-ltb i (orderCount before) l)
 
-expiry-tells : (ps : Roster) (n : ℕ) (e : Event) (before : History) → (expiryTest ps n e before ≡ true) × Known (orderCount before) (e .reports)
+expiry-tells : (ps : Roster) (n : ℕ) (e : Event) (before : History)
+    → (expiryTest ps n e before ≡ true) × Known (orderCount before) (e .reports)
     → (i : ℕ) → letsExpire i e before ≡ mustExpire ps i e before
 unfolding Known
 expiry-tells ps n e before (t, k) i =
     ⊎-elim
-    (λ (l : i < orderCount before + n). agree-true (letsExpire i e before) (mustExpire ps i e before) (all-at (expiryAt ps e before) (orderCount before + n) i t l))
+    (λ (l : i < orderCount before + n). agree-true (letsExpire i e before) (mustExpire ps i e before)
+    (all-at (expiryAt ps e before) (orderCount before + n) i t l))
     (λ (l : orderCount before + n ≤ i). no-other ps e before i (omega arith) (k i (omega arith)))
     (below-or-not i (orderCount before + n))
 
@@ -216,7 +234,8 @@ module _ (h : History) (b : Book) where
       let all = passing (clauses h b) t in
       let c = all .1 in
       let expiry = c .1 .1 .1 .1 .0 in
-      let known = each-true knownIn (λ e before. Known (orderCount before) (e .reports)) (λ e before. below-known (orderCount before) (e .reports)) h (c .1 .1 .1 .1 .1 .0) in
+      let known = each-true knownIn (λ e before. Known (orderCount before) (e .reports))
+      (λ e before. below-known (orderCount before) (e .reports)) h (c .1 .1 .1 .1 .1 .0) in
       record {
         told = each-true (λ e before. tellsParties ps e) (λ e before. tellsParties ps e ≡ true) (λ e before q. q) h (all .0);
         cover = λ p l. eqb-true _ _ (all-at (coverAt ps h b) (ps .size) p (c .0) l);
@@ -227,10 +246,12 @@ module _ (h : History) (b : Book) where
             each-so (λ e before. (expiryTest ps (orderCount h) e before ≡ true) × Known (orderCount before) (e .reports))
             (λ e before. (i : ℕ) → letsExpire i e before ≡ mustExpire ps i e before) (expiry-tells ps (orderCount h)) h
             (both-each (λ e before. expiryTest ps (orderCount h) e before ≡ true) (λ e before. Known (orderCount before) (e .reports)) h
-            (each-true (expiryTest ps (orderCount h)) (λ e before. expiryTest ps (orderCount h) e before ≡ true) (λ e before q. q) h expiry) known);
+            (each-true (expiryTest ps (orderCount h)) (λ e before. expiryTest ps (orderCount h) e before ≡ true) (λ e before q. q) h expiry)
+            known);
         known = known;
         once = λ i l. eqb-true _ _ (all-at (onceAt h) (orderCount h) i (c .1 .1 .1 .1 .1 .1 .0) l);
-        alike = λ i l. carry-true (codeOf (allEndings i h)) (orderAmount i h) (allEndings i h) (all-at (alikeAt h) (orderCount h) i (c .1 .1 .1 .1 .1 .1 .1 .0) l);
+        alike = λ i l. carry-true (codeOf (allEndings i h)) (orderAmount i h) (allEndings i h)
+            (all-at (alikeAt h) (orderCount h) i (c .1 .1 .1 .1 .1 .1 .1 .0) l);
       }
 
   -- the claim holds: every clause passes
@@ -249,12 +270,18 @@ module _ (h : History) (b : Book) where
                 all-to (waitingAt ps h b) (orderCount h) (λ i l. true-agree _ _ (c .waiting i l)),
                 (
                   true-each (expiryTest ps (orderCount h)) (λ e before. (i : ℕ) → letsExpire i e before ≡ mustExpire ps i e before)
-                      (λ e before t. all-to (expiryAt ps e before) (orderCount before + orderCount h) (λ i l. true-agree _ _ (t i))) h (c .expiry),
+                      (λ e before t. all-to (expiryAt ps e before) (orderCount before + orderCount h) (λ i l. true-agree _ _ (t i))) h
+                      (c .expiry),
                   (
-                    true-each knownIn (λ e before. Known (orderCount before) (e .reports)) (λ e before. known-below (orderCount before) (e .reports)) h (c .known),
+                    true-each knownIn (λ e before. Known (orderCount before) (e .reports))
+                        (λ e before. known-below (orderCount before) (e .reports)) h (c .known),
                     (
                       all-to (onceAt h) (orderCount h) (λ i l. eq-eqb _ _ (c .once i l)),
-                      (all-to (alikeAt h) (orderCount h) (λ i l. true-carry (codeOf (allEndings i h)) (orderAmount i h) (allEndings i h) (c .alike i l)), tt),
+                      (
+                        all-to (alikeAt h) (orderCount h)
+                            (λ i l. true-carry (codeOf (allEndings i h)) (orderAmount i h) (allEndings i h) (c .alike i l)),
+                        tt,
+                      ),
                     ),
                   ),
                 ),

@@ -1,7 +1,7 @@
 -- The claim at work: a member's position at the end of the busy day, explained line by line from what was seen. Assumes nothing.
---     Line          a ticket that moved a participant's cover: its number, what went out and what came in
---     statementOf   the participant's lines, oldest first
---     statement-adds    they are all that went out and all that came in
+--     Line                  a ticket that moved a participant's cover: its number, what went out and what came in
+--     statementOf           the participant's lines, oldest first
+--     statement-adds        they are all that went out and all that came in
 --     position-explained    so what is there now is what was there at the start and what the lines leave
 use mathlib.Core.Path.{_≡_, refl, ap}
 use mathlib.Core.Bool.{Bool, true, false, _&&_, cond}

@@ -6,13 +6,38 @@
 use mathlib.Core.Path.{refl}
 use mathlib.Core.List.{List, [], _∷_}
 use Rattle.codes.specs.Bic.{isBic}
-use Rattle.ticket.specs.TicketWriting.{coverOutTicket, orderTicket, yesTicket, inquiryTicket, recallTicket, returnTicket, cutTicket, confirmTicket, tickTicket}
+use Rattle.ticket.specs.TicketWriting.{
+  coverOutTicket,
+  orderTicket,
+  yesTicket,
+  inquiryTicket,
+  recallTicket,
+  returnTicket,
+  cutTicket,
+  confirmTicket,
+  tickTicket,
+}
 use Rattle.dayfile.specs.DayFile.{dayFile}
 use Rattle.rules.specs.declared.Status.the-variants.{Waiting, Refused, Expired, Returned, Settled}
 use Rattle.rules.specs.declared.Recall.the-variants.{None}
 use Rattle.rules.proofs.Names.{bicA, bicB, tx1, tx2, ibanD}
 use Rattle.audit.proofs.HistoryRows.{WrittenHistory, AllFalse, AllTrue, all-false, all-true, event, report, cover}
-use Rattle.audit.proofs.HistoryParts.{banks, toLinked, opening, row, lodged, ordered, orderedLinked, orderedMore, settledAt, quiet, expiredAt, atFirst, settledCovers, freedCovers}
+use Rattle.audit.proofs.HistoryParts.{
+  banks,
+  toLinked,
+  opening,
+  row,
+  lodged,
+  ordered,
+  orderedLinked,
+  orderedMore,
+  settledAt,
+  quiet,
+  expiredAt,
+  atFirst,
+  settledCovers,
+  freedCovers,
+}
 
 abbrev pub ofCover : List WrittenHistory
 ofCover =

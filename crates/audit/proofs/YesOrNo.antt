@@ -64,7 +64,8 @@ module _ {ps : Roster} {h : History} {w : Book} {t : List ℕ} {time n : ℕ} {r
     yes-party : accepting.senderNumber w f t ≡ o .payee
     yes-party = accepting.right-party w f t (k .passed .r17) refl
 
-    module _ (more : List Report) (about : AllAbout j more) (carry : AllCarry 2 (o .amount) more) (quiet : NoCuts more) (ends : endingsIn j more ≡ more) where
+    module _ (more : List Report) (about : AllAbout j more) (carry : AllCarry 2 (o .amount) more) (quiet : NoCuts more)
+        (ends : endingsIn j more ≡ more) where
       abbrev rs : List Report
       rs = toPayer x 2 ∷ more
 
@@ -88,14 +89,16 @@ module _ {ps : Roster} {h : History} {w : Book} {t : List ℕ} {time n : ℕ} {r
       yes-cover p l =
           let s = k .midway .sound in
           let held = order-held k rs refl in
-          two-covers k rs (refl, quiet) (by (o .payer) Spend (o .amount)) (by (o .payee) Give (o .amount)) (s .orders .payer j held) (s .orders .payee j held)
+          two-covers k rs (refl, quiet) (by (o .payer) Spend (o .amount)) (by (o .payee) Give (o .amount)) (s .orders .payer j held)
+          (s .orders .payee j held)
           (backed w s j held (status.Settled mark.None) refl yes-waits) tt refl refl refl refl p
           (rw (kind-is k, yes-flag, first-told) (let z = for-none (o .payee) p in omega arith))
           (rw (kind-is k, yes-flag, first-told, sent k refl p l, yes-party) (let z = for-none (o .payer) p in omega arith))
 
       yes-with : OwnStep ps h (takenEvent t rs₀ rs) w (applied w (decisionOf x)) rs
       yes-with =
-          about-own k rs (withStatus o (status.Settled mark.None)) (transferred (by (o .payee) Give (o .amount)) (transferred (by (o .payer) Spend (o .amount)) (w .covers)))
+          about-own k rs (withStatus o (status.Settled mark.None))
+          (transferred (by (o .payee) Give (o .amount)) (transferred (by (o .payer) Spend (o .amount)) (w .covers)))
           refl (rw (kind-is k)) (refl, about) yes-order yes-cover
 
     -- the first report 2 goes to the payer, whether or not the payee is told
@@ -110,7 +113,8 @@ module _ {ps : Roster} {h : History} {w : Book} {t : List ℕ} {time n : ℕ} {r
     pub yes-own : OwnStepOf ps h w t (fieldsOf kind.Yes time n) rs₀
     yes-own = go (x .bank)
       where
-        go : (z : Bool) → let rs = listed (cond z (Two (toPayer x 2) (toPayee x 2)) (One (toPayer x 2))) in OwnStep ps h (takenEvent t rs₀ rs) w (applied w (decisionOf x)) rs
+        go : (z : Bool) → let rs = listed (cond z (Two (toPayer x 2) (toPayee x 2)) (One (toPayer x 2))) in
+            OwnStep ps h (takenEvent t rs₀ rs) w (applied w (decisionOf x)) rs
         go true = yes-with (toPayee x 2 ∷ []) (refl, tt) (refl, refl, tt) (refl, tt) (simp (eq-eqb j j refl))
         go false = yes-with [] tt tt tt refl
 
@@ -128,7 +132,8 @@ module _ {ps : Roster} {h : History} {w : Book} {t : List ℕ} {time n : ℕ} {r
         let waits = accepting.status-meets w f t (k .passed .r18) in
         let s = k .midway .sound in
         let held = order-held k (r ∷ []) refl in
-        about-own k (r ∷ []) (withStatus o status.Refused) (transferred nobody (transferred (freed o) (w .covers))) refl (rw (kind-is k)) (refl, tt)
+        about-own k (r ∷ []) (withStatus o status.Refused) (transferred nobody (transferred (freed o) (w .covers))) refl
+        (rw (kind-is k)) (refl, tt)
         (record {
           fate = Fate.ended waits refl r [] (simp (eq-eqb j j refl)) (refl, refl, tt) (rw (kind-is k) (omega arith));
           same = status-same o status.Refused;

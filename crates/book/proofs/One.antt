@@ -33,7 +33,8 @@ no-answer (suc m) b tickets reports = go (leb 108 (length tickets))
     go : (z : Bool)
         → cond ((z && leb 4 0) && leb leastBuffer reports)
         (stepOf b (take 108 tickets)
-        ∷ ranTo m (stepOf b (take 108 tickets) .book) (drop 108 tickets) (0 - 4) (reports - 12 * length (stepOf b (take 108 tickets) .reports))) []
+        ∷ ranTo m (stepOf b (take 108 tickets) .book) (drop 108 tickets) (0 - 4)
+        (reports - 12 * length (stepOf b (take 108 tickets) .reports))) []
         ≡ []
     go true = refl
     go false = refl
@@ -62,14 +63,16 @@ enough-handed b t buffer h = rw (le-ltb (length buffer) 6528 h)
 pub one-outcome : (b : Book) → Sound b → (t answers buffer : List ℕ) → length answers ≡ 4 → length t ≡ 108 → 6528 ≤ length buffer
     → {c : Book} {k : ℕ} {bytes text : List ℕ} → Ran b t answers buffer c k bytes text
     → (a : Answer) → a ≡ answerAt bytes 0
-    → _≡_ {A = Outcome} (record { refusal = a .refusal; reports = a .reports; rows = a .rows; book = c; buffer = text }) (outcome b t buffer)
+    → _≡_ {A = Outcome} (record { refusal = a .refusal; reports = a .reports; rows = a .rows; book = c; buffer = text })
+    (outcome b t buffer)
 one-outcome b s t answers buffer four whole enough {c} {k} {bytes} {text} r a is =
     (λ i. record {
       refusal = answer i .refusal;
       reports = answer i .reports;
       rows = answer i .rows;
       book = (r .book ∙ ap (bookAfter b) one) i;
-      buffer = (r .reports ∙ ap (λ (ss : List Step). laid (reportsIn ss) buffer) one ∙ ap (λ (rs : List Report). laid rs buffer) (append-nil (stepOf b t .reports))) i;
+      buffer = (r .reports ∙ ap (λ (ss : List Step). laid (reportsIn ss) buffer) one
+          ∙ ap (λ (rs : List Report). laid rs buffer) (append-nil (stepOf b t .reports))) i;
     })
     ∙ ap (λ (w : Step). handedBack w buffer) (sym (enough-handed b t buffer enough))
   where
@@ -77,7 +80,8 @@ one-outcome b s t answers buffer four whole enough {c} {k} {bytes} {text} r a is
     one = ap (λ (n : ℕ). ran b t n (length buffer)) four ∙ one-ran b t (length buffer) whole enough
 
     fit : AllFittingAnswers (answerOf (stepOf b t) ∷ [])
-    fit = subst (λ (ss : List Step). AllFittingAnswers (answersOf ss)) one (ran-printable b s t (length answers) (length buffer) .answers-fit)
+    fit =
+        subst (λ (ss : List Step). AllFittingAnswers (answersOf ss)) one (ran-printable b s t (length answers) (length buffer) .answers-fit)
 
     answer : a ≡ answerOf (stepOf b t)
     answer =

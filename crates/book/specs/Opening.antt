@@ -1,6 +1,6 @@
 -- The book that a day file opens.
 --     openedDay    refusal, fresh book, tickets: those of the day file
---     Opens      the promise: that, and that the book is sound
+--     Opens        the promise: that, and that the book is sound
 -- Assumes nothing.
 use Prim.Native.Nat.{ℕ}
 use mathlib.Core.Path.{_≡_}

@@ -47,12 +47,14 @@ calls-demand3 b s inputs seen end c =
 pub opened-demand3 : (file : List ℕ) (r : Opened) → Opens file r → (inputs : List Input) (seen : List Seen) (end : Book)
     → Called (r .book) inputs seen end → Claim (eventsOn (from (bookOf file)) seen) end
 opened-demand3 file r o inputs seen end c =
-    subst (λ (b : Book). Claim (eventsOn (from b) seen) end) (ap (λ (z : Opened). z .book) (o .opened)) (calls-demand3 (r .book) (o .sound) inputs seen end c)
+    subst (λ (b : Book). Claim (eventsOn (from b) seen) end) (ap (λ (z : Opened). z .book) (o .opened))
+    (calls-demand3 (r .book) (o .sound) inputs seen end c)
 
 pub all-called : (b : Book) → Sound b → (inputs : List Input) → Called b inputs (seenFrom b inputs) (bookFrom b inputs)
 all-called b s [] = done
 all-called b s (x ∷ xs) =
     let o = outcomeOf b x in
     let sound = handed-sound b s (x .ticket) (x .buffer) in
-    then {r = record { refusal = o .refusal; reports = o .reports; rows = o .rows; book = o .book }} (record { outcome = refl; sound = sound })
+    then {r = record { refusal = o .refusal; reports = o .reports; rows = o .rows; book = o .book }}
+    (record { outcome = refl; sound = sound })
     (all-called (o .book) sound xs)

@@ -48,9 +48,11 @@ read-one : (b : Book) → Sound b → (tickets : List ℕ) → FittingAnswer (an
     readOn (suc (length ss)) tickets (answersWith (w ∷ ss) u) (reportsWith (w ∷ ss) v) h
     ≡ readOn (length ss) (drop ticketLength tickets) (answersWith ss u) (reportsWith ss v) (stepEvent (take ticketLength tickets) w ▹ h)
 read-one b s tickets fit ss u v h =
-    ap (λ (a : Answer). readOn (length ss) (drop ticketLength tickets) (answersWith ss u) (drop (reportLength * a .reports) text) (answeredEvent t a text ▹ h))
+    ap (λ (a : Answer). readOn (length ss) (drop ticketLength tickets) (answersWith ss u) (drop (reportLength * a .reports) text)
+    (answeredEvent t a text ▹ h))
     (first-answer (answerOf w) fit (answersWith ss u))
-    ∙ ap₂ (λ (rest : List ℕ) (rs : List Report). readOn (length ss) (drop ticketLength tickets) (answersWith ss u) rest (record { ticket = t; refusal = w .refusal; reports = rs } ▹ h))
+    ∙ ap₂ (λ (rest : List ℕ) (rs : List Report). readOn (length ss) (drop ticketLength tickets) (answersWith ss u) rest
+    (record { ticket = t; refusal = w .refusal; reports = rs } ▹ h))
     (later-reports (w .reports) (reportsIn ss) v)
     (first-reports (w .reports) (reportsIn ss) v (step-few b s t .fit))
   where
@@ -71,7 +73,8 @@ module _ (u v : List ℕ) where
   to-carried zero r tickets answers reports fit = r
   to-carried (suc n) {h} {b} r tickets answers reports fit =
       go (roomLeft (length tickets) answers reports)
-      (to-carried n (carried-one r t) (drop ticketLength tickets) (answers - answerLength) (reports - reportLength * length (w .reports))) fit
+      (to-carried n (carried-one r t) (drop ticketLength tickets) (answers - answerLength) (reports - reportLength * length (w .reports)))
+      fit
     where
       t : List ℕ
       t = take ticketLength tickets
@@ -86,10 +89,12 @@ module _ (u v : List ℕ) where
       Reads ss = Carried (readOn (length ss) tickets (answersWith ss u) (reportsWith ss v) h) (bookAfter b ss)
 
       go : (z : Bool)
-          → (AllFittingAnswers (answersOf rest) → Carried (readOn (length rest) (drop ticketLength tickets) (answersWith rest u) (reportsWith rest v) (stepEvent t w ▹ h)) (bookAfter (w .book) rest))
+          → (AllFittingAnswers (answersOf rest) → Carried (readOn (length rest) (drop ticketLength tickets) (answersWith rest u)
+          (reportsWith rest v) (stepEvent t w ▹ h)) (bookAfter (w .book) rest))
           → AllFittingAnswers (answersOf (cond z (w ∷ rest) [])) → Reads (cond z (w ∷ rest) [])
       go true on f =
-          subst (λ (g : History). Carried g (bookAfter (w .book) rest)) (sym (read-one b (r .agrees .sound) tickets (f .0) rest u v h)) (on (f .1))
+          subst (λ (g : History). Carried g (bookAfter (w .book) rest))
+          (sym (read-one b (r .agrees .sound) tickets (f .0) rest u v h)) (on (f .1))
       go false on f = r
 
 -- the bytes that the core leaves
@@ -98,7 +103,8 @@ pub carried-bytes : {h : History} {b : Book} → Carried h b → (tickets answer
     Carried (readOn (length ss) tickets (answersLaid (answersOf ss) answers) (laid (reportsIn ss) reports) h) (bookAfter b ss)
 unfolding ran
 carried-bytes {h} {b} r tickets answers reports =
-    to-carried (drop (answerLength * length (answersOf ss)) answers) (drop (reportLength * length (reportsIn ss)) reports) (length tickets) r tickets (length answers) (length reports)
+    to-carried (drop (answerLength * length (answersOf ss)) answers) (drop (reportLength * length (reportsIn ss)) reports) (length tickets)
+    r tickets (length answers) (length reports)
     (ran-printable b (r .agrees .sound) tickets (length answers) (length reports) .answers-fit)
   where
     ss : List Step

@@ -19,13 +19,18 @@ use Rattle.audit.proofs.AlongInputs.{Carried, carried-start, carried-claim}
 use Rattle.calls.specs.Steps.{stepEvents, dayTickets, Prints}
 use Rattle.calls.proofs.Reaching.{carried-one}
 
-steps-carried : {h : History} {b : Book} → Carried h b → (ts : List (List ℕ)) → Carried (stepEvents ts (stepsOf b ts) h) (bookAfter b (stepsOf b ts))
+steps-carried : {h : History} {b : Book} → Carried h b → (ts : List (List ℕ))
+    → Carried (stepEvents ts (stepsOf b ts) h) (bookAfter b (stepsOf b ts))
 steps-carried c [] = c
 steps-carried c (t ∷ ts) = steps-carried (carried-one c t) ts
 
-pub steps-demand3 : (b : Book) → Sound b → (ts : List (List ℕ)) → let ss = stepsOf b ts in Claim (stepEvents ts ss (from b)) (bookAfter b ss)
+pub steps-demand3 : (b : Book) → Sound b → (ts : List (List ℕ)) → let ss = stepsOf b ts in
+    Claim (stepEvents ts ss (from b)) (bookAfter b ss)
 steps-demand3 b s ts = carried-claim (steps-carried (carried-start b s) ts)
 
 pub printed-demand3 : (file : List ℕ) → dayFile file .refusal ≡ 0 → Prints file
 unfolding output
-printed-demand3 file accepted = record { lines = rw (eq-eqb (dayFile file .refusal) 0 accepted); claim = steps-demand3 (bookOf file) (file-sound file) (dayTickets file) }
+printed-demand3 file accepted = record {
+  lines = rw (eq-eqb (dayFile file .refusal) 0 accepted);
+  claim = steps-demand3 (bookOf file) (file-sound file) (dayTickets file);
+}

@@ -16,7 +16,8 @@ use Rattle.report.proofs.AnswerLaws.{answer-reads-back}
 pub first-answer : (a : Answer) → FittingAnswer a → (rest : List ℕ) → answerAt (answerBytes a ++ rest) 0 ≡ a
 first-answer a f rest = answer-reads-back (a ∷ []) (0 ∷ 0 ∷ 0 ∷ 0 ∷ rest) 0 a (f, tt) (omega arith)
 
-reports-behind : (rs more : List Report) (rest : List ℕ) → reportsBytes (rs ++ more) ++ rest ≡ reportsBytes rs ++ (reportsBytes more ++ rest)
+reports-behind : (rs more : List Report) (rest : List ℕ)
+    → reportsBytes (rs ++ more) ++ rest ≡ reportsBytes rs ++ (reportsBytes more ++ rest)
 reports-behind [] more rest = refl
 reports-behind (r ∷ rs) more rest = ap (λ (s : List ℕ). reportBytes r ++ s) (reports-behind rs more rest)
 
@@ -25,7 +26,8 @@ pub first-reports : (rs more : List Report) (rest : List ℕ) → AllFitting rs 
 first-reports rs more rest f = ap (reportsOf (length rs)) (reports-behind rs more rest) ∙ reports-read-back rs (reportsBytes more ++ rest) f
 
 -- and those behind them
-pub later-reports : (rs more : List Report) (rest : List ℕ) → drop (12 * length rs) (reportsBytes (rs ++ more) ++ rest) ≡ reportsBytes more ++ rest
+pub later-reports : (rs more : List Report) (rest : List ℕ)
+    → drop (12 * length rs) (reportsBytes (rs ++ more) ++ rest) ≡ reportsBytes more ++ rest
 later-reports [] more rest = refl
 later-reports (r ∷ rs) more rest =
     let s = reportsBytes (r ∷ rs ++ more) ++ rest in

@@ -14,8 +14,10 @@ use Rattle.foreign.specs.Stepped.{ticketSection, stepsTaken, Stepped}
 use Rattle.calls.specs.Kept.{readOn}
 use Rattle.calls.proofs.KeptBook.{carried-bytes}
 
-pub stepped-demand3 : (file answers₀ reports₀ : List ℕ) (k : ℕ) (answers reports : List ℕ) → Stepped file answers₀ reports₀ k answers reports
-    → Claim (readOn k (ticketSection file) answers reports (from (bookOf file))) (bookAfter (bookOf file) (stepsTaken file (length answers₀) (length reports₀)))
+pub stepped-demand3 : (file answers₀ reports₀ : List ℕ) (k : ℕ) (answers reports : List ℕ)
+    → Stepped file answers₀ reports₀ k answers reports
+    → Claim (readOn k (ticketSection file) answers reports (from (bookOf file)))
+    (bookAfter (bookOf file) (stepsTaken file (length answers₀) (length reports₀)))
 stepped-demand3 file answers₀ reports₀ k answers reports s =
     subst (λ (h : History). Claim h (bookAfter (bookOf file) (stepsTaken file (length answers₀) (length reports₀))))
     (sym (λ i. readOn (s .count i) (ticketSection file) (s .answers-are i) (s .reports-are i) (from (bookOf file))))

@@ -19,7 +19,24 @@ use rules::decision::Move;
 ghost use Prim.Native.Nat.{_≤_};
 ghost use mathlib.Core.Path.{_≡_};
 ghost use Rattle.rules.specs.Cover.{mostTotal};
-ghost use Rattle.rules.specs.Checks.{senderCheck, newCheck, payeeCheck, spaceCheck, heldCheck, partyCheck, standing, waitingCheck, unmarkedCheck, askedCheck, sumCheck, fundsCheck, cutCheck, confirmCheck, brings, limitCheck};
+ghost use Rattle.rules.specs.Checks.{
+  senderCheck,
+  newCheck,
+  payeeCheck,
+  spaceCheck,
+  heldCheck,
+  partyCheck,
+  standing,
+  waitingCheck,
+  unmarkedCheck,
+  askedCheck,
+  sumCheck,
+  fundsCheck,
+  cutCheck,
+  confirmCheck,
+  brings,
+  limitCheck,
+};
 
 const MOST_ORDERS: usize = 256;
 

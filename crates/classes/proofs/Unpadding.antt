@@ -68,7 +68,8 @@ pub stand-from : (class : Class) (s : List ℕ) (i : ℕ) → i < length s
     → allStand class (drop i s) ≡ (stands class (getD s i 0) (getD s (i + 1) 0) && allStand class (drop (i + 1) s))
 stand-from class s i h =
     ap (allStand class) (left-from s i h)
-    ∙ ap (λ (n : ℕ). stands class (getD s i 0) n && allStand class (drop (i + 1) s)) (getD-drop (i + 1) s 0 0 ∙ ap (λ (k : ℕ). getD s k 0) (add-zero (i + 1)))
+    ∙ ap (λ (n : ℕ). stands class (getD s i 0) n && allStand class (drop (i + 1) s))
+    (getD-drop (i + 1) s 0 0 ∙ ap (λ (k : ℕ). getD s k 0) (add-zero (i + 1)))
 
 pub stand-last : (class : Class) (s : List ℕ) (i : ℕ) → i + 1 ≡ length s → allStand class (drop i s) ≡ stands class (getD s i 0) 0
 stand-last class s i e =
@@ -93,7 +94,8 @@ value-short k s e = omega (arith, length-take (valueLength s) s, go k s e)
     go (suc k) (c ∷ s) e = step (eqb c 0 && blank s) (valueLength s) k (go k s e)
 
 -- where the first byte is zero, nothing stands before the padding, or a byte that is of no class
-pub zero-first : (class : Class) (s : List ℕ) → eqb (getD s 0 0) 0 ≡ true → (leb 1 (length (unpadded s)) && allIn class (unpadded s)) ≡ false
+pub zero-first : (class : Class) (s : List ℕ) → eqb (getD s 0 0) 0 ≡ true
+    → (leb 1 (length (unpadded s)) && allIn class (unpadded s)) ≡ false
 zero-first class s z = go (blank s) refl
   where
     go : (b : Bool) → blank s ≡ b → (leb 1 (length (unpadded s)) && allIn class (unpadded s)) ≡ false

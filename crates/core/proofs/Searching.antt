@@ -28,20 +28,24 @@ use Rattle.turns.proofs.Index.{TxidIndex, row-chained}
 use Rattle.core.specs.Directory.{Directs}
 
 -- the index may be lent
-pub txids-lent : {b : Book} {txids heads links : List ℕ} → Sound b → TxidIndex txidWords rowBucket b txids heads links → TxidRows (b .count) txids heads links
+pub txids-lent : {b : Book} {txids heads links : List ℕ} → Sound b → TxidIndex txidWords rowBucket b txids heads links
+    → TxidRows (b .count) txids heads links
 txids-lent {b} s f =
     let few = s .orders .count in
     let linked = f .linked in
     let long = f .long in
-    txid-rows (λ i. orderOf (b .orders) i .txid) (f .txids) (s .orders .padded) (s .orders .txid) (s .orders .distinct) (f .headed) (omega arith) (omega arith)
+    txid-rows (λ i. orderOf (b .orders) i .txid) (f .txids) (s .orders .padded) (s .orders .txid) (s .orders .distinct) (f .headed)
+    (omega arith) (omega arith)
     (row-chained f)
 
 module _ {r : Roster} {bics bicHeads bicLinks routes routeHeads routeLinks kinds numbers : List ℕ} (g : Guaranteed r)
-    (d : Directs r bics bicHeads bicLinks routes routeHeads routeLinks kinds numbers) (t : List ℕ) (whole : length t ≡ 108) (bytes : Bytes t) where
+    (d : Directs r bics bicHeads bicLinks routes routeHeads routeLinks kinds numbers) (t : List ℕ)
+    (whole : length t ≡ 108) (bytes : Bytes t) where
   sender-found : firstRow 2 (r .size) (bicWords (senderOf t)) bics ≡ senderIn r t
   unfolding senderIn
   sender-found =
-      bic-found (λ p. participantIn (r .participants) p .bic) (d .sender) (g .bic) (senderOf t) (length-part 11 16 t (rw whole (omega arith)))
+      bic-found (λ p. participantIn (r .participants) p .bic) (d .sender) (g .bic) (senderOf t)
+      (length-part 11 16 t (rw whole (omega arith)))
       (part-bytes bytes 11 16)
 
   route-found : firstRow 2 (r .rows) (bicWords (payeeOf t)) routes ≡ routeIn r t

@@ -49,7 +49,8 @@ module _ (b : Book) (t : List ℕ) where
   abbrev seen : Seen
   seen = seenAs e (senderIn (b .roster) t) (orderIn (b .orders) (b .count) t) (routeIn (b .roster) t)
 
-  pub sight-read : {y : Seen} → sightOf (b .clock) t (senderIn (b .roster) t) (orderIn (b .orders) (b .count) t) (routeIn (b .roster) t) ≡ Read y
+  pub sight-read : {y : Seen}
+      → sightOf (b .clock) t (senderIn (b .roster) t) (orderIn (b .orders) (b .count) t) (routeIn (b .roster) t) ≡ Read y
       → Sighted b t y
   sight-read {y} = go (eqb (e .refusal) 0) refl
     where
@@ -68,6 +69,7 @@ module _ (b : Book) (t : List ℕ) where
       → (e .refusal ≡ n) × (eqb n 0 ≡ false)
   sight-refused {n} = go (eqb (e .refusal) 0) refl
     where
-      go : (z : Bool) → eqb (e .refusal) 0 ≡ z → cond z (Read seen) (Refused (e .refusal)) ≡ Refused n → (e .refusal ≡ n) × (eqb n 0 ≡ false)
+      go : (z : Bool) → eqb (e .refusal) 0 ≡ z → cond z (Read seen) (Refused (e .refusal)) ≡ Refused n
+          → (e .refusal ≡ n) × (eqb n 0 ≡ false)
       go true q r = let none : _≡_ {A = ℕ} 1 0 = ap isRead r in absurd (omega arith)
       go false q r = let same = ap numberIn r in (same, ap (λ (m : ℕ). eqb m 0) (sym same) ∙ q)

@@ -18,7 +18,10 @@ pub struct Directory {
 
 pub fn directory_of(roster: Roster) -> Directory
     requires { ⌜ Guaranteed roster ⌝ }
-    ensures { λ r. ⌜ Directs roster (r .bics) (r .«bic_heads») (r .«bic_links») (r .routes) (r .«route_heads») (r .«route_links») (r .kinds) (r .numbers) ⌝ }
+    ensures { λ r.
+        ⌜
+        Directs roster (r .bics) (r .«bic_heads») (r .«bic_links») (r .routes) (r .«route_heads») (r .«route_links») (r .kinds) (r .numbers)
+        ⌝ }
 {
     let participants = roster.participants;
     let bics = index::bics_of(participants, roster.size);

@@ -65,7 +65,8 @@ module _ (b : Book) (d : Decision) (fits : Applicable b d) where
 
   -- as many orders as before, or one more
   pub count-grows : b .count ≤ d .count
-  count-grows = ⊎-elim (λ (e : d .count ≡ b .count). omega arith) (λ (e : (d .number ≡ b .count) × (d .count ≡ b .count + 1)). let q = e .1 in omega arith) (fits .count)
+  count-grows = ⊎-elim (λ (e : d .count ≡ b .count). omega arith)
+      (λ (e : (d .number ≡ b .count) × (d .count ≡ b .count + 1)). let q = e .1 in omega arith) (fits .count)
 
 pub listed-few : (told : Told) → length (listed told) ≤ 2
 listed-few Nobody = omega arith

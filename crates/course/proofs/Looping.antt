@@ -78,7 +78,8 @@ module _ (b : Book) (s : Sound b) (n₀ : ℕ) (text₀ : List ℕ) where
           passed =
               subst (λ (d : Book). Passed (m + 1) d) (sym is-c)
               (subst (λ (k : ℕ). Passed k (lapsed c m (expiryIn c m))) (sym (add-one m))
-              (one-passed m c (rw (at-sound .orders .long) (let k = at-sound .orders .count in let e = at-count in omega arith)) old (w .passed)));
+              (one-passed m c (rw (at-sound .orders .long) (let k = at-sound .orders .count in let e = at-count in omega arith)) old
+              (w .passed)));
         }
       where
         v : Step
@@ -111,6 +112,8 @@ module _ (b : Book) (s : Sound b) (n₀ : ℕ) (text₀ : List ℕ) where
         go true h (inr q) =
             let r = swept b s m h in
             let clock : c .clock ≡ b .clock = ap (λ (d : Book). d .clock) (w .book) ∙ r .clock in
-            let order : orderOf (c .orders) m ≡ orderOf (b .orders) m = ap (λ (d : Book). orderOf (d .orders) m) (w .book) ∙ later-kept b m m (omega arith) in
-            let same : c .clock - orderOf (c .orders) m .time ≡ b .clock - orderOf (b .orders) m .time = ap₂ (λ (k : ℕ) (o : Order). k - o .time) clock order in
+            let order : orderOf (c .orders) m ≡ orderOf (b .orders) m = ap (λ (d : Book). orderOf (d .orders) m) (w .book)
+            ∙ later-kept b m m (omega arith) in
+            let same : c .clock - orderOf (c .orders) m .time ≡ b .clock - orderOf (b .orders) m .time =
+            ap₂ (λ (k : ℕ) (o : Order). k - o .time) clock order in
             sym (rest-young b s m (omega arith) (b .count) h (omega arith))

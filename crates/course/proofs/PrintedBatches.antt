@@ -42,10 +42,13 @@ pub record Printable (ss : List Step) (answers reports : ℕ) : Type 0 where
   pub answered : answerLength * length ss ≤ answers
   pub reported : reportLength * length (reportsIn ss) ≤ reports
 
-to-printable : (n : ℕ) (b : Book) → Sound b → (tickets : List ℕ) (answers reports : ℕ) → Printable (ranTo n b tickets answers reports) answers reports
-to-printable zero b s tickets answers reports = record { answers-fit = tt; reports-fit = tt; answered = omega arith; reported = omega arith }
+to-printable : (n : ℕ) (b : Book) → Sound b → (tickets : List ℕ) (answers reports : ℕ)
+    → Printable (ranTo n b tickets answers reports) answers reports
+to-printable zero b s tickets answers reports =
+    record { answers-fit = tt; reports-fit = tt; answered = omega arith; reported = omega arith }
 to-printable (suc n) b s tickets answers reports =
-    go (to-printable n (w .book) (step-sound b s t) (drop ticketLength tickets) (answers - answerLength) (reports - reportLength * length (w .reports)))
+    go (to-printable n (w .book) (step-sound b s t) (drop ticketLength tickets) (answers - answerLength)
+    (reports - reportLength * length (w .reports)))
     (roomLeft (length tickets) answers reports) refl
   where
     t : List ℕ
@@ -70,7 +73,8 @@ to-printable (suc n) b s tickets answers reports =
         }
     go on false e = record { answers-fit = tt; reports-fit = tt; answered = omega arith; reported = omega arith }
 
-pub ran-printable : (b : Book) → Sound b → (tickets : List ℕ) (answers reports : ℕ) → Printable (ran b tickets answers reports) answers reports
+pub ran-printable : (b : Book) → Sound b → (tickets : List ℕ) (answers reports : ℕ)
+    → Printable (ran b tickets answers reports) answers reports
 unfolding ran
 ran-printable b s tickets answers reports = to-printable (length tickets) b s tickets answers reports
 
@@ -99,7 +103,8 @@ unfolding ran
 ran-sound b s tickets answers reports = to-sound (length tickets) b s tickets answers reports
 
 -- with a whole ticket and room at least one is taken
-pub takes-one : (b : Book) (tickets : List ℕ) (answers reports : ℕ) → ticketLength ≤ length tickets → answerLength ≤ answers → leastBuffer ≤ reports
+pub takes-one : (b : Book) (tickets : List ℕ) (answers reports : ℕ) → ticketLength ≤ length tickets
+    → answerLength ≤ answers → leastBuffer ≤ reports
     → 1 ≤ length (ran b tickets answers reports)
 unfolding ran
 takes-one b tickets answers reports t a r = go (length tickets) refl

@@ -45,7 +45,8 @@ after-one b (r ∷ ss) s = after-one (r .book) ss s
 
 reports-one : (ss : List Step) (s : Step) → reportsIn (ss ++ (s ∷ [])) ≡ reportsIn ss ++ s .reports
 reports-one [] s = append-nil (s .reports)
-reports-one (r ∷ ss) s = ap (λ (rs : List Report). r .reports ++ rs) (reports-one ss s) ∙ sym (append-assoc (r .reports) (reportsIn ss) (s .reports))
+reports-one (r ∷ ss) s =
+    ap (λ (rs : List Report). r .reports ++ rs) (reports-one ss s) ∙ sym (append-assoc (r .reports) (reportsIn ss) (s .reports))
 
 answers-one : (ss : List Step) (s : Step) → answersOf (ss ++ (s ∷ [])) ≡ answersOf ss ++ (answerOf s ∷ [])
 answers-one [] s = refl
@@ -98,10 +99,12 @@ module _ (b₀ : Book) (tickets answers₀ reports₀ : List ℕ) where
     -- the buffers keep their lengths
     pub answers-long : length bytes ≡ length answers₀
     answers-long =
-        ap length (g .answers) ∙ length-answers-laid (answersOf (g .done)) answers₀ (rw (length-map (g .done) answerOf) (let e = g .taken in let l = g .answersLeft in omega arith))
+        ap length (g .answers) ∙ length-answers-laid (answersOf (g .done)) answers₀
+        (rw (length-map (g .done) answerOf) (let e = g .taken in let l = g .answersLeft in omega arith))
 
     pub reports-long : length text ≡ length reports₀
-    reports-long = ap length (g .reports) ∙ length-laid (reportsIn (g .done)) reports₀ (let e = g .told in let l = g .reportsLeft in omega arith)
+    reports-long =
+        ap length (g .reports) ∙ length-laid (reportsIn (g .done)) reports₀ (let e = g .told in let l = g .reportsLeft in omega arith)
 
     -- the steps that are left, of at most m tickets
     abbrev left : ℕ → List Step
@@ -130,12 +133,14 @@ module _ (b₀ : Book) (tickets answers₀ reports₀ : List ℕ) where
       -- one ticket is taken
       one-left : left (length tickets - k)
           ≡ step
-          ∷ ranTo (length tickets - (k + 1)) (step .book) (drop (108 * (k + 1)) tickets) (length answers₀ - 4 * (k + 1)) (length reports₀ - 12 * (n + length (step .reports)))
+          ∷ ranTo (length tickets - (k + 1)) (step .book) (drop (108 * (k + 1)) tickets) (length answers₀ - 4 * (k + 1))
+          (length reports₀ - 12 * (n + length (step .reports)))
       one-left =
           let h = has .ticket in
           let fuel : length tickets - k ≡ suc (length tickets - (k + 1)) = omega arith in
           let a : length answers₀ - 4 * k - 4 ≡ length answers₀ - 4 * (k + 1) = omega arith in
-          let r : length reports₀ - 12 * n - 12 * length (step .reports) ≡ length reports₀ - 12 * (n + length (step .reports)) = omega arith in
+          let r : length reports₀ - 12 * n - 12 * length (step .reports)
+          ≡ length reports₀ - 12 * (n + length (step .reports)) = omega arith in
           let d : drop 108 (drop (108 * k) tickets) ≡ drop (108 * (k + 1)) tickets =
           drop-drop 108 (108 * k) tickets ∙ (let e : 108 * k + 108 ≡ 108 * (k + 1) = omega arith in ap (λ (m : ℕ). drop m tickets) e) in
           ap left fuel ∙ rw (length-drop (108 * k) tickets, more, a, r, d)
@@ -152,8 +157,10 @@ module _ (b₀ : Book) (tickets answers₀ reports₀ : List ℕ) where
             told = rw (reports-one (g .done) step, length-append (reportsIn (g .done)) (step .reports)) (let e = g .told in omega arith);
             answers =
                 is-a
-                ∙ ap₂ (λ (l : List ℕ) (m : ℕ). sets l (4 * m) (answerBytes (answerOf step))) (g .answers) (g .taken ∙ sym (length-map (g .done) answerOf))
-                ∙ answers-laid-more (answersOf (g .done)) answers₀ (answerOf step) (rw (length-map (g .done) answerOf) (let e = g .taken in omega arith))
+                ∙ ap₂ (λ (l : List ℕ) (m : ℕ). sets l (4 * m) (answerBytes (answerOf step))) (g .answers)
+                (g .taken ∙ sym (length-map (g .done) answerOf))
+                ∙ answers-laid-more (answersOf (g .done)) answers₀ (answerOf step)
+                (rw (length-map (g .done) answerOf) (let e = g .taken in omega arith))
                 ∙ ap (λ (as′ : List Answer). answersLaid as′ answers₀) (sym (answers-one (g .done) step));
             reports =
                 is-r
@@ -167,7 +174,8 @@ module _ (b₀ : Book) (tickets answers₀ reports₀ : List ℕ) where
                 g .rest
                 ∙ ap (λ (ss : List Step). g .done ++ ss) one-left
                 ∙ sym (append-assoc (g .done) (step ∷ []) _)
-                ∙ ap₂ (λ (c : Book) (m : ℕ). (g .done ++ (step ∷ [])) ++ ranTo (length tickets - (k + 1)) c (drop (108 * (k + 1)) tickets) (length answers₀ - 4 * (k + 1)) (length reports₀ - 12 * m))
+                ∙ ap₂ (λ (c : Book) (m : ℕ). (g .done ++ (step ∷ [])) ++ ranTo (length tickets - (k + 1)) c (drop (108 * (k + 1)) tickets)
+                (length answers₀ - 4 * (k + 1)) (length reports₀ - 12 * m))
                 (sym is-b) (sym is-n);
             sound = subst Sound (sym is-b) s;
           }

@@ -32,7 +32,8 @@ use Rattle.course.specs.declared.Entry.{Entry}
 use Rattle.course.proofs.Sweeping.{sweep-book}
 
 -- where the row leads, if it is sought
-pub way-if : (r : Roster) (z : Bool) (t : List ℕ) → followedFrom r (cond z (routeIn r t) found.Nothing) ≡ cond z (wayIn r t) followed.Nowhere
+pub way-if : (r : Roster) (z : Bool) (t : List ℕ)
+    → followedFrom r (cond z (routeIn r t) found.Nothing) ≡ cond z (wayIn r t) followed.Nowhere
 unfolding routeIn wayIn
 way-if r true t = refl
 way-if r false t = refl
@@ -57,7 +58,8 @@ expired-txid b i = go (due (b .clock) o (isBank (b .roster) (o .payee)))
     go false = refl
 
 -- and so do all
-pub swept-txid : (b : Book) → Sound b → (m : ℕ) → m ≤ b .count → (i : ℕ) → orderOf (sweepTo b m .book .orders) i .txid ≡ orderOf (b .orders) i .txid
+pub swept-txid : (b : Book) → Sound b → (m : ℕ) → m ≤ b .count → (i : ℕ)
+    → orderOf (sweepTo b m .book .orders) i .txid ≡ orderOf (b .orders) i .txid
 swept-txid b s zero h i = refl
 swept-txid b s (suc m) h i =
     ap (λ (w : Book). orderOf (w .orders) i .txid) (sweep-book (sweepTo b m) m)
@@ -75,7 +77,8 @@ swept-txid b s (suc m) h i =
 
 module _ (c : Book) (e : Entry) (t : List ℕ) where
   -- the finding, field by field
-  pub made : (txid : List ℕ) (sender order : Found) (p i : ℕ) (bank : Bool) (route : Found) (way : Followed) (unconfirmed : Bool) (total : ℕ)
+  pub made : (txid : List ℕ) (sender order : Found) (p i : ℕ) (bank : Bool) (route : Found) (way : Followed)
+      (unconfirmed : Bool) (total : ℕ)
       → txid ≡ txidField t → sender ≡ soughtSender c e t → order ≡ soughtOrder c e t → p ≡ numberOf sender → i ≡ numberOf order
       → bank ≡ isBank (c .roster) (orderOf (c .orders) i .payee) → route ≡ sought c e t .route → way ≡ sought c e t .way
       → unconfirmed ≡ sought c e t .unconfirmed → total ≡ sought c e t .total
@@ -96,7 +99,8 @@ module _ (c : Book) (e : Entry) (t : List ℕ) where
         unconfirmed = unconfirmed;
         total = total;
       }) (sought c e t)
-  made txid sender order p i bank route way unconfirmed total is-txid is-sender is-order is-p is-i is-bank is-route is-way is-open is-total =
+  made txid sender order p i bank route way unconfirmed total is-txid is-sender is-order is-p is-i is-bank is-route
+      is-way is-open is-total =
       λ j. record {
         kind = e .kind;
         amount = e .amount;

@@ -181,7 +181,8 @@ module _ (b : Book) (s : Sound b) where
       }
 
   -- all stays as it is
-  stays-applicable : (e : Entry) (t : List ℕ) (cuts : Bool) (told : Told) → (cuts ≡ true → told ≡ Nobody) → Applicable b (orderKept (sought b e t) nobody cuts told)
+  stays-applicable : (e : Entry) (t : List ℕ) (cuts : Bool) (told : Told) → (cuts ≡ true → told ≡ Nobody)
+      → Applicable b (orderKept (sought b e t) nobody cuts told)
   stays-applicable e t cuts told alone = kept-applicable e t nobody cuts told (omega arith) (omega arith) tt (λ c. (refl, refl, alone c))
 
   -- the order gets a status that is not Waiting
@@ -206,7 +207,8 @@ module _ (b : Book) (s : Sound b) where
       }
 
   -- of a first move that brings nothing in, the covers that it leaves are within the limit
-  left-limited : (m : Transfer) → m .who < b .roster .size → Enough (m .how) (m .amount) (coverOf (b .covers) (m .who)) → gain (m .how) (m .amount) ≡ 0
+  left-limited : (m : Transfer) → m .who < b .roster .size → Enough (m .how) (m .amount) (coverOf (b .covers) (m .who))
+      → gain (m .how) (m .amount) ≡ 0
       → (p : ℕ) → whole (coverOf (b .covers) p) ≤ mostTotal → whole (coverOf (transferred m (b .covers)) p) ≤ mostTotal
   left-limited m h enough none p l =
       let e = transfer-whole (fitted (s .roster .size) (s .covers)) m h enough p in
@@ -230,7 +232,8 @@ module _ (b : Book) (s : Sound b) where
     sender-room : (k : Kind) (how : Move) → namesSender (termsOf k .subject) ≡ true → NoRefusal (finding b (f k) t) → n ≤ mostTotal
         → Enough how n (coverOf (b .covers) (who k)) → Room how n (coverOf (b .covers) (who k))
     sender-room k how named none most enough =
-        room-to-move how n (coverOf (b .covers) (who k)) enough most (whole-limited b s (who k) (accepting.sender-found b (f k) t (none .r12) named .below))
+        room-to-move how n (coverOf (b .covers) (who k)) enough most
+        (whole-limited b s (who k) (accepting.sender-found b (f k) t (none .r12) named .below))
 
     sender-known : (k : Kind) → namesSender (termsOf k .subject) ≡ true → NoRefusal (finding b (f k) t) → who k < mostParticipants
     sender-known k named none = participant-below b s (who k) (accepting.sender-found b (f k) t (none .r12) named .below)
@@ -241,7 +244,8 @@ module _ (b : Book) (s : Sound b) where
         (sender-room kind.CoverIn Give refl none (tells .most) tt) (λ c. never (sym c))
     decided-applicable kind.CoverOut tells none =
         kept-applicable (entry kind.CoverOut) t _ false Nobody (sender-known kind.CoverOut refl none) (tells .most)
-        (sender-room kind.CoverOut Draw refl none (tells .most) (accepting.cover-there b (f kind.CoverOut) t (none .r20) refl)) (λ c. never (sym c))
+        (sender-room kind.CoverOut Draw refl none (tells .most) (accepting.cover-there b (f kind.CoverOut) t (none .r20) refl))
+        (λ c. never (sym c))
     decided-applicable kind.Order tells none =
         record {
           number = accepting.order-room b (f kind.Order) t (none .r15) refl;
@@ -251,7 +255,8 @@ module _ (b : Book) (s : Sound b) where
           second = omega arith;
           firstMost = let m = tells .most in omega arith;
           secondMost = omega arith;
-          firstRoom = sender-room kind.Order Reserve refl none (let m = tells .most in omega arith) (accepting.cover-there b (f kind.Order) t (none .r20) refl);
+          firstRoom = sender-room kind.Order Reserve refl none (let m = tells .most in omega arith)
+              (accepting.cover-there b (f kind.Order) t (none .r20) refl);
           secondRoom = tt;
           waits = λ l w. absurd (omega arith);
           rows = rows-below true t;
@@ -274,11 +279,13 @@ module _ (b : Book) (s : Sound b) where
         let most : o .amount ≤ mostTotal = let m = s .orders .most _ h in omega arith in
         becomes-applicable (entry kind.No) t status.Refused (by (o .payer) Release (o .amount)) nobody _ refl
         (participant-below b s (o .payer) payer) most
-        (room-to-move Release (o .amount) (coverOf (b .covers) (o .payer)) (waiting-reserved b s _ h (accepting.status-meets b (f kind.No) t (none .r18))) most
+        (room-to-move Release (o .amount) (coverOf (b .covers) (o .payer))
+        (waiting-reserved b s _ h (accepting.status-meets b (f kind.No) t (none .r18))) most
         (whole-limited b s (o .payer) payer))
         (omega arith) (omega arith) tt
     decided-applicable kind.Recall tells none =
-        becomes-applicable (entry kind.Recall) t (status.Settled mark.Asked) nobody nobody _ refl (omega arith) (omega arith) tt (omega arith) (omega arith) tt
+        becomes-applicable (entry kind.Recall) t (status.Settled mark.Asked) nobody nobody _ refl (omega arith) (omega arith) tt
+        (omega arith) (omega arith) tt
     decided-applicable kind.Return tells none =
         let h = accepting.order-found b (f kind.Return) t (none .r16) refl .below in
         let payer = s .orders .payer _ h in
@@ -292,17 +299,22 @@ module _ (b : Book) (s : Sound b) where
         (room-to-move Give n (coverOf (transferred m (b .covers)) (o .payer)) tt most
         (left-limited m payee enough refl (o .payer) (whole-limited b s (o .payer) payer)))
     decided-applicable kind.Decline tells none =
-        becomes-applicable (entry kind.Decline) t (status.Settled mark.Declined) nobody nobody _ refl (omega arith) (omega arith) tt (omega arith) (omega arith) tt
-    decided-applicable kind.Inquiry tells none = stays-applicable (entry kind.Inquiry) t false (decisionOf (sought b (entry kind.Inquiry) t) .told) (λ c. never (sym c))
+        becomes-applicable (entry kind.Decline) t (status.Settled mark.Declined) nobody nobody _ refl (omega arith) (omega arith) tt
+        (omega arith) (omega arith) tt
+    decided-applicable kind.Inquiry tells none =
+        stays-applicable (entry kind.Inquiry) t false (decisionOf (sought b (entry kind.Inquiry) t) .told) (λ c. never (sym c))
     decided-applicable kind.Cut tells none = stays-applicable (entry kind.Cut) t true Nobody (λ c. refl)
     decided-applicable kind.Confirm tells none = confirms (eqb (coverOf (b .covers) (who kind.Confirm) .held) 0)
       where
-        confirms : (z : Bool) → Applicable b (orderKept (sought b (entry kind.Confirm) t) (by (who kind.Confirm) (cond z Debit Credit) n) false Nobody)
+        confirms : (z : Bool)
+            → Applicable b (orderKept (sought b (entry kind.Confirm) t) (by (who kind.Confirm) (cond z Debit Credit) n) false Nobody)
         confirms true =
-            kept-applicable (entry kind.Confirm) t (by (who kind.Confirm) Debit n) false Nobody (sender-known kind.Confirm refl none) (tells .most)
+            kept-applicable (entry kind.Confirm) t (by (who kind.Confirm) Debit n) false Nobody
+            (sender-known kind.Confirm refl none) (tells .most)
             (sender-room kind.Confirm Debit refl none (tells .most) tt) (λ c. never (sym c))
         confirms false =
-            kept-applicable (entry kind.Confirm) t (by (who kind.Confirm) Credit n) false Nobody (sender-known kind.Confirm refl none) (tells .most)
+            kept-applicable (entry kind.Confirm) t (by (who kind.Confirm) Credit n) false Nobody
+            (sender-known kind.Confirm refl none) (tells .most)
             (sender-room kind.Confirm Credit refl none (tells .most) tt) (λ c. never (sym c))
     decided-applicable kind.Tick tells none = stays-applicable (entry kind.Tick) t false Nobody (λ c. never (sym c))
 
@@ -337,7 +349,8 @@ pub record Entered (clock : ℕ) (t : List ℕ) (e : Entry) : Type 0 where
 pub entered : (clock : ℕ) (t : List ℕ) → Entered clock t (entryOf clock t)
 entered clock t = from-reading (reading t) refl
   where
-    from-timing : (f : Fields) → reading t ≡ Read f → (z : Bool) → ltb (f .time) clock ≡ z → Entered clock t (timedEntry clock f (cond z Early InTime))
+    from-timing : (f : Fields) → reading t ≡ Read f → (z : Bool) → ltb (f .time) clock ≡ z
+        → Entered clock t (timedEntry clock f (cond z Early InTime))
     from-timing f e true q = record { later = omega arith; tells = λ (z : _≡_ {A = ℕ} 11 0). absurd (omega arith) }
     from-timing f e false q = record { later = ltb-false (f .time) clock q; tells = λ z. read-tells t f e }
 

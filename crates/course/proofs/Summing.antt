@@ -46,10 +46,12 @@ allOf cs = totalOf mostParticipants cs
 pub all-total : (b : Book) → Sound b → allOf (b .covers) ≡ total b
 unfolding total allOf
 all-total b s =
-    sum-beyond (λ p. whole (coverOf (b .covers) p)) (b .roster .size) mostParticipants (s .roster .size) (λ p a l. ap whole (s .covers .outside p a l))
+    sum-beyond (λ p. whole (coverOf (b .covers) p)) (b .roster .size) mostParticipants (s .roster .size)
+    (λ p a l. ap whole (s .covers .outside p a l))
 
 -- one cover is changed
-changed : (n : ℕ) (cs : List Cover) → Fitted n cs → (p : ℕ) → p < n → (c : Cover) → totalOf n cs - whole (coverOf cs p) + whole c ≡ totalOf n (set cs p c)
+changed : (n : ℕ) (cs : List Cover) → Fitted n cs → (p : ℕ) → p < n → (c : Cover)
+    → totalOf n cs - whole (coverOf cs p) + whole c ≡ totalOf n (set cs p c)
 changed n cs fit p few c = let e = set-total fit p few c in let l = sum-part (λ q. whole (coverOf cs q)) n p few in omega arith
 
 module _ (cs : List Cover) (long : length cs ≡ mostParticipants) (p : ℕ) (few : p < mostParticipants) where
@@ -86,8 +88,10 @@ lapsed-all b s i h = go (due (b .clock) o (isBank (b .roster) (o .payee))) refl 
     o : Order
     o = orderOf (b .orders) i
 
-    go : (d : Bool) → due (b .clock) o (isBank (b .roster) (o .payee)) ≡ d → Freeable b (cond (due (b .clock) o (isBank (b .roster) (o .payee))) (expires i o) (stays o))
-        → allOf (transferred (cond (due (b .clock) o (isBank (b .roster) (o .payee))) (expires i o) (stays o) .freed) (b .covers)) ≡ allOf (b .covers)
+    go : (d : Bool) → due (b .clock) o (isBank (b .roster) (o .payee)) ≡ d
+        → Freeable b (cond (due (b .clock) o (isBank (b .roster) (o .payee))) (expires i o) (stays o))
+        → allOf (transferred (cond (due (b .clock) o (isBank (b .roster) (o .payee))) (expires i o) (stays o) .freed) (b .covers))
+        ≡ allOf (b .covers)
     go true e f =
         rw e
         (let f′ : Freeable b (expires i o) = rw e at f in
@@ -124,7 +128,8 @@ cut-whole (opening.Cover k) c = go (ltb k (c .available)) refl (ltb (c .availabl
 cut-later : (r : Roster) (cs : List Cover) (n p : ℕ) → n ≤ p → coverOf (cutTo r cs n) p ≡ coverOf cs p
 cut-later r cs zero p h = refl
 cut-later r cs (suc n) p h =
-    getD-set-other (cutTo r cs n) n p (cutCover (participantOf r n .opening) (coverOf cs n)) noCover (λ e. omega arith) ∙ cut-later r cs n p (omega arith)
+    getD-set-other (cutTo r cs n) n p (cutCover (participantOf r n .opening) (coverOf cs n)) noCover (λ e. omega arith)
+    ∙ cut-later r cs n p (omega arith)
 
 cut-all : (r : Roster) (cs : List Cover) → r .size ≤ length cs → allOf (cutTo r cs (r .size)) ≡ allOf cs
 unfolding allOf

@@ -57,7 +57,8 @@ module _ (w : Step) (i : ℕ) where
       go false = sym (append-nil (w .reports))
 
 -- whoever doesn't wait for a bank is not due
-not-due : (b : Book) (i : ℕ) → awaits b i ≡ false → due (b .clock) (orderOf (b .orders) i) (isBank (b .roster) (orderOf (b .orders) i .payee)) ≡ false
+not-due : (b : Book) (i : ℕ) → awaits b i ≡ false
+    → due (b .clock) (orderOf (b .orders) i) (isBank (b .roster) (orderOf (b .orders) i .payee)) ≡ false
 not-due b i e = rw e
 
 -- below the mark nothing happens
@@ -127,8 +128,10 @@ module _ (m : ℕ) (b : Book) (h : m < length (b .orders)) (old : 20 ≤ b .cloc
   this-passed = go (awaits b m) refl
     where
       go : (a : Bool) → awaits b m ≡ a
-          → (isWaiting (cond (a && leb 20 (b .clock - orderOf (b .orders) m .time)) (expires m (orderOf (b .orders) m)) (stays (orderOf (b .orders) m)) .order .status)
-          && isBank (b .roster) (cond (a && leb 20 (b .clock - orderOf (b .orders) m .time)) (expires m (orderOf (b .orders) m)) (stays (orderOf (b .orders) m)) .order .payee)) ≡ false
+          → (isWaiting (cond (a && leb 20 (b .clock - orderOf (b .orders) m .time)) (expires m (orderOf (b .orders) m))
+          (stays (orderOf (b .orders) m)) .order .status)
+          && isBank (b .roster) (cond (a && leb 20 (b .clock - orderOf (b .orders) m .time)) (expires m (orderOf (b .orders) m))
+          (stays (orderOf (b .orders) m)) .order .payee)) ≡ false
       go true e = rw (le-leb 20 (b .clock - orderOf (b .orders) m .time) old)
       go false e = e
 
@@ -138,6 +141,7 @@ module _ (m : ℕ) (b : Book) (h : m < length (b .orders)) (old : 20 ≤ b .cloc
         none = λ i l.
             ⊎-elim
             (λ (e : i ≡ m). rw (e, getD-set-same (b .orders) m (x .order) noOrder h) this-passed)
-            (λ (k : i ≡ m → ⊥). rw (getD-set-other (b .orders) m i (x .order) noOrder k) (p .none i (⊎-elim (λ (y : i < m). y) (λ (y : m ≤ i). absurd (k (omega arith))) (below-or-not i m))))
+            (λ (k : i ≡ m → ⊥). rw (getD-set-other (b .orders) m i (x .order) noOrder k)
+            (p .none i (⊎-elim (λ (y : i < m). y) (λ (y : m ≤ i). absurd (k (omega arith))) (below-or-not i m))))
             (same-or-not i m);
       }

@@ -65,13 +65,20 @@ module _ (w : Step) where
         refusal = 0;
         reports = w .reports ++ toldBy book (orderKept x m cuts told);
         rows = 0;
-        book = record { clock = book .clock; covers = applied book (orderKept x m cuts told) .covers; orders = os; count = n; roster = book .roster };
+        book = record {
+          clock = book .clock;
+          covers = applied book (orderKept x m cuts told) .covers;
+          orders = os;
+          count = n;
+          roster = book .roster;
+        };
       })
       (write-back x own ∙ sym (write-back y own′))
       (own .count ∙ sym (own′ .count))
 
   -- a refused ticket is carried out as a decision that keeps all as it is
-  refused-carried : (x : Finding) → Own book x → (n : ℕ) → carriedOut w (record { refusal = n; decision = orderKept x nobody false Nobody }) ≡ ticked w n
+  refused-carried : (x : Finding) → Own book x → (n : ℕ)
+      → carriedOut w (record { refusal = n; decision = orderKept x nobody false Nobody }) ≡ ticked w n
   refused-carried x own n =
       λ i. record {
         refusal = n;
@@ -88,11 +95,13 @@ module _ (w : Step) where
       }
 
   -- judged and carried out: refused by n, or accepted
-  judged-carried : (x : Finding) → Own book x → (n : ℕ) → carriedOut w (record { refusal = n; decision = decidedUnless n x }) ≡ refusedOr n w x
+  judged-carried : (x : Finding) → Own book x → (n : ℕ)
+      → carriedOut w (record { refusal = n; decision = decidedUnless n x }) ≡ refusedOr n w x
   judged-carried x own n = go (eqb n 0) refl
     where
       go : (z : Bool) → eqb n 0 ≡ z
-          → carriedOut w (record { refusal = n; decision = cond z (decisionOf x) (orderKept x nobody false Nobody) }) ≡ cond z (accepted w (decisionOf x)) (ticked w n)
+          → carriedOut w (record { refusal = n; decision = cond z (decisionOf x) (orderKept x nobody false Nobody) })
+          ≡ cond z (accepted w (decisionOf x)) (ticked w n)
       go true e = ap (λ (m : ℕ). carriedOut w (record { refusal = m; decision = decisionOf x })) (eqb-true n 0 e)
       go false e = refused-carried x own n
 
@@ -128,7 +137,8 @@ module _ (w : Step) (t : List ℕ) (r time n : ℕ) where
   sought-refuses kind.Tick = refl
 
   -- an order that is kept, one cover moving
-  kept : (k : Kind) (m : Transfer) (cuts : Bool) (told : Told) → accepted w (orderKept (y k) m cuts told) ≡ accepted w (orderKept (x k) m cuts told)
+  kept : (k : Kind) (m : Transfer) (cuts : Bool) (told : Told)
+      → accepted w (orderKept (y k) m cuts told) ≡ accepted w (orderKept (x k) m cuts told)
   kept k = kept-alike w (y k) (x k) (own-y k) (own-x k)
 
   answers-alike : (s : Status) → inquiryAnswer (y kind.Inquiry) s ≡ inquiryAnswer (x kind.Inquiry) s
@@ -150,7 +160,8 @@ module _ (w : Step) (t : List ℕ) (r time n : ℕ) where
   sought-decides kind.Recall = refl
   sought-decides kind.Return = refl
   sought-decides kind.Decline = refl
-  sought-decides kind.Inquiry = ap (λ (told : Told). accepted w (orderKept (x kind.Inquiry) nobody false told)) (answers-alike (x kind.Inquiry .about .status))
+  sought-decides kind.Inquiry =
+      ap (λ (told : Told). accepted w (orderKept (x kind.Inquiry) nobody false told)) (answers-alike (x kind.Inquiry .about .status))
   sought-decides kind.Cut = kept kind.Cut nobody true Nobody
   sought-decides kind.Confirm = kept kind.Confirm (decisionOf (x kind.Confirm) .first) false Nobody
   sought-decides kind.Tick = kept kind.Tick nobody false Nobody
@@ -160,7 +171,8 @@ module _ (w : Step) (t : List ℕ) (r time n : ℕ) where
 
   -- past 7 to 11
   passed : (k : Kind) → carriedOut w (judged 0 (y k)) ≡ refusedOr (firstRefusal (x k)) w (x k)
-  passed k = judged-carried w (y k) (own-y k) (firstRefusal (y k)) ∙ sought-alike k (firstRefusal (y k)) ∙ ap (λ (m : ℕ). refusedOr m w (x k)) (sought-refuses k)
+  passed k = judged-carried w (y k) (own-y k) (firstRefusal (y k)) ∙ sought-alike k (firstRefusal (y k))
+      ∙ ap (λ (m : ℕ). refusedOr m w (x k)) (sought-refuses k)
 
 -- refused by 7 to 11
 module _ (n : ℕ) (refused : eqb n 0 ≡ false) where

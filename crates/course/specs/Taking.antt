@@ -1,8 +1,8 @@
 -- The step as one way for every ticket, refused or not.
---     unswept     the step that changes nothing
---     sweptFor    the expiries: none at a ticket that was refused
+--     unswept       the step that changes nothing
+--     sweptFor      the expiries: none at a ticket that was refused
 --     carriedOut    what was judged, carried out
---     takenUp     the whole step
+--     takenUp       the whole step
 -- Assumes nothing.
 use Prim.Native.Nat.{ℕ}
 use mathlib.Core.Bool.{cond}

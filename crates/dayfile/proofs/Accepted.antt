@@ -18,7 +18,14 @@ use Rattle.dayfile.specs.Check.{participantRight, routeRight, participan
 use Rattle.dayfile.specs.Roster.{participantAt, routeAt, rosterOf, emptyRoster, noParticipant, noRoute, participantOf, routeOf}
 use Rattle.dayfile.specs.DayFile.{dayFile}
 use Rattle.dayfile.specs.Guarantee.{ParticipantNumbers, RouteNumbers, RosterNumbers, Guaranteed, GuaranteedFile}
-use Rattle.dayfile.proofs.RowTelling.{participant-bic, participant-opening, participant-numbers, route-bic, route-leads, route-numbers}
+use Rattle.dayfile.proofs.RowTelling.{
+  participant-bic,
+  participant-opening,
+  participant-numbers,
+  route-bic,
+  route-leads,
+  route-numbers,
+}
 use Rattle.dayfile.proofs.Passing.{Accepted, Refused, file-outcome, passing-accepted}
 use Rattle.dayfile.specs.declared.DayFile.{DayFile}
 use Rattle.dayfile.specs.declared.header.Header.{Header}
@@ -62,14 +69,16 @@ module _ (h : Header) (f : List ℕ) (few : h .counts .participants ≤ 32) (sho
 
   participant-ok : (p : ℕ) → p < h .counts .participants → participantOk (participant-place p) f ≡ true
   participant-ok p l =
-      and-left (participantOk (participant-place p) f) (not (bicAmong (h .offsets .participants) 24 p (part 11 (participant-place p) f) f)) (participant-right p l)
+      and-left (participantOk (participant-place p) f)
+      (not (bicAmong (h .offsets .participants) 24 p (part 11 (participant-place p) f) f)) (participant-right p l)
 
   route-right : (i : ℕ) → i < h .counts .routes → routeRight (h .counts .participants) (h .offsets .routes) f i ≡ true
   route-right i l = all-at (routeRight (h .counts .participants) (h .offsets .routes) f) (h .counts .routes) i routes l
 
   route-ok : (i : ℕ) → i < h .counts .routes → routeOk (h .counts .participants) i (route-place i) f ≡ true
   route-ok i l =
-      and-left (routeOk (h .counts .participants) i (route-place i) f) (not (bicAmong (h .offsets .routes) 16 i (part 11 (route-place i) f) f)) (route-right i l)
+      and-left (routeOk (h .counts .participants) i (route-place i) f)
+      (not (bicAmong (h .offsets .routes) 16 i (part 11 (route-place i) f) f)) (route-right i l)
 
   -- no earlier row of a section has the BIC
   distinct-from : (from width q : ℕ) (ok : Bool) → (ok && not (bicAmong from width q (part 11 (from + width * q) f) f)) ≡ true
@@ -107,11 +116,13 @@ module _ (h : Header) (f : List ℕ) (few : h .counts .participants ≤ 32) (sho
         participant =
             λ p l.
             rw (participant-is p l)
-            (subst (λ (at : ℕ). ParticipantNumbers (at + 24 * p) f (participantAt (participant-place p) f)) first (participant-numbers (participant-place p) f (participant-ok p l)));
+            (subst (λ (at : ℕ). ParticipantNumbers (at + 24 * p) f (participantAt (participant-place p) f)) first
+            (participant-numbers (participant-place p) f (participant-ok p l)));
         route =
             λ i l.
             rw (route-is i l)
-            (subst (λ (at : ℕ). RouteNumbers (at + 16 * i) f (routeAt (route-place i) f)) behind (route-numbers (h .counts .participants) i (route-place i) f (route-ok i l)));
+            (subst (λ (at : ℕ). RouteNumbers (at + 16 * i) f (routeAt (route-place i) f)) behind
+            (route-numbers (h .counts .participants) i (route-place i) f (route-ok i l)));
       }
 
 -- what the roster of any file guarantees, refused ones included
@@ -130,8 +141,10 @@ roster-has-numbers f =
     ⊎-elim
     (λ (a : Accepted f).
     let h = a .header in
-    rw (a .file) (roster-numbers h f (a .range .participants) (a .range .routes) (a .participants) (a .routes) (a .place .participants) (a .place .routes)))
-    (λ (r : Refused f). rw (r .file) (record { participant = λ p l. absurd (not-suc-le-zero l); route = λ i l. absurd (not-suc-le-zero l) }))
+    rw (a .file) (roster-numbers h f (a .range .participants) (a .range .routes) (a .participants) (a .routes)
+    (a .place .participants) (a .place .routes)))
+    (λ (r : Refused f).
+    rw (r .file) (record { participant = λ p l. absurd (not-suc-le-zero l); route = λ i l. absurd (not-suc-le-zero l) }))
     (file-outcome f)
 
 -- what an accepted file guarantees

@@ -38,7 +38,13 @@ module _ (r : Roster) (g : Guaranteed r) where
 
       go : (t : Target) → routeOf r row .target ≡ t → LeadsWithin (r .size) row (routeOf r row .target)
           → ((k : ℕ) → k < row → Arrives r (followed (targetIn (r .routes)) k)) → Arrives r (followed (targetIn (r .routes)) row)
-      go (To p) e within on = record { participant = p; rows = 1; known = rw e at within; one = omega arith; is = follows-to (targetIn (r .routes)) row few p e }
+      go (To p) e within on = record {
+        participant = p;
+        rows = 1;
+        known = rw e at within;
+        one = omega arith;
+        is = follows-to (targetIn (r .routes)) row few p e;
+      }
       go (Row k) e within on =
           let below : k < row = rw e at within in
           let a = on k below in

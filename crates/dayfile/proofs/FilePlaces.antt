@@ -10,7 +10,17 @@ use Rattle.fields.specs.Text.{joined}
 use Rattle.fields.proofs.Holding.{HoldsAt, held-first, held-whole, held-behind, held-in, held-at, mapped-row, joined-length, joined-row}
 use Rattle.dayfile.specs.Check.{routesPlace, ticketsPlace}
 use Rattle.dayfile.specs.Roster.{participantIn, rowOf}
-use Rattle.dayfile.specs.FileWriting.{participantBytes, routeBytes, headerFor, headerBytes, countsOf, participantsBytes, routesBytes, fileBytes, WellFormedDay}
+use Rattle.dayfile.specs.FileWriting.{
+  participantBytes,
+  routeBytes,
+  headerFor,
+  headerBytes,
+  countsOf,
+  participantsBytes,
+  routesBytes,
+  fileBytes,
+  WellFormedDay,
+}
 use Rattle.codes.proofs.WholeCodes.{bic-length}
 use Rattle.dayfile.specs.declared.header.Sections.{Sections}
 use Rattle.dayfile.specs.declared.header.Header.{Header}
@@ -23,7 +33,8 @@ participant-length q e = length-append (q .bic) _ ∙ (let l = bic-length (q .bi
 route-length : (r : Route) → isBic (r .bic) ≡ true → length (routeBytes r) ≡ 16
 route-length r e = length-append (r .bic) _ ∙ (let l = bic-length (r .bic) e in omega arith)
 
-participant-row : (ps : List Participant) (p : ℕ) → p < length ps → getD (map participantBytes ps) p [] ≡ participantBytes (participantIn ps p)
+participant-row : (ps : List Participant) (p : ℕ) → p < length ps
+    → getD (map participantBytes ps) p [] ≡ participantBytes (participantIn ps p)
 participant-row ps p l = mapped-row participantBytes ps p _ l
 
 route-row : (rs : List Route) (i : ℕ) → i < length rs → getD (map routeBytes rs) i [] ≡ routeBytes (rowOf rs i)
@@ -51,7 +62,8 @@ module _ (ps : List Participant) (rs : List Route) (ts : List (List ℕ)) (w : W
       rw (route-row rs i k) (route-length (rowOf rs i) (w .routeBic i k))
 
   participants-length : length (participantsBytes ps) ≡ 24 * length ps
-  participants-length = joined-length 24 (map participantBytes ps) participants-wide ∙ ap (λ (k : ℕ). 24 * k) (length-map ps participantBytes)
+  participants-length =
+      joined-length 24 (map participantBytes ps) participants-wide ∙ ap (λ (k : ℕ). 24 * k) (length-map ps participantBytes)
 
   routes-length : length (routesBytes rs) ≡ 16 * length rs
   routes-length = joined-length 16 (map routeBytes rs) routes-wide ∙ ap (λ (k : ℕ). 16 * k) (length-map rs routeBytes)
@@ -62,7 +74,8 @@ module _ (ps : List Participant) (rs : List Route) (ts : List (List ℕ)) (w : W
       let r = routes-length in
       let t = joined-length 108 ts (w .ticket) in
       length-append (headerBytes header) (participantsBytes ps ++ (routesBytes rs ++ joined ts))
-      ∙ ap (λ (k : ℕ). 12 + k) (length-append (participantsBytes ps) (routesBytes rs ++ joined ts) ∙ ap (λ (k : ℕ). length (participantsBytes ps) + k) (length-append (routesBytes rs) (joined ts)))
+      ∙ ap (λ (k : ℕ). 12 + k) (length-append (participantsBytes ps) (routesBytes rs ++ joined ts)
+      ∙ ap (λ (k : ℕ). length (participantsBytes ps) + k) (length-append (routesBytes rs) (joined ts)))
       ∙ omega arith
 
   -- where the sections lie
@@ -70,11 +83,13 @@ module _ (ps : List Participant) (rs : List Route) (ts : List (List ℕ)) (w : W
   participants-held = held-behind (headerBytes header) (held-first (participantsBytes ps) _)
 
   routes-held : HoldsAt file (routesPlace counts) (routesBytes rs)
-  routes-held = held-at (held-behind (headerBytes header) (held-behind (participantsBytes ps) (held-first (routesBytes rs) _))) (let p = participants-length in omega arith)
+  routes-held = held-at (held-behind (headerBytes header) (held-behind (participantsBytes ps) (held-first (routesBytes rs) _)))
+      (let p = participants-length in omega arith)
 
   tickets-held : HoldsAt file (ticketsPlace counts) (joined ts)
   tickets-held =
-      held-at (held-behind (headerBytes header) (held-behind (participantsBytes ps) (held-behind (routesBytes rs) (held-whole (joined ts)))))
+      held-at
+      (held-behind (headerBytes header) (held-behind (participantsBytes ps) (held-behind (routesBytes rs) (held-whole (joined ts)))))
       (let p = participants-length in let r = routes-length in omega arith)
 
   -- a row of each

@@ -116,10 +116,12 @@ module _ (f : List ℕ) (h : Header) (head : headed f ≡ As h) where
   pub file-ranged : ranged h ≡ Within → dayFile f ≡ filePlaced h f (placed h (length f))
   file-ranged range = file-headed ∙ ap (fileRanged h f) range
 
-  pub file-placed : ranged h ≡ Within → placed h (length f) ≡ Right → dayFile f ≡ fileEnrolled h f (enrolled (h .offsets .participants) (h .counts .participants) f)
+  pub file-placed : ranged h ≡ Within → placed h (length f) ≡ Right
+      → dayFile f ≡ fileEnrolled h f (enrolled (h .offsets .participants) (h .counts .participants) f)
   file-placed range place = file-ranged range ∙ ap (filePlaced h f) place
 
-  pub file-accepted : ranged h ≡ Within → placed h (length f) ≡ Right → participantsOk (h .offsets .participants) (h .counts .participants) f ≡ true
+  pub file-accepted : ranged h ≡ Within → placed h (length f) ≡ Right
+      → participantsOk (h .offsets .participants) (h .counts .participants) f ≡ true
       → routesOk (h .counts .participants) (h .offsets .routes) (h .counts .routes) f ≡ true → dayFile f ≡ acceptedFile h f
   file-accepted range place participants routes =
       file-placed range place
@@ -164,9 +166,11 @@ file-outcome f = from-head (headed f) refl
         })
     from-routes h e₁ e₂ e₃ true e₄ false e₅ =
         refused-by f 5 (omega arith)
-        (file-placed f h e₁ e₂ e₃ ∙ ap (λ (b : Bool). fileEnrolled h f (cond b participants-are.Right participants-are.Wrong)) e₄ ∙ ap (λ (b : Bool). fileRouted h f (cond b routes-are.Right routes-are.Wrong)) e₅)
+        (file-placed f h e₁ e₂ e₃ ∙ ap (λ (b : Bool). fileEnrolled h f (cond b participants-are.Right participants-are.Wrong)) e₄
+        ∙ ap (λ (b : Bool). fileRouted h f (cond b routes-are.Right routes-are.Wrong)) e₅)
     from-routes h e₁ e₂ e₃ false e₄ r e₅ =
-        refused-by f 4 (omega arith) (file-placed f h e₁ e₂ e₃ ∙ ap (λ (b : Bool). fileEnrolled h f (cond b participants-are.Right participants-are.Wrong)) e₄)
+        refused-by f 4 (omega arith)
+        (file-placed f h e₁ e₂ e₃ ∙ ap (λ (b : Bool). fileEnrolled h f (cond b participants-are.Right participants-are.Wrong)) e₄)
 
     from-place : (h : Header) → headed f ≡ As h → ranged h ≡ Within → (p : Placed) → placed h (length f) ≡ p → Accepted f ⊎ Refused f
     from-place h e₁ e₂ Right e₃ = from-routes h e₁ e₂ e₃ _ refl _ refl
@@ -182,4 +186,5 @@ file-outcome f = from-head (headed f) refl
 
 pub passing-accepted : (f : List ℕ) → dayFile f .refusal ≡ 0 → Accepted f
 passing-accepted f z =
-    ⊎-elim (λ (a : Accepted f). a) (λ (r : Refused f). absurd (let e = r .some in let w = ap (λ (d : DayFile). d .refusal) (r .file) in omega arith)) (file-outcome f)
+    ⊎-elim (λ (a : Accepted f). a)
+    (λ (r : Refused f). absurd (let e = r .some in let w = ap (λ (d : DayFile). d .refusal) (r .file) in omega arith)) (file-outcome f)

@@ -13,7 +13,18 @@ use Rattle.fields.specs.Number.{part, numberAt, bytesOf}
 use Rattle.fields.proofs.Holding.{HoldsAt, held-first, held-behind, held-in, held-at, held-part, held-byte, held-number}
 use Rattle.dayfile.specs.FileLimits.{mostOpening}
 use Rattle.dayfile.specs.FileRows.{participantOk, boundOf, routeOk}
-use Rattle.dayfile.specs.Roster.{partyNumber, wishNumber, openingNumber, targetKind, targetNumber, kindOf, openingOf, targetOf, participantAt, routeAt}
+use Rattle.dayfile.specs.Roster.{
+  partyNumber,
+  wishNumber,
+  openingNumber,
+  targetKind,
+  targetNumber,
+  kindOf,
+  openingOf,
+  targetOf,
+  participantAt,
+  routeAt,
+}
 use Rattle.dayfile.specs.Guarantee.{OpeningWithin, LeadsWithin}
 use Rattle.dayfile.specs.FileWriting.{participantBytes, routeBytes}
 use Rattle.dayfile.specs.declared.roster.PartyKind.{PartyKind}
@@ -63,7 +74,8 @@ target-bound : (size own : ℕ) (t : Target) → LeadsWithin size own t → targ
 target-bound size own (To p) h = h
 target-bound size own (Row k) h = h
 
-module _ (f : List ℕ) (at : ℕ) (q : Participant) (h : HoldsAt f at (participantBytes q)) (bic : isBic (q .bic) ≡ true) (within : OpeningWithin (q .opening)) where
+module _ (f : List ℕ) (at : ℕ) (q : Participant) (h : HoldsAt f at (participantBytes q)) (bic : isBic (q .bic) ≡ true)
+    (within : OpeningWithin (q .opening)) where
   long : length (q .bic) ≡ 11
   long = bic-length (q .bic) bic
 
@@ -84,7 +96,8 @@ module _ (f : List ℕ) (at : ℕ) (q : Participant) (h : HoldsAt f at (particip
       held-byte (at + 20)
       (held-at
       (held-in h
-      (held-behind (q .bic) (held-behind (partyNumber (q .kind) ∷ []) (held-behind (bytesOf 8 (openingNumber (q .opening))) (held-first _ _)))))
+      (held-behind (q .bic)
+      (held-behind (partyNumber (q .kind) ∷ []) (held-behind (bytesOf 8 (openingNumber (q .opening))) (held-first _ _)))))
       (let l = long in omega arith))
 
   spare-at : part 3 (at + 21) f ≡ 0 ∷ 0 ∷ 0 ∷ []
@@ -94,7 +107,8 @@ module _ (f : List ℕ) (at : ℕ) (q : Participant) (h : HoldsAt f at (particip
       (held-in h
       (held-behind (q .bic)
       (held-behind (partyNumber (q .kind) ∷ [])
-      (held-behind (bytesOf 8 (openingNumber (q .opening))) (held-behind (wishNumber (q .opening) ∷ []) (held-first (0 ∷ 0 ∷ 0 ∷ []) []))))))
+      (held-behind (bytesOf 8 (openingNumber (q .opening)))
+      (held-behind (wishNumber (q .opening) ∷ []) (held-first (0 ∷ 0 ∷ 0 ∷ []) []))))))
       (let l = long in omega arith))
       refl
 
@@ -130,7 +144,8 @@ module _ (f : List ℕ) (at size own : ℕ) (r : Route) (h : HoldsAt f at (route
   target-at : numberAt 2 (at + 12) f ≡ targetNumber (r .target)
   target-at =
       held-number 2 (at + 12) (targetNumber (r .target))
-      (held-at (held-in h (held-behind (r .bic) (held-behind (targetKind (r .target) ∷ []) (held-first _ _)))) (let l = reach in omega arith))
+      (held-at (held-in h (held-behind (r .bic) (held-behind (targetKind (r .target) ∷ []) (held-first _ _))))
+      (let l = reach in omega arith))
       small
 
   route-spare-at : part 2 (at + 14) f ≡ 0 ∷ 0 ∷ []
@@ -138,7 +153,8 @@ module _ (f : List ℕ) (at size own : ℕ) (r : Route) (h : HoldsAt f at (route
       held-part 2 (at + 14)
       (held-at
       (held-in h
-      (held-behind (r .bic) (held-behind (targetKind (r .target) ∷ []) (held-behind (bytesOf 2 (targetNumber (r .target))) (held-first (0 ∷ 0 ∷ []) [])))))
+      (held-behind (r .bic)
+      (held-behind (targetKind (r .target) ∷ []) (held-behind (bytesOf 2 (targetNumber (r .target))) (held-first (0 ∷ 0 ∷ []) [])))))
       (let l = reach in omega arith))
       refl
 

@@ -31,7 +31,8 @@ use Rattle.dayfile.specs.declared.roster.Route.{Route}
 -- 01: BIC, kind, opening (8), wish 0 or 1, three zero
 abbrev pub participantBytes : Participant → List ℕ
 participantBytes q =
-    q .bic ++ ((partyNumber (q .kind) ∷ []) ++ (bytesOf 8 (openingNumber (q .opening)) ++ ((wishNumber (q .opening) ∷ []) ++ (0 ∷ 0 ∷ 0 ∷ []))))
+    q .bic ++ ((partyNumber (q .kind) ∷ [])
+    ++ (bytesOf 8 (openingNumber (q .opening)) ++ ((wishNumber (q .opening) ∷ []) ++ (0 ∷ 0 ∷ 0 ∷ []))))
 
 -- 01: BIC, kind, k (2), two zero
 abbrev pub routeBytes : Route → List ℕ

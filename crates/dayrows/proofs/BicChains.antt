@@ -81,7 +81,8 @@ module _ (start width n at bucket : ℕ) (f heads links : List ℕ) (s : BicSear
             w .left
             ∙ ap (λ (k : ℕ). found || anyTo rowHasBic k) (add-one i)
             ∙ swapped found (anyTo rowHasBic i) (rowHasBic i)
-            ∙ ap (λ (b : Bool). (found || rowHasBic i) || b) (any-told inBucket rowHasBic i (λ j l. in-bucket j) ∙ ap (anyTo rowHasBic) (sym e));
+            ∙ ap (λ (b : Bool). (found || rowHasBic i) || b) (any-told inBucket rowHasBic i (λ j l. in-bucket j)
+            ∙ ap (anyTo rowHasBic) (sym e));
         own = λ j q. eqb-true (bucketOf j) bucket (last-passes inBucket i j (sym e ∙ q));
       }
 

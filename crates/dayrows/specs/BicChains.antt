@@ -1,8 +1,8 @@
 -- Rows of a section found by chains: a row is in one of 251 buckets by its BIC.
---     bicBucket    the bucket of a BIC: what the sum of its first four bytes, the next four and the last three, each as a number, leaves by 251
---     bicIn        the BIC of a row of a section that starts at a place
---     BicSearchable   the first n rows of a section are chained, and a bucket is that of the BIC at a place
---     bicRepeats   one of the first n rows of a section has an earlier row's BIC
+--     bicBucket        the bucket of a BIC: what the sum of its bytes 0 to 3, 4 to 7 and 8 to 10, each as a number, leaves by 251
+--     bicIn            the BIC of a row of a section that starts at a place
+--     BicSearchable    the first n rows of a section are chained, and a bucket is that of the BIC at a place
+--     bicRepeats       one of the first n rows of a section has an earlier row's BIC
 -- Assumes nothing.
 use Prim.Native.Nat.{ℕ, _+_, _*_, _%_, _≤_, _<_}
 use mathlib.Core.Path.{_≡_}

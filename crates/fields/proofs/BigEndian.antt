@@ -2,7 +2,24 @@
 use mathlib.Core.Path.{_≡_, refl, sym, _∙_, ap, ap₂}
 use mathlib.Core.List.{List, [], _∷_, _++_}
 use Prim.Native.Nat.{ℕ, zero, suc, _+_, _*_, _/_, _%_, _^_, _≤_, _<_}
-use native.Mathlib.Nat.{zero-add, suc-add, add-mul, mul-assoc, mul-comm, add-assoc, zero-mul, one-mul, mul-pos, pow-succ', div-div-eq-div-mul, mod-mod-of-dvd, dvd-mul-left, mod-lt, mod-one, mod-eq-of-lt}
+use native.Mathlib.Nat.{
+  zero-add,
+  suc-add,
+  add-mul,
+  mul-assoc,
+  mul-comm,
+  add-assoc,
+  zero-mul,
+  one-mul,
+  mul-pos,
+  pow-succ',
+  div-div-eq-div-mul,
+  mod-mod-of-dvd,
+  dvd-mul-left,
+  mod-lt,
+  mod-one,
+  mod-eq-of-lt,
+}
 use native.Mathlib.Omega.{arith}
 use lib.Arith.{mod-mul, digits-div}
 use lib.Dec.{lit<}
@@ -17,7 +34,8 @@ number-append [] b = simp (zero-mul, zero-add)
 number-append (x ∷ a) b = simp (number-append a b, length-append a b, pow-add, add-mul, mul-assoc, add-assoc)
 
 -- v bytes and w behind them are two numbers
-pub numberAt-join : (v w at : ℕ) (s : List ℕ) → at + v + w ≤ length s → numberAt (v + w) at s ≡ numberAt v at s * 256 ^ w + numberAt w (at + v) s
+pub numberAt-join : (v w at : ℕ) (s : List ℕ) → at + v + w ≤ length s
+    → numberAt (v + w) at s ≡ numberAt v at s * 256 ^ w + numberAt w (at + v) s
 numberAt-join v w at s h =
     ap number (part-join v w at s)
     ∙ number-append (part v at s) (part w (at + v) s)
@@ -40,7 +58,8 @@ bytesOf-append zero w n = ap (λ (k : ℕ). bytesOf k n) (zero-add w)
 bytesOf-append (suc v) w n =
     ap (λ (k : ℕ). bytesOf k n) (suc-add v w)
     ∙ ap₂ _∷_
-    (ap (λ (k : ℕ). k % 256) (ap (λ (k : ℕ). n / k) (pow-add 256 v w ∙ mul-comm (256 ^ v) (256 ^ w)) ∙ sym (div-div-eq-div-mul n (256 ^ w) (256 ^ v))))
+    (ap (λ (k : ℕ). k % 256)
+    (ap (λ (k : ℕ). n / k) (pow-add 256 v w ∙ mul-comm (256 ^ v) (256 ^ w)) ∙ sym (div-div-eq-div-mul n (256 ^ w) (256 ^ v))))
     (bytesOf-append v w n)
 
 bytesOf-mod : (w m n : ℕ) → 0 < m → bytesOf w (n % (m * 256 ^ w)) ≡ bytesOf w n

@@ -40,7 +40,8 @@ pub none-chained : (buckets : ℕ) (bucketOf : ℕ → ℕ) (links : List ℕ) �
 none-chained buckets bucketOf links =
     record { head = λ h l. getD-replicate buckets h 0 0 l; link = λ i l. absurd (not-suc-le-zero l) }
 
-more-chained : {buckets : ℕ} {bucketOf : ℕ → ℕ} {n : ℕ} {heads links : List ℕ} → Chained buckets bucketOf n heads links → length heads ≡ buckets → n < length links
+more-chained : {buckets : ℕ} {bucketOf : ℕ → ℕ} {n : ℕ} {heads links : List ℕ} → Chained buckets bucketOf n heads links
+    → length heads ≡ buckets → n < length links
     → bucketOf n < buckets → Chained buckets bucketOf (n + 1) (set heads (bucketOf n) (n + 1)) (set links n (getD heads (bucketOf n) 0))
 more-chained {buckets} {bucketOf} {n} {heads} {links} c headed linked inside =
     record {
@@ -48,7 +49,8 @@ more-chained {buckets} {bucketOf} {n} {heads} {links} c headed linked inside =
       link = λ i l. ⊎-elim (own i) (before i l) (same-or-not i n);
     }
   where
-    here : (h : ℕ) → bucketOf n ≡ h → getD (set heads (bucketOf n) (suc n)) h 0 ≡ cond (eqb (bucketOf n) h) (suc n) (lastTo (λ j. eqb (bucketOf j) h) n)
+    here : (h : ℕ) → bucketOf n ≡ h
+        → getD (set heads (bucketOf n) (suc n)) h 0 ≡ cond (eqb (bucketOf n) h) (suc n) (lastTo (λ j. eqb (bucketOf j) h) n)
     here h e = rw (← e) (getD-set-same heads (bucketOf n) (suc n) 0 (rw headed inside) ∙ simp (eq-eqb (bucketOf n) (bucketOf n) refl))
 
     elsewhere : (h : ℕ) → h < buckets → (bucketOf n ≡ h → ⊥)
@@ -59,11 +61,13 @@ more-chained {buckets} {bucketOf} {n} {heads} {links} c headed linked inside =
     own : (i : ℕ) → i ≡ n → getD (set links n (getD heads (bucketOf n) 0)) i 0 ≡ lastTo (λ j. eqb (bucketOf j) (bucketOf i)) i
     own i e = rw e (getD-set-same links n (getD heads (bucketOf n) 0) 0 linked ∙ c .head (bucketOf n) inside)
 
-    before : (i : ℕ) → i < n + 1 → (i ≡ n → ⊥) → getD (set links n (getD heads (bucketOf n) 0)) i 0 ≡ lastTo (λ j. eqb (bucketOf j) (bucketOf i)) i
+    before : (i : ℕ) → i < n + 1 → (i ≡ n → ⊥)
+        → getD (set links n (getD heads (bucketOf n) 0)) i 0 ≡ lastTo (λ j. eqb (bucketOf j) (bucketOf i)) i
     before i l other = getD-set-other links n i (getD heads (bucketOf n) 0) 0 other ∙ c .link i (omega arith)
 
 -- as the code leaves heads and links
-pub enchained : {buckets : ℕ} {bucketOf : ℕ → ℕ} {n b : ℕ} {heads links heads′ links′ : List ℕ} → Chained buckets bucketOf n heads links → length heads ≡ buckets
+pub enchained : {buckets : ℕ} {bucketOf : ℕ → ℕ} {n b : ℕ} {heads links heads′ links′ : List ℕ}
+    → Chained buckets bucketOf n heads links → length heads ≡ buckets
     → n < length links → b ≡ bucketOf n → b < buckets → heads′ ≡ set heads b (n + 1) → links′ ≡ set links n (getD heads b 0)
     → Chained buckets bucketOf (n + 1) heads′ links′
 enchained {buckets} {bucketOf} {n} {b} {heads} {links} c headed linked is inside new-heads new-links =
@@ -71,7 +75,8 @@ enchained {buckets} {bucketOf} {n} {b} {heads} {links} c headed linked is inside
     (sym (new-links ∙ ap (λ (x : ℕ). set links n (getD heads x 0)) is)) (more-chained c headed linked (rw (← is) inside))
 
 -- the same buckets make the same chains
-pub same-chained : {buckets : ℕ} {f g : ℕ → ℕ} {n : ℕ} {heads links : List ℕ} → Chained buckets f n heads links → ((i : ℕ) → i < n → f i ≡ g i) → Chained buckets g n heads links
+pub same-chained : {buckets : ℕ} {f g : ℕ → ℕ} {n : ℕ} {heads links : List ℕ} → Chained buckets f n heads links
+    → ((i : ℕ) → i < n → f i ≡ g i) → Chained buckets g n heads links
 same-chained {buckets} {f} {g} {n} c e =
     record {
       head = λ h l. c .head h l ∙ last-same (λ j. eqb (f j) h) (λ j. eqb (g j) h) n (λ j k. ap (λ (b : ℕ). eqb b h) (e j k));

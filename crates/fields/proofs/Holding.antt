@@ -66,7 +66,8 @@ mapped-row f (x ∷ l) (suc i) d h = mapped-row f l i d (omega arith)
 
 -- rows of one width
 module _ (w : ℕ) where
-  pub joined-length : (rows : List (List ℕ)) → ((i : ℕ) → i < length rows → length (getD rows i []) ≡ w) → length (joined rows) ≡ w * length rows
+  pub joined-length : (rows : List (List ℕ)) → ((i : ℕ) → i < length rows → length (getD rows i []) ≡ w)
+      → length (joined rows) ≡ w * length rows
   joined-length [] h = sym (mul-zero w)
   joined-length (s ∷ rows) h =
       let first : length s ≡ w = h 0 (omega arith) in

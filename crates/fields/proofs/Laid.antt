@@ -37,7 +37,8 @@ module _ {A : Type 0} (w : ℕ) (bytes : A → List ℕ) (width : (a : A) → le
   rows-more (x ∷ l) a = ap (λ (t : List ℕ). bytes x ++ t) (rows-more l a) ∙ sym (append-assoc (bytes x) (joined (map bytes l)) (bytes a))
 
   -- laying down keeps the list's length
-  pub length-rows-laid : (l : List A) (s : List ℕ) → w * length l ≤ length s → length (joined (map bytes l) ++ drop (w * length l) s) ≡ length s
+  pub length-rows-laid : (l : List A) (s : List ℕ) → w * length l ≤ length s
+      → length (joined (map bytes l) ++ drop (w * length l) s) ≡ length s
   length-rows-laid l s h = simp (length-append, length-drop, laid-length) (omega arith)
 
   -- one value more
@@ -45,7 +46,8 @@ module _ {A : Type 0} (w : ℕ) (bytes : A → List ℕ) (width : (a : A) → le
       → sets (joined (map bytes l) ++ drop (w * length l) s) (w * length l) (bytes a)
       ≡ joined (map bytes (l ++ (a ∷ []))) ++ drop (w * length (l ++ (a ∷ []))) s
   rows-laid-more l s a h =
-      sets-behind (joined (map bytes l)) (bytes a) s (w * length l) (w * length (l ++ (a ∷ []))) (laid-length l) (ap length (sym (rows-more l a)) ∙ laid-length (l ++ (a ∷ []))) room
+      sets-behind (joined (map bytes l)) (bytes a) s (w * length l) (w * length (l ++ (a ∷ []))) (laid-length l)
+      (ap length (sym (rows-more l a)) ∙ laid-length (l ++ (a ∷ []))) room
       ∙ ap (λ (t : List ℕ). t ++ drop (w * length (l ++ (a ∷ []))) s) (sym (rows-more l a))
     where
       room : w * length (l ++ (a ∷ [])) ≤ length s
@@ -55,7 +57,8 @@ module _ {A : Type 0} (w : ℕ) (bytes : A → List ℕ) (width : (a : A) → le
   pub row-held : (l : List A) (t : List ℕ) (i : ℕ) (d : A) → i < length l → HoldsAt (joined (map bytes l) ++ t) (w * i) (bytes (getD l i d))
   row-held l t i d h =
       subst (HoldsAt (joined (map bytes l) ++ t) (w * i)) (mapped-row bytes l i d h)
-      (held-at (held-in (held-first (joined (map bytes l)) t) (joined-row w (map bytes l) i (rw (length-map l bytes) h) wide)) (zero-add (w * i)))
+      (held-at (held-in (held-first (joined (map bytes l)) t) (joined-row w (map bytes l) i (rw (length-map l bytes) h) wide))
+      (zero-add (w * i)))
     where
       wide : (j : ℕ) → j < length (map bytes l) → length (getD (map bytes l) j []) ≡ w
       wide j k = ap length (mapped-row bytes l j d (rw (length-map l bytes) at k)) ∙ width (getD l j d)

@@ -6,7 +6,21 @@ use native.Mathlib.Nat.{add-zero, zero-add, add-suc, suc-add, add-assoc}
 use native.Mathlib.Numerals.{add-one}
 use native.Mathlib.Omega.{arith}
 use lib.ListN.{length, getD, set, take, drop, length-drop, length-append}
-use lib.Seq.{set-at, append-snoc, take-suc, sets, sets-eq, take-at, drop-at, take-nil, take-take, take-add, drop-drop, drop-cons, length-take-le}
+use lib.Seq.{
+  set-at,
+  append-snoc,
+  take-suc,
+  sets,
+  sets-eq,
+  take-at,
+  drop-at,
+  take-nil,
+  take-take,
+  take-add,
+  drop-drop,
+  drop-cons,
+  length-take-le,
+}
 use Rattle.fields.specs.Number.{part}
 use Rattle.fields.proofs.FromFront.{left-from}
 
@@ -32,12 +46,14 @@ module _ (vs l : List ℕ) (i : ℕ) (h : i + length vs ≤ length l) where
   front = length-take-le i l (omega arith)
 
   sets-before : take i (sets l i vs) ≡ take i l
-  sets-before = ap (take i) (sets-eq vs l i h ∙ append-assoc (take i l) vs (drop (i + length vs) l)) ∙ take-at (take i l) (vs ++ drop (i + length vs) l) i front
+  sets-before = ap (take i) (sets-eq vs l i h ∙ append-assoc (take i l) vs (drop (i + length vs) l))
+      ∙ take-at (take i l) (vs ++ drop (i + length vs) l) i front
 
   sets-after : drop (i + length vs) (sets l i vs) ≡ drop (i + length vs) l
   sets-after =
       ap (drop (i + length vs)) (sets-eq vs l i h)
-      ∙ drop-at (take i l ++ vs) (drop (i + length vs) l) (i + length vs) (length-append (take i l) vs ∙ ap (λ (k : ℕ). k + length vs) front)
+      ∙ drop-at (take i l ++ vs) (drop (i + length vs) l) (i + length vs)
+      (length-append (take i l) vs ∙ ap (λ (k : ℕ). k + length vs) front)
 
   pub sets-part : part (length vs) i (sets l i vs) ≡ vs
   sets-part =

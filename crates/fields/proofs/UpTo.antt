@@ -116,7 +116,9 @@ sum-beyond f m zero h z = ap (sumTo f) (sym (le-zero h))
 sum-beyond f m (suc n) h z =
     ⊎-elim
     (λ (q : m ≡ suc n). ap (sumTo f) (sym q))
-    (λ (l : m < suc n). let e = sum-beyond f m n (omega arith) (λ i a b. z i a (omega arith)) in let k = z n (omega arith) (omega arith) in omega arith)
+    (λ (l : m < suc n).
+    let e = sum-beyond f m n (omega arith) (λ i a b. z i a (omega arith)) in
+    let k = z n (omega arith) (omega arith) in omega arith)
     (eq-or-lt-of-le h)
 
 -- the sum of two is the two sums

@@ -24,16 +24,19 @@ none b a r = refl
 
 module _ (file answers₀ reports₀ : List ℕ) where
   by : {k : ℕ} {answers reports : List ℕ} (ss : List Step) → stepsTaken file (length answers₀) (length reports₀) ≡ ss → k ≡ length ss
-      → answers ≡ answersLaid (answersOf ss) answers₀ → reports ≡ laid (reportsIn ss) reports₀ → Stepped file answers₀ reports₀ k answers reports
+      → answers ≡ answersLaid (answersOf ss) answers₀ → reports ≡ laid (reportsIn ss) reports₀
+      → Stepped file answers₀ reports₀ k answers reports
   by ss e n a r = record { count = rw e n; answers-are = rw e a; reports-are = rw e r }
 
   refused : (dayFile file .refusal ≡ 0 → ⊥) → Stepped file answers₀ reports₀ 0 answers₀ reports₀
   refused h = by [] (rw (ne-eqb (dayFile file .refusal) 0 h) (none (bookOf file) (length answers₀) (length reports₀))) refl refl refl
 
   accepted : {c : Book} {k : ℕ} {answers reports : List ℕ} → dayFile file .refusal ≡ 0
-      → Ran (bookOf file) (drop (dayFile file .first) file) answers₀ reports₀ c k answers reports → Stepped file answers₀ reports₀ k answers reports
+      → Ran (bookOf file) (drop (dayFile file .first) file) answers₀ reports₀ c k answers reports
+      → Stepped file answers₀ reports₀ k answers reports
   accepted h w =
-      by (ran (bookOf file) (drop (dayFile file .first) file) (length answers₀) (length reports₀)) (rw (eq-eqb (dayFile file .refusal) 0 h) refl)
+      by (ran (bookOf file) (drop (dayFile file .first) file) (length answers₀) (length reports₀))
+      (rw (eq-eqb (dayFile file .refusal) 0 h) refl)
       (w .taken) (w .answers) (w .reports)
 
   -- of what was opened
@@ -41,7 +44,8 @@ module _ (file answers₀ reports₀ : List ℕ) where
     pub refused-stepped : (o .refusal ≡ 0 → ⊥) → Stepped file answers₀ reports₀ 0 answers₀ reports₀
     refused-stepped h = refused (λ z. h (ap (λ (x : Opened). x .refusal) e ∙ z))
 
-    pub accepted-stepped : {c : Book} {k : ℕ} {answers reports : List ℕ} → o .refusal ≡ 0 → Ran (o .book) (drop (o .first) file) answers₀ reports₀ c k answers reports
+    pub accepted-stepped : {c : Book} {k : ℕ} {answers reports : List ℕ} → o .refusal ≡ 0
+        → Ran (o .book) (drop (o .first) file) answers₀ reports₀ c k answers reports
         → Stepped file answers₀ reports₀ k answers reports
     accepted-stepped {c} {k} {answers} {reports} h w =
         accepted (sym (ap (λ (x : Opened). x .refusal) e) ∙ h)

@@ -1,7 +1,7 @@
 -- A day's tickets through the core.
 --     ticketSection    the tickets of a day file; none of a refused one
---     stepsTaken     the steps of those that are taken
---     Stepped        what is left behind by them: how many, and every byte of both buffers
+--     stepsTaken       the steps of those that are taken
+--     Stepped          what is left behind by them: how many, and every byte of both buffers
 -- Assumes nothing.
 use Prim.Native.Nat.{ℕ}
 use mathlib.Core.Path.{_≡_}

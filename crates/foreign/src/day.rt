@@ -32,7 +32,10 @@ fn put_piece(piece: &[u8], text: &mut [u8], at: usize)
 // for, and keeps its bytes behind them.
 #[no_mangle]
 pub extern "C" fn zolfigar_day(file: &[u8], text: &mut [u8]) -> usize
-    ensures { λ r. ⌜ (r ≡ length (output (now (file .entry)))) × (now (text .exit) ≡ lent (output (now (file .entry))) (now (text .entry))) ⌝ }
+    ensures { λ r.
+        ⌜
+        (r ≡ length (output (now (file .entry)))) × (now (text .exit) ≡ lent (output (now (file .entry))) (now (text .entry)))
+        ⌝ }
 {
     let mut piece = [0u8; batch::MOST_TEXT];
     let mut d = output::begin(file);

@@ -1,4 +1,4 @@
-// The verdict of each ticket's own step, and of a refused ticket. Each function equals a definition of `verdict`, in Step.antt.
+// The verdict of each ticket's own step, and of a refused ticket. Each function equals a definition of `verdict`, in OwnStep.antt.
 use rules::Recall;
 use rules::Status;
 use rules::decision::Move;
@@ -9,7 +9,25 @@ use rules::verdict::Notice;
 use rules::verdict::Verdict;
 ghost use mathlib.Core.Path.{_≡_};
 ghost use mathlib.Core.Bool.{cond};
-ghost use Rattle.verdict.specs.OwnStep.{notice, noNotice, refusedVerdict, nothing, coverMoved, opened, settled, turnedDown, marked, recalled, declined, returned, answerTold, markTold, answerAlso, answered, cutVerdict};
+ghost use Rattle.verdict.specs.OwnStep.{
+  notice,
+  noNotice,
+  refusedVerdict,
+  nothing,
+  coverMoved,
+  opened,
+  settled,
+  turnedDown,
+  marked,
+  recalled,
+  declined,
+  returned,
+  answerTold,
+  markTold,
+  answerAlso,
+  answered,
+  cutVerdict,
+};
 
 // All but the refusal is nothing.
 pub fn refused(n: u8) -> Verdict

@@ -59,7 +59,8 @@ module _ {s numbers scales : List ℕ} (f : FilledPairs s numbers scales) (h : l
       ∙ ap₂ spelt (carried-spelt n at k (omega arith)) (sym (part-two (2 * i) s (omega arith)))
       ∙ sym (spelt-append n before (part 2 (2 * i) s))
       ∙ ap (λ (t : List ℕ). spelt n t)
-      (sym (ap (λ (w : ℕ). part w (2 * at) s) (mul-suc 2 k) ∙ part-join (2 * k) 2 (2 * at) s ∙ ap (λ (p : ℕ). before ++ part 2 p s) doubled))
+      (sym (ap (λ (w : ℕ). part w (2 * at) s) (mul-suc 2 k) ∙ part-join (2 * k) 2 (2 * at) s
+      ∙ ap (λ (p : ℕ). before ++ part 2 p s) doubled))
 
   pub moved-spelt : carriedMoved numbers scales % 97 ≡ speltMoved s
   moved-spelt =

@@ -19,7 +19,8 @@ pub four-before : (a b c d : ℕ) (t : List ℕ) → blank t ≡ false → unpad
 four-before a b c d t e = simp (e, and-false)
 
 -- two letters, two digits, a byte that is used, and all before the padding are of the class
-wider : (ca cb dc dd la lb lc ld r : Bool) → (ca ≡ true → la ≡ true) → (cb ≡ true → lb ≡ true) → (dc ≡ true → lc ≡ true) → (dd ≡ true → ld ≡ true)
+wider : (ca cb dc dd la lb lc ld r : Bool) → (ca ≡ true → la ≡ true) → (cb ≡ true → lb ≡ true) → (dc ≡ true → lc ≡ true)
+    → (dd ≡ true → ld ≡ true)
     → (ca && cb && (dc && dd) && true && (la && (lb && (lc && (ld && r))))) ≡ (ca && (cb && true) && (dc && (dd && true)) && r)
 wider false cb dc dd la lb lc ld r p q s t = refl
 wider true false dc dd la lb lc ld r p q s t = refl
@@ -48,7 +49,8 @@ module _ (a b c d : ℕ) (t : List ℕ) (h : length t ≡ 30) where
       ∙ sym (ap ibanShape (four-before a b c d t e))
     where
       go : (z : Bool) → eqb (getD t 0 0) 0 ≡ z
-          → (isIn Capital a && isIn Capital b && (isIn Digit c && isIn Digit d) && not z && allIn LetterOrDigit (a ∷ b ∷ c ∷ d ∷ unpadded t))
+          → (isIn Capital a && isIn Capital b && (isIn Digit c && isIn Digit d) && not z
+          && allIn LetterOrDigit (a ∷ b ∷ c ∷ d ∷ unpadded t))
           ≡ ibanShape (a ∷ b ∷ c ∷ d ∷ unpadded t)
       go true z = simp (zero-inside LetterOrDigit t e z, and-false)
       go false z =

@@ -77,7 +77,8 @@ iban-tested s h = go (ibanShape (unpadded s)) refl
     passed f a e z = rw (and-left f a z, and-right f a z) (and-true e)
 
     go : (b : Bool) → ibanShape (unpadded s) ≡ b
-        → (ibanFront s && eqb (speltMoved s) 1 && allIn LetterOrDigit (unpadded s)) ≡ (ibanShape (unpadded s) && eqb (remainder (rearranged (unpadded s))) 1)
+        → (ibanFront s && eqb (speltMoved s) 1 && allIn LetterOrDigit (unpadded s))
+        ≡ (ibanShape (unpadded s) && eqb (remainder (rearranged (unpadded s))) 1)
     go true e =
         passed (ibanFront s) (allIn LetterOrDigit (unpadded s)) (eqb (speltMoved s) 1) (shape-padded s h ∙ e)
         ∙ ap (λ (n : ℕ). eqb n 1) (iban-number s h e)

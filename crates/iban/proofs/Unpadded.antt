@@ -39,7 +39,8 @@ module _ (s : List ℕ) (least : 5 ≤ length s) (most : length s ≤ 34) where
       ∙ ap isIban e
 
   spelt-value : allIn LetterOrDigit s ≡ true → unpadded (padded 34 s) ≡ s
-  spelt-value e = unpadded-padded 34 s ∙ unpadded-whole s (length s - 1) (omega arith) (none-zero LetterOrDigit s (length s - 1) e (omega arith))
+  spelt-value e =
+      unpadded-padded 34 s ∙ unpadded-whole s (length s - 1) (omega arith) (none-zero LetterOrDigit s (length s - 1) e (omega arith))
 
   iban-spelt : isIban s ≡ true → allIn LetterOrDigit s ≡ true
   iban-spelt e = and-right (ibanFront s && number) _ (tested (unpadded-padded 34 s ∙ iban-whole s e) ∙ e)

@@ -3,9 +3,9 @@
 --     digitsOf     that number written in decimal, one digit or two
 --     digits       the digits of all characters, one after the other
 --     readDecimal  digits read as one number, the last counting ones
---     remainder    what the number that characters spell leaves on division by 97
+--     remainder     what the number that characters spell leaves on division by 97
 --     rearranged    the first four characters put at the end
---     ibanShape    all that is asked of an IBAN but its number
+--     ibanShape     all that is asked of an IBAN but its number
 -- Assumes nothing.
 use Prim.Native.Nat.{ℕ, _+_, _-_, _*_, _/_, _%_, _^_}
 use Prim.Native.Char.{code}

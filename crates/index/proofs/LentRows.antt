@@ -28,7 +28,8 @@ use Rattle.index.proofs.Coded.{bic-bytes, txid-bytes}
 
 -- chains by the rows that hold the fields of a table are chains by the fields
 module _ {width n : ℕ} {field : ℕ → List ℕ} {rows heads links : List ℕ} (held : Indexed width field n rows) where
-  pub chained-fields : Chained rowBuckets (λ i. rowBucket (part width (width * i) rows)) n heads links → Chained rowBuckets (λ i. rowBucket (field i)) n heads links
+  pub chained-fields : Chained rowBuckets (λ i. rowBucket (part width (width * i) rows)) n heads links
+      → Chained rowBuckets (λ i. rowBucket (field i)) n heads links
   chained-fields c = same-chained c (λ i l. ap rowBucket (held .row i l))
 
 -- fields of one length, of bytes, told apart by their words
@@ -39,7 +40,8 @@ module _ (words : List ℕ → List ℕ) (wide : ℕ)
   found-by-words : (s : List ℕ) → length s ≡ wide → Bytes s → firstRow width n (words s) rows ≡ firstTo (λ i. same (field i) s) n
   found-by-words s as-long of-bytes =
       found-indexed held (words s)
-      ∙ first-same (λ i. same (words (field i)) (words s)) (λ i. same (field i) s) n (λ i l. tells (field i) s (long i l) as-long (bytes i l) of-bytes)
+      ∙ first-same (λ i. same (words (field i)) (words s)) (λ i. same (field i) s) n
+      (λ i l. tells (field i) s (long i l) as-long (bytes i l) of-bytes)
 
   differ-by-words : ((i j : ℕ) → i < j → j < n → same (field i) (field j) ≡ false) → Distinct width n rows
   differ-by-words differ = distinct-rows held
@@ -68,7 +70,8 @@ module _ (bic : ℕ → List ℕ) {n : ℕ} {rows : List ℕ} (held : Indexed 2 
   bic-found = found-by-words bicWords 11 same-bics bic held long-bic bytes-of-bic
 
   pub bic-rows : {heads links : List ℕ} → ((i j : ℕ) → i < j → j < n → same (bic i) (bic j) ≡ false) → length heads ≡ rowBuckets
-      → n ≤ length links → 2 * n ≤ length rows → Chained rowBuckets (λ i. rowBucket (part 2 (2 * i) rows)) n heads links → BicRows n rows heads links
+      → n ≤ length links → 2 * n ≤ length rows → Chained rowBuckets (λ i. rowBucket (part 2 (2 * i) rows)) n heads links
+      → BicRows n rows heads links
   bic-rows differ headed linked long chained =
       record {
         headed = headed;
@@ -89,7 +92,8 @@ module _ (txid : ℕ → List ℕ) {n : ℕ} {rows : List ℕ} (held : Indexed 5
   txid-found = found-by-words txidWords 35 same-txids txid held wide bytes-of-txid
 
   pub txid-rows : {heads links : List ℕ} → ((i j : ℕ) → i < j → j < n → same (txid i) (txid j) ≡ false) → length heads ≡ rowBuckets
-      → n ≤ length links → 5 * n ≤ length rows → Chained rowBuckets (λ i. rowBucket (part 5 (5 * i) rows)) n heads links → TxidRows n rows heads links
+      → n ≤ length links → 5 * n ≤ length rows → Chained rowBuckets (λ i. rowBucket (part 5 (5 * i) rows)) n heads links
+      → TxidRows n rows heads links
   txid-rows differ headed linked long chained =
       record {
         headed = headed;

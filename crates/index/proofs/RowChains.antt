@@ -40,7 +40,8 @@ found-already : (f : Found) (n : ℕ) → foundOr f n false ≡ f
 found-already (At i) n = refl
 found-already Nothing n = refl
 
-first-last : (test : ℕ → Bool) (n : ℕ) → ((i j : ℕ) → i < j → j < n → test i ≡ true → test j ≡ false) → firstTo test n ≡ lastFound (lastTo test n)
+first-last : (test : ℕ → Bool) (n : ℕ) → ((i j : ℕ) → i < j → j < n → test i ≡ true → test j ≡ false)
+    → firstTo test n ≡ lastFound (lastTo test n)
 first-last test zero alone = refl
 first-last test (suc n) alone = go (test n) refl (first-last test n (λ i j l k. alone i j l (omega arith)))
   where
@@ -59,8 +60,10 @@ pub distinct-rows : {width n : ℕ} {field : ℕ → List ℕ} {rows : List ℕ}
 distinct-rows h d = record { differ = λ i j l k. rw (h .row i (omega arith), h .row j k) (d i j l k) }
 
 -- buckets by the bytes of rows: a row that holds a field is in the field's bucket
-pub searchable : (bucketOf : List ℕ → ℕ) {width n : ℕ} {heads links rows : List ℕ} → Chained rowBuckets (λ i. bucketOf (part width (width * i) rows)) n heads links
-    → length heads ≡ rowBuckets → n ≤ length links → width * n ≤ length rows → Distinct width n rows → (field : List ℕ) (b : ℕ) → b ≡ bucketOf field → b < rowBuckets
+pub searchable : (bucketOf : List ℕ → ℕ) {width n : ℕ} {heads links rows : List ℕ}
+    → Chained rowBuckets (λ i. bucketOf (part width (width * i) rows)) n heads links
+    → length heads ≡ rowBuckets → n ≤ length links → width * n ≤ length rows → Distinct width n rows → (field : List ℕ) (b : ℕ)
+    → b ≡ bucketOf field → b < rowBuckets
     → RowSearchable width n b heads links rows field
 searchable bucketOf {width} {n} {heads} {links} {rows} c headed linked long distinct field b is inside =
     record {
@@ -130,7 +133,8 @@ module _ (width n bucket : ℕ) (heads links rows field : List ℕ) (s : RowSear
       go : (b : Bool) → rowHolds j ≡ b → b ≡ false
       go true q =
           never
-          (sym (ap₂ same (same-true (part width (width * i) rows) field e) (same-true (part width (width * j) rows) field q) ∙ same-refl field)
+          (sym (ap₂ same (same-true (part width (width * i) rows) field e) (same-true (part width (width * j) rows) field q)
+          ∙ same-refl field)
           ∙ s .distinct .differ i j l k)
       go false q = refl
 

@@ -1,10 +1,10 @@
 -- Rows of words found by chains: a row is in one of 509 buckets by its words.
---     added        a sum, above 64 bits left off
---     addedTo      words added to a number, one after the other
---     rowBucket    the bucket of a row of words: what their sum leaves by 509
---     lastFound    one more than a row's number, or 0 for none, as what a search finds
---     Distinct     no two of the first n rows hold the same
---     RowSearchable   a search for a field in a bucket finds the row that holds it
+--     added            a sum, above 64 bits left off
+--     addedTo          words added to a number, one after the other
+--     rowBucket        the bucket of a row of words: what their sum leaves by 509
+--     lastFound        one more than a row's number, or 0 for none, as what a search finds
+--     Distinct         no two of the first n rows hold the same
+--     RowSearchable    a search for a field in a bucket finds the row that holds it
 -- Assumes nothing.
 use Prim.Native.Nat.{ℕ, zero, suc, _+_, _*_, _%_, _^_, _≤_, _<_}
 use mathlib.Core.Path.{_≡_}

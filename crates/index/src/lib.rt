@@ -101,7 +101,8 @@ pub fn find_txid(heads: &[u16], links: &[u16], rows: &[u64], n: usize, txid: &[u
 // The TxId of a new order i, in its bucket's chain.
 pub fn put_txid(heads: &mut [u16], links: &mut [u16], rows: &mut [u64], i: usize, txid: &[u8])
     requires { ⌜
-        (length (now heads) ≡ rowBuckets) × (i < length (now links)) × (i < 65535) × (5 * i + 5 ≤ length (now rows)) × (length (now txid) ≡ 35)
+        (length (now heads) ≡ rowBuckets) × (i < length (now links)) × (i < 65535) × (5 * i + 5 ≤ length (now rows))
+        × (length (now txid) ≡ 35)
         ⌝ }
     ensures { λ _.
         ⌜

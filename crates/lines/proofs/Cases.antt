@@ -29,7 +29,12 @@ cases =
       given = 18 ∷ 0 ∷ 2 ∷ 0 ∷ 0 ∷ 0 ∷ 1 ∷ 0 ∷ [];
       due = text "T 2 18 2 0\nR 0 4 0 400\nR 1 4 0 400\nT 3 0 1 0\nR 0 4 0 400\n";
     }
-    ∷ record { shows = "D: covers"; rule = λ _. coversTo (has 600 ∷ has 400 ∷ has 7 ∷ []) 2; given = []; due = text "C 0 600 0 0\nC 1 400 0 0\n" }
+    ∷ record {
+      shows = "D: covers";
+      rule = λ _. coversTo (has 600 ∷ has 400 ∷ has 7 ∷ []) 2;
+      given = [];
+      due = text "C 0 600 0 0\nC 1 400 0 0\n";
+    }
     ∷ record { shows = "refused"; rule = λ _. refusalLine 5; given = []; due = text "F 5\n" }
     ∷ record { shows = "zero"; rule = λ _. decimal 0; given = []; due = text "0" }
     ∷ record { shows = "the greatest"; rule = λ _. decimal 18446744073709551615; given = []; due = text "18446744073709551615" }

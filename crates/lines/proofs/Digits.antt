@@ -31,7 +31,8 @@ decimal-one n h = ap (λ (b : Bool). with-last n b (digitsTo 19 (n / 10))) (lt-l
 pub decimal-more : (n : ℕ) → 10 ≤ n → n < 10 ^ 20 → decimal n ≡ decimal (n / 10) ++ ((48 + n % 10) ∷ [])
 unfolding decimal
 decimal-more n h l =
-    ap (λ (b : Bool). with-last n b (digitsTo 19 (n / 10))) (le-ltb n 10 h) ∙ ap (with-last n false) (sym (digits-all 18 (n / 10) (tenth 18 n l)))
+    ap (λ (b : Bool). with-last n b (digitsTo 19 (n / 10))) (le-ltb n 10 h)
+    ∙ ap (with-last n false) (sym (digits-all 18 (n / 10) (tenth 18 n l)))
 
 -- and how many they are
 pub decimal-length-one : (n : ℕ) → n < 10 → length (decimal n) ≡ 1

@@ -17,7 +17,8 @@ length-numbers n ns = ap length (numbers-more n ns) ∙ length-append (32 ∷ de
 numbers-one : (a : ℕ) → length (numbers (a ∷ [])) ≡ 2 + length (decimal a)
 numbers-one a = let e = length-numbers a [] in let l = ap length numbers-none in omega arith
 
-numbers-four : (a b c d : ℕ) → length (numbers (a ∷ b ∷ c ∷ d ∷ [])) ≡ 5 + length (decimal a) + length (decimal b) + length (decimal c) + length (decimal d)
+numbers-four : (a b c d : ℕ)
+    → length (numbers (a ∷ b ∷ c ∷ d ∷ [])) ≡ 5 + length (decimal a) + length (decimal b) + length (decimal c) + length (decimal d)
 numbers-four a b c d =
     let e = length-numbers a (b ∷ c ∷ d ∷ []) in
     let f = length-numbers b (c ∷ d ∷ []) in

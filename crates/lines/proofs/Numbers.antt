@@ -30,7 +30,8 @@ module _ {s₀ s : List ℕ} {at end : ℕ} {ns : List ℕ} {i : ℕ} (b : Begun
   pub number-room : i < length ns → at + length (numbers ns) ≤ length s₀ → end + length (32 ∷ decimal (getD ns i 0)) ≤ length s
   number-room h r = let l = next-length ns i h in let p = b .place in let k = b .kept in omega arith
 
-  pub number-more : {t : List ℕ} {r : ℕ} → i < length ns → Written s t end (32 ∷ decimal (getD ns i 0)) r → length t ≡ length s → Begun s₀ t at r ns (i + 1)
+  pub number-more : {t : List ℕ} {r : ℕ} → i < length ns → Written s t end (32 ∷ decimal (getD ns i 0)) r → length t ≡ length s
+      → Begun s₀ t at r ns (i + 1)
   number-more {t} {r} h w k =
       record {
         within = omega arith;

@@ -123,7 +123,8 @@ module _ (ss : List Step) (A R answers reports : List ℕ)
         start = refl;
         answered =
             λ j l.
-            ap₂ answerAt laid-answers (zero-add j) ∙ answer-reads-back (answersOf ss) A j noAnswer answers-fit (rw (length-map ss answerOf) l);
+            ap₂ answerAt laid-answers (zero-add j)
+            ∙ answer-reads-back (answersOf ss) A j noAnswer answers-fit (rw (length-map ss answerOf) l);
         reported = λ j l. ap₂ reportAt laid-reports (zero-add j) ∙ report-laid (reportsIn ss) R j noReport reports-fit l;
       }
 
@@ -134,4 +135,5 @@ module _ (ss : List Step) (A R answers reports : List ℕ)
       ∙ ap (λ (n : ℕ). linesFrom n ss) (add-zero k)
 
   pub starts-are : startOf answers (length ss) ≡ length (reportsIn ss)
-  starts-are = ap (startOf answers) (sym (zero-add (length ss))) ∙ starts-from answers reports ss 0 0 stand ∙ zero-add (length (reportsIn ss))
+  starts-are = ap (startOf answers) (sym (zero-add (length ss))) ∙ starts-from answers reports ss 0 0 stand
+      ∙ zero-add (length (reportsIn ss))

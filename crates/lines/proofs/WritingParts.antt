@@ -19,7 +19,8 @@ pub written-more : {s t u a b : List ℕ} {at m r : ℕ} → Written s t at a m 
 written-more {s} {t} {u} {a} {b} {at} {m} {r} v w =
     record {
       text = w .text ∙ ap₂ (λ (l : List ℕ) (k : ℕ). sets l k b) (v .text) (v .end) ∙ sym (sets-append s at a b);
-      end = w .end ∙ ap (λ (k : ℕ). k + length b) (v .end) ∙ add-assoc at (length a) (length b) ∙ ap (λ (k : ℕ). at + k) (sym (length-append a b));
+      end = w .end ∙ ap (λ (k : ℕ). k + length b) (v .end) ∙ add-assoc at (length a) (length b)
+          ∙ ap (λ (k : ℕ). at + k) (sym (length-append a b));
     }
 
 -- the text s₀ became s, as long: bytes stand from a place on, up to end
@@ -30,5 +31,6 @@ pub record Filled (s₀ s : List ℕ) (at : ℕ) (bytes : List ℕ) (end : ℕ) 
 pub filled-none : (s : List ℕ) (at : ℕ) → Filled s s at [] at
 filled-none s at = record { kept = refl; written = written-none s at }
 
-pub filled-behind : {s₀ s t a b : List ℕ} {at m r : ℕ} → Filled s₀ s at a m → Written s t m b r → length t ≡ length s → Filled s₀ t at (a ++ b) r
+pub filled-behind : {s₀ s t a b : List ℕ} {at m r : ℕ} → Filled s₀ s at a m → Written s t m b r → length t ≡ length s
+    → Filled s₀ t at (a ++ b) r
 filled-behind f w k = record { kept = k ∙ f .kept; written = written-more (f .written) w }

@@ -1,14 +1,16 @@
 -- The program's text, read off the buffers that answers and reports are laid down in.
---     answerLine    the line of a ticket with its number
---     reportLine    the line of a report
---     reportsTo     the lines of the first n reports from a number on
---     startOf       how many reports the first i answers count: the number of the report that ticket i's begin with
---     ticketText    the line of ticket i, and those of its reports
---     linesTo       the lines of the first i tickets, numbered from k on
---     coverLine     the line of a participant with its number
---     coversTo      the lines of the first n participants
---     longestLine    the longest line of a ticket or a report; longestCoverLine, longestRefusalLine: of a participant, of a refused day file
---     Lined         the lines of tickets can be written: their answers and reports stand in the buffers, and the text has room
+--     answerLine            the line of a ticket with its number
+--     reportLine            the line of a report
+--     reportsTo             the lines of the first n reports from a number on
+--     startOf               how many reports the first i answers count: the number of the report that ticket i's begin with
+--     ticketText            the line of ticket i, and those of its reports
+--     linesTo               the lines of the first i tickets, numbered from k on
+--     coverLine             the line of a participant with its number
+--     coversTo              the lines of the first n participants
+--     longestLine           the longest line of a ticket or a report
+--     longestCoverLine      of a participant
+--     longestRefusalLine    of a refused day file
+--     Lined                 the lines of tickets can be written: their answers and reports stand in the buffers, and the text has room
 -- Assumes nothing.
 use Prim.Native.Nat.{ℕ, zero, suc, _+_, _*_, _^_, _≤_, _<_}
 use mathlib.Core.List.{List, [], _∷_, _++_}

@@ -27,7 +27,10 @@ fn put_report_line(text: &mut [u8], at: usize, r: Report) -> usize
 // Those of n reports, from number from on.
 fn put_reports(text: &mut [u8], at: usize, reports: &[u8], from: usize, n: usize) -> usize
     requires { ⌜ (reportLength * (from + n) ≤ length (now reports)) × (at + longestLine * n ≤ length (now text)) ⌝ }
-    ensures { λ r. ⌜ Written (now (text .entry)) (now (text .exit)) at (reportsTo (now (reports .entry)) from n) r × (r ≤ at + longestLine * n) ⌝ }
+    ensures { λ r.
+        ⌜
+        Written (now (text .entry)) (now (text .exit)) at (reportsTo (now (reports .entry)) from n) r × (r ≤ at + longestLine * n)
+        ⌝ }
 {
     let mut end = at;
     let mut i = 0;
@@ -41,7 +44,11 @@ fn put_reports(text: &mut [u8], at: usize, reports: &[u8], from: usize, n: usize
 // Those of the ticket with number n, whose reports begin with number from.
 fn put_ticket(text: &mut [u8], at: usize, n: usize, a: Answer, reports: &[u8], from: usize) -> usize
     requires { ⌜ (reportLength * (from + a .reports) ≤ length (now reports)) × (at + longestLine * (1 + a .reports) ≤ length (now text)) ⌝ }
-    ensures { λ r. ⌜ Written (now (text .entry)) (now (text .exit)) at (ticketText n a (now (reports .entry)) from) r × (r ≤ at + longestLine * (1 + a .reports)) ⌝ }
+    ensures { λ r.
+        ⌜
+        Written (now (text .entry)) (now (text .exit)) at (ticketText n a (now (reports .entry)) from) r
+        × (r ≤ at + longestLine * (1 + a .reports))
+        ⌝ }
 {
     let end = put_answer_line(text, at, n, a);
     put_reports(text, end, reports, from, a.reports as usize)
@@ -50,7 +57,11 @@ fn put_ticket(text: &mut [u8], at: usize, n: usize, a: Answer, reports: &[u8], f
 // Those of taken tickets, numbered from k on.
 pub fn put_lines(k: usize, taken: usize, answers: &[u8], reports: &[u8], text: &mut [u8]) -> usize
     requires { ⌜ Lined k taken (now answers) (now reports) (now text) ⌝ }
-    ensures { λ r. ⌜ Written (now (text .entry)) (now (text .exit)) 0 (linesTo k taken (now (answers .entry)) (now (reports .entry))) r × (r ≤ length (now (text .entry))) ⌝ }
+    ensures { λ r.
+        ⌜
+        Written (now (text .entry)) (now (text .exit)) 0 (linesTo k taken (now (answers .entry)) (now (reports .entry))) r
+        × (r ≤ length (now (text .entry)))
+        ⌝ }
 {
     let mut at = 0;
     let mut from = 0;

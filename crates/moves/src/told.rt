@@ -12,7 +12,10 @@ ghost use Rattle.verdict.specs.Meaning.{reportBy, noticesTold};
 
 pub fn put_told(buffer: &mut [u8], n: usize, told: Told) -> usize
     requires { ⌜ reportLength * n + reportLength * length (listed told) ≤ length (now buffer) ⌝ }
-    ensures { λ r. ⌜ (now (buffer .exit) ≡ sets (now (buffer .entry)) (reportLength * n) (reportsBytes (listed told))) × (r ≡ n + length (listed told)) ⌝ }
+    ensures { λ r.
+        ⌜
+        (now (buffer .exit) ≡ sets (now (buffer .entry)) (reportLength * n) (reportsBytes (listed told))) × (r ≡ n + length (listed told))
+        ⌝ }
 {
     match told {
         Told::Nobody => n,

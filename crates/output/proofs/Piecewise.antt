@@ -25,7 +25,21 @@ use Rattle.lines.specs.Lines.{coversTo}
 use Rattle.lines.specs.Written.{Written}
 use Rattle.lines.proofs.ProgramText.{covers-are}
 use Rattle.output.specs.Batch.{batch, Batched}
-use Rattle.output.specs.Pieces.{begun, Under, stepsLeft, linesLeft, toPrint, nextBatch, pieceText, advanced, endedDay, dayAfter, turnsLeft, piecesTo, PieceOf}
+use Rattle.output.specs.Pieces.{
+  begun,
+  Under,
+  stepsLeft,
+  linesLeft,
+  toPrint,
+  nextBatch,
+  pieceText,
+  advanced,
+  endedDay,
+  dayAfter,
+  turnsLeft,
+  piecesTo,
+  PieceOf,
+}
 use Rattle.output.specs.declared.piece.Day.{Day}
 
 pub begun-under : (file : List ℕ) → Under file (begun file)
@@ -96,7 +110,8 @@ module _ (file : List ℕ) (d : Day) (u : Under file d) where
     splits : Split file (d .book) (d .taken) (d .tickets - d .taken) (nextBatch file d)
     unfolding batch
     splits =
-        subst (λ (n : ℕ). Split file (d .book) (d .taken) (d .tickets - d .taken) (ran (d .book) (drop (n + ticketLength * d .taken) file) 2048 12288))
+        subst (λ (n : ℕ). Split file (d .book) (d .taken) (d .tickets - d .taken)
+        (ran (d .book) (drop (n + ticketLength * d .taken) file) 2048 12288))
         (sym (u .first))
         (ran-splits file (d .book) (d .taken) (d .tickets - d .taken) 2048 12288
         (let e = u .end accepted in let f = u .first in let l = u .taken in omega arith))
@@ -127,7 +142,8 @@ module _ (file : List ℕ) (d : Day) (u : Under file d) where
       batch-first =
           left-taken file d going accepted
           ∙ ap (linesLeft d) (splits .steps)
-          ∙ ap₂ (λ (t : List ℕ) (c : Book). t ++ coverLines c (c .roster .size)) (lines-append (d .taken) ss rest) (after-append (d .book) ss rest)
+          ∙ ap₂ (λ (t : List ℕ) (c : Book). t ++ coverLines c (c .roster .size)) (lines-append (d .taken) ss rest)
+          (after-append (d .book) ss rest)
           ∙ append-assoc (linesFrom (d .taken) ss) (linesFrom (d .taken + length ss) rest) _
           ∙ ap (λ (ts : List Step). linesFrom (d .taken) ss ++ linesLeft after ts) same
           ∙ ap (λ (t : List ℕ). linesFrom (d .taken) ss ++ t) (sym (left-taken file after refl accepted))
@@ -177,7 +193,8 @@ module _ (file : List ℕ) (d : Day) (u : Under file d) where
         }
 
   pub refusal-piece : (d .refusal ≡ 0 → ⊥) → {text₀ text′ : List ℕ} {end : ℕ}
-      → Written text₀ text′ 0 (refusalLine (d .refusal)) end → end ≤ length text₀ → PieceOf file d text₀ (record { day = endedDay d; length = end }) text′
+      → Written text₀ text′ 0 (refusalLine (d .refusal)) end → end ≤ length text₀
+      → PieceOf file d text₀ (record { day = endedDay d; length = end }) text′
   refusal-piece refused {text₀} {text′} {end} w within =
       record {
         day = sym (refusal-day file d refused);
@@ -195,7 +212,11 @@ module _ (file : List ℕ) (d : Day) (u : Under file d) where
   last : d .ended ≡ false → pieceText file d ≡ toPrint file d → Next (endedDay d)
   unfolding toPrint
   last going all =
-      record { under = ended-under; less = let t = turns-going d going in omega arith; prints = sym all ∙ sym (append-nil (pieceText file d)) }
+      record {
+        under = ended-under;
+        less = let t = turns-going d going in omega arith;
+        prints = sym all ∙ sym (append-nil (pieceText file d));
+      }
 
   module _ (going : d .ended ≡ false) where
     next-accepted : d .refusal ≡ 0 → Next (dayAfter file d)
@@ -214,12 +235,14 @@ module _ (file : List ℕ) (d : Day) (u : Under file d) where
                     end = u .end;
                   };
               less = let s = some accepted more in let t = turns-going d going in omega arith;
-              prints = batch-first accepted going ∙ ap (λ (t : List ℕ). t ++ toPrint file (after accepted going)) (sym (batch-text file d accepted more));
+              prints = batch-first accepted going
+                  ∙ ap (λ (t : List ℕ). t ++ toPrint file (after accepted going)) (sym (batch-text file d accepted more));
             })
 
         covers-next : d .tickets ≤ d .taken → Next (dayAfter file d)
         covers-next none =
-            subst Next (sym (covers-day file d accepted none)) (last going (covers-text file d accepted none ∙ sym (covers-left accepted going none)))
+            subst Next (sym (covers-day file d accepted none))
+            (last going (covers-text file d accepted none ∙ sym (covers-left accepted going none)))
 
     next-refused : (d .refusal ≡ 0 → ⊥) → Next (dayAfter file d)
     next-refused refused =
@@ -235,9 +258,11 @@ pieces-print zero file d u few = go (d .ended) refl
     go : (z : Bool) → d .ended ≡ z → [] ≡ toPrint file d
     go true e = sym (ended-prints file d e)
     go false e = let t = turns-going d e in absurd (omega arith)
-pieces-print (suc n) file d u few = go (d .ended) refl (λ (x : Next file d u (dayAfter file d)). pieces-print n file (dayAfter file d) (x .under) (let l = x .less in omega arith))
+pieces-print (suc n) file d u few = go (d .ended) refl
+    (λ (x : Next file d u (dayAfter file d)). pieces-print n file (dayAfter file d) (x .under) (let l = x .less in omega arith))
   where
-    go : (z : Bool) → d .ended ≡ z → (Next file d u (dayAfter file d) → joined (piecesTo n file (dayAfter file d)) ≡ toPrint file (dayAfter file d))
+    go : (z : Bool) → d .ended ≡ z
+        → (Next file d u (dayAfter file d) → joined (piecesTo n file (dayAfter file d)) ≡ toPrint file (dayAfter file d))
         → joined (cond z [] (pieceText file d ∷ piecesTo n file (dayAfter file d))) ≡ toPrint file d
     go true e on = sym (ended-prints file d e)
     go false e on =

@@ -2,7 +2,20 @@
 use mathlib.Core.Path.{_≡_, sym, _∙_, ap, ap₂}
 use mathlib.Core.List.{List}
 use Prim.Native.Nat.{ℕ, zero, suc, _+_, _*_, _/_, _%_, _≤_}
-use native.Mathlib.Nat.{add-assoc, add-comm, add-zero, add-suc, add-mul, mul-assoc, mul-comm, mul-right-comm, mul-one, mul-le-mul, div-add-mod', mul-add-mod-self-right}
+use native.Mathlib.Nat.{
+  add-assoc,
+  add-comm,
+  add-zero,
+  add-suc,
+  add-mul,
+  mul-assoc,
+  mul-comm,
+  mul-right-comm,
+  mul-one,
+  mul-le-mul,
+  div-add-mod',
+  mul-add-mod-self-right,
+}
 use native.Mathlib.Omega.{arith}
 use lib.ListN.{getD}
 use Rattle.remainder.specs.Carried.{carried, scaled, carriedMoved}
@@ -78,7 +91,8 @@ module _ (numbers scales : List ℕ) where
   carried-on at j k {n} {by} {more} en eb em ex =
       ap (λ (r : ℕ). r % 97) ex
       ∙ mod-scaled n 97 by more
-      ∙ ap (λ (r : ℕ). r % 97) (ap₂ (λ (r b : ℕ). r * b + more) en eb ∙ ap (λ (m : ℕ). carried numbers scales 0 at j * scaled scales (at + j) k + m) em ∙ carried-parts at j k)
+      ∙ ap (λ (r : ℕ). r % 97) (ap₂ (λ (r b : ℕ). r * b + more) en eb
+      ∙ ap (λ (m : ℕ). carried numbers scales 0 at j * scaled scales (at + j) k + m) em ∙ carried-parts at j k)
 
   -- all of them, and the first two behind
   pub moved-carried : {a b c d e f g t u v x y m r : ℕ}

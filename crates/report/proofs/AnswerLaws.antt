@@ -32,8 +32,10 @@ answers-laid-more ans s a h = rows-laid-more 4 answerBytes answer-width ans s a 
 answer-held : (s : List ℕ) (k : ℕ) (a : Answer) → FittingAnswer a → HoldsAt s (4 * k) (answerBytes a) → answerAt s k ≡ a
 answer-held s k a f h =
     λ i. record {
-      refusal = held-byte (4 * k) (held-at (held-in h (held-first (a .refusal ∷ []) (bytesOf 2 (a .reports) ++ (a .rows ∷ [])))) (add-zero (4 * k))) i;
-      reports = held-number 2 (4 * k + 1) (a .reports) (held-in h (held-behind (a .refusal ∷ []) (held-first (bytesOf 2 (a .reports)) (a .rows ∷ [])))) (f .reports) i;
+      refusal = held-byte (4 * k)
+          (held-at (held-in h (held-first (a .refusal ∷ []) (bytesOf 2 (a .reports) ++ (a .rows ∷ [])))) (add-zero (4 * k))) i;
+      reports = held-number 2 (4 * k + 1) (a .reports)
+          (held-in h (held-behind (a .refusal ∷ []) (held-first (bytesOf 2 (a .reports)) (a .rows ∷ [])))) (f .reports) i;
       rows = held-byte (4 * k + 3) (held-in h (held-behind (a .refusal ∷ bytesOf 2 (a .reports)) (held-whole (a .rows ∷ [])))) i;
     }
 
@@ -42,6 +44,8 @@ fitting-at [] i d f h = absurd (not-suc-le-zero h)
 fitting-at (a ∷ ans) zero d f h = f .0
 fitting-at (a ∷ ans) (suc i) d f h = fitting-at ans i d (f .1) (omega arith)
 
-pub answer-reads-back : (ans : List Answer) (s : List ℕ) (i : ℕ) (d : Answer) → AllFittingAnswers ans → i < length ans → answerAt (answersLaid ans s) i ≡ getD ans i d
+pub answer-reads-back : (ans : List Answer) (s : List ℕ) (i : ℕ) (d : Answer) → AllFittingAnswers ans → i < length ans
+    → answerAt (answersLaid ans s) i ≡ getD ans i d
 answer-reads-back ans s i d f h =
-    answer-held (answersLaid ans s) i (getD ans i d) (fitting-at ans i d f h) (row-held 4 answerBytes answer-width ans (drop (4 * length ans) s) i d h)
+    answer-held (answersLaid ans s) i (getD ans i d) (fitting-at ans i d f h)
+    (row-held 4 answerBytes answer-width ans (drop (4 * length ans) s) i d h)

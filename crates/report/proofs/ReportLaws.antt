@@ -18,13 +18,15 @@ use Rattle.report.specs.ReportLayout.{reportBytes, reportAt, reportsByte
 use Rattle.report.specs.declared.Report.{Report}
 
 pub field-by-field : (s : List ℕ) (at : ℕ) (r : Report)
-    → sets (sets (set (set s at (r .to)) (at + 1) (r .code)) (at + 2) (bytesOf 2 (r .order))) (at + 4) (bytesOf 8 (r .amount)) ≡ sets s at (reportBytes r)
+    → sets (sets (set (set s at (r .to)) (at + 1) (r .code)) (at + 2) (bytesOf 2 (r .order))) (at + 4) (bytesOf 8 (r .amount))
+    ≡ sets s at (reportBytes r)
 field-by-field s at r = simp (add-one, add-two, add-four)
 
 -- a report's own bytes read back
 own-bytes : (r : Report) → FittingReport r → (t : List ℕ) → reportAt (reportBytes r ++ t) 0 ≡ r
 own-bytes r f t =
-    ap₂ (λ (o a : ℕ). record { to = r .to; code = r .code; order = o; amount = a }) (reads-back 2 (r .order) (f .order)) (reads-back 8 (r .amount) (f .amount))
+    ap₂ (λ (o a : ℕ). record { to = r .to; code = r .code; order = o; amount = a }) (reads-back 2 (r .order) (f .order))
+    (reads-back 8 (r .amount) (f .amount))
 
 -- report n is the report that its 12 bytes are
 in-place : (s : List ℕ) (n : ℕ) → reportAt (part 12 (12 * n) s) 0 ≡ reportAt s n
@@ -97,7 +99,8 @@ pub laid-further-at : (rs more : List Report) (s : List ℕ) (n : ℕ) → n ≡
 laid-further-at rs more s n e h = ap (λ (m : ℕ). sets (laid rs s) (12 * m) (reportsBytes more)) e ∙ laid-further rs more s (omega arith)
 
 -- report i of those laid down
-pub report-laid : (rs : List Report) (s : List ℕ) (i : ℕ) (d : Report) → AllFitting rs → i < length rs → reportAt (laid rs s) i ≡ getD rs i d
+pub report-laid : (rs : List Report) (s : List ℕ) (i : ℕ) (d : Report) → AllFitting rs → i < length rs
+    → reportAt (laid rs s) i ≡ getD rs i d
 report-laid rs s i d f h =
     sym (in-place (laid rs s) i)
     ∙ ap (λ (t : List ℕ). reportAt t 0) (held-part 12 (12 * i) held refl ∙ sym (append-nil (reportBytes (getD rs i d))))

@@ -1,10 +1,10 @@
 -- A report as 12 bytes, and reports in a buffer.
---     reportLength   its length
---     reportBytes    a report as bytes
---     reportAt       the report number n of a buffer
---     reportsBytes   reports one after the other
---     reportsOf      the first n reports of a buffer
---     laid           a buffer after reports are laid down from its start
+--     reportLength     its length
+--     reportBytes      a report as bytes
+--     reportAt         the report number n of a buffer
+--     reportsBytes     reports one after the other
+--     reportsOf        the first n reports of a buffer
+--     laid             a buffer after reports are laid down from its start
 --     FittingReport    a report's fields are numbers of their widths; AllFitting: those of each report
 -- Assumes nothing.
 use Prim.Native.Nat.{ℕ, zero, suc, _+_, _*_, _^_, _<_}

@@ -16,7 +16,9 @@ use Rattle.rules.proofs.Names.{bicA}
 
 -- one participant, a cent reserved and no order
 abbrev centOff : Book
-centOff = let b = bookOf (fileBytes (bank bicA ∷ []) [] []) in withCovers b (transferred (by 0 Reserve 1) (transferred (by 0 Give 1) (b .covers)))
+centOff =
+    let b = bookOf (fileBytes (bank bicA ∷ []) [] []) in
+    withCovers b (transferred (by 0 Reserve 1) (transferred (by 0 Give 1) (b .covers)))
 
 pub cent-off-not-sound : Sound centOff → ⊥
 unfolding isBic dayFile

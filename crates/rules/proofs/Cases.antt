@@ -74,5 +74,6 @@ abbrev pub cases : List Row
 cases = iban.cases ++ codes.cases ++ markedCases ++ edges ++ limits
 
 pub cases-met : AllMet cases
-unfolding isBic isIban isTxid reading dayFile followed senderIn orderIn routeIn wayIn anyOpen total tick stepOf handed decimal numbers output
+unfolding isBic isIban isTxid reading dayFile followed senderIn orderIn routeIn wayIn anyOpen total tick stepOf
+    handed decimal numbers output
 cases-met = all-met cases refl

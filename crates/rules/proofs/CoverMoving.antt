@@ -135,7 +135,8 @@ module _ {size : ℕ} {cs : List Cover} (fit : Fitted size cs) where
 
     pub set-total : totalOf size (set cs p c) + whole (coverOf cs p) ≡ totalOf size cs + whole c
     set-total =
-        sym (sum-change (λ q. whole (coverOf cs q)) (λ q. whole (coverOf (set cs p c) q)) size p h (λ q l n. ap whole (sym (set-there q n))))
+        sym (sum-change (λ q. whole (coverOf cs q)) (λ q. whole (coverOf (set cs p c) q)) size p h
+        (λ q l n. ap whole (sym (set-there q n))))
         ∙ ap (λ (w : Cover). totalOf size cs + whole w) set-here
 
     -- what holds of c, and of the others as they were
@@ -188,13 +189,15 @@ module _ {size : ℕ} {cs : List Cover} (fit : Fitted size cs) where
         (same-or-not p (m .who))
 
 pub transfer-fitted : {size : ℕ} {cs : List Cover} → Fitted size cs → (m : Transfer) → Fitted size (transferred m cs)
-transfer-fitted {cs = cs} fit m = record { few = fit .few; long = length-set cs (m .who) (moved (m .how) (m .amount) (coverOf cs (m .who))) ∙ fit .long }
+transfer-fitted {cs = cs} fit m =
+    record { few = fit .few; long = length-set cs (m .who) (moved (m .how) (m .amount) (coverOf cs (m .who))) ∙ fit .long }
 
 pub fitted : {size : ℕ} {due : ℕ → ℕ} {cs : List Cover} → size ≤ mostParticipants → CoversSound size due cs → Fitted size cs
 fitted few s = record { few = few; long = s .long }
 
 module _ {size : ℕ} {due : ℕ → ℕ} {cs : List Cover} (few : size ≤ mostParticipants) (s : CoversSound size due cs) where
-  pub set-keeps : (p : ℕ) → p < size → (c : Cover) (due′ : ℕ → ℕ) → c .reserved ≡ due′ p → ((q : ℕ) → (q ≡ p → ⊥) → due q ≡ due′ q) → Either c
+  pub set-keeps : (p : ℕ) → p < size → (c : Cover) (due′ : ℕ → ℕ) → c .reserved ≡ due′ p
+      → ((q : ℕ) → (q ≡ p → ⊥) → due q ≡ due′ q) → Either c
       → CoversSound size due′ (set cs p c)
   set-keeps p h c due′ r others e =
       record {

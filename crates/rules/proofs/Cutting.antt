@@ -92,13 +92,16 @@ cut-long : (r : Roster) (cs : List Cover) (n : ℕ) → length (cutTo r cs n) �
 cut-long r cs zero = refl
 cut-long r cs (suc p) = length-set (cutTo r cs p) p (cutCover (participantOf r p .opening) (coverOf cs p)) ∙ cut-long r cs p
 
-pub cut-each : (r : Roster) (cs : List Cover) (n : ℕ) → n ≤ length cs → (p : ℕ) → p < n → coverOf (cutTo r cs n) p ≡ cutCover (participantOf r p .opening) (coverOf cs p)
+pub cut-each : (r : Roster) (cs : List Cover) (n : ℕ) → n ≤ length cs → (p : ℕ) → p < n
+    → coverOf (cutTo r cs n) p ≡ cutCover (participantOf r p .opening) (coverOf cs p)
 cut-each r cs zero h p l = absurd (not-suc-le-zero l)
 cut-each r cs (suc n) h p l =
     ⊎-elim
-    (λ (e : p ≡ n). rw e (getD-set-same (cutTo r cs n) n (cutCover (participantOf r n .opening) (coverOf cs n)) noCover (rw (cut-long r cs n) h)))
+    (λ (e : p ≡ n).
+    rw e (getD-set-same (cutTo r cs n) n (cutCover (participantOf r n .opening) (coverOf cs n)) noCover (rw (cut-long r cs n) h)))
     (λ (k : p ≡ n → ⊥).
-    getD-set-other (cutTo r cs n) n p (cutCover (participantOf r n .opening) (coverOf cs n)) noCover k ∙ cut-each r cs n (omega arith) p (below k (below-or-not p n)))
+    getD-set-other (cutTo r cs n) n p (cutCover (participantOf r n .opening) (coverOf cs n)) noCover k
+    ∙ cut-each r cs n (omega arith) p (below k (below-or-not p n)))
     (same-or-not p n)
   where
     below : (p ≡ n → ⊥) → (p < n) ⊎ (n ≤ p) → p < n

@@ -1,7 +1,20 @@
 -- Edges of the steps as rows. Assumes nothing.
 use mathlib.Core.List.{List, [], _∷_}
 use Rattle.fields.proofs.CaseRows.{Row}
-use Rattle.ticket.specs.TicketWriting.{coverInTicket, coverOutTicket, orderTicket, yesTicket, noTicket, recallTicket, returnTicket, declineTicket, inquiryTicket, cutTicket, confirmTicket, tickTicket}
+use Rattle.ticket.specs.TicketWriting.{
+  coverInTicket,
+  coverOutTicket,
+  orderTicket,
+  yesTicket,
+  noTicket,
+  recallTicket,
+  returnTicket,
+  declineTicket,
+  inquiryTicket,
+  cutTicket,
+  confirmTicket,
+  tickTicket,
+}
 use Rattle.dayfile.specs.FileWriting.{fileBytes, bank, bankOpening, linked, direct, onward}
 use Rattle.rules.proofs.Names.{bicA, bicB, bicC, bicL, bicZ, tx1, tx2, tx3, ibanD, twoBanks, day}
 

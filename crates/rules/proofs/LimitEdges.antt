@@ -1,5 +1,5 @@
 -- Edges of the limits as rows: of days, of report buffers, and of books that hold nearly all orders that a book can hold.
---     lentRow    the refusal of a first ticket with a report buffer
+--     lentRow     the refusal of a first ticket with a report buffer
 --     orderRow    an order given to a book that holds n orders: its refusal, and how many are held then
 -- Assumes nothing.
 use Prim.Native.Nat.{ℕ, zero, suc, _-_}

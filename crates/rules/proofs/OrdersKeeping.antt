@@ -53,7 +53,8 @@ module _ (size clock n : ℕ) (os : List Order) (s : OrdersSound size clock n os
   there j k = getD-set-other os i j (withStatus (orderOf os i) status) noOrder k
 
   -- what a status is no part of is kept
-  kept : {A : Type 0} (f : Order → A) → f (withStatus (orderOf os i) status) ≡ f (orderOf os i) → (j : ℕ) → f (orderOf changed j) ≡ f (orderOf os j)
+  kept : {A : Type 0} (f : Order → A) → f (withStatus (orderOf os i) status) ≡ f (orderOf os i) → (j : ℕ)
+      → f (orderOf changed j) ≡ f (orderOf os j)
   kept f e j =
       ⊎-elim (λ (q : j ≡ i). rw q (ap f here ∙ e)) (λ (k : j ≡ i → ⊥). ap f (there j k)) (same-or-not j i)
 
@@ -76,14 +77,17 @@ module _ (size clock n : ℕ) (os : List Order) (s : OrdersSound size clock n os
       }
 
   -- the sums change by the order's part
-  sum-changed : (p : ℕ) → waitingSum n os p + waitingAmount p (withStatus (orderOf os i) status) ≡ waitingSum n (set os i (withStatus (orderOf os i) status)) p + waitingAmount p (orderOf os i)
+  sum-changed : (p : ℕ) → waitingSum n os p + waitingAmount p (withStatus (orderOf os i) status)
+      ≡ waitingSum n (set os i (withStatus (orderOf os i) status)) p + waitingAmount p (orderOf os i)
   unfolding changed
   sum-changed p =
       ap (λ (o : Order). waitingSum n os p + waitingAmount p o) (sym here)
-      ∙ sum-change (λ j. waitingAmount p (orderOf os j)) (λ j. waitingAmount p (orderOf changed j)) n i h (λ j l m. ap (waitingAmount p) (sym (there j m)))
+      ∙ sum-change (λ j. waitingAmount p (orderOf os j)) (λ j. waitingAmount p (orderOf changed j)) n i h
+      (λ j l m. ap (waitingAmount p) (sym (there j m)))
 
   -- the order waits no longer
-  pub sum-ended : isWaiting status ≡ false → (p : ℕ) → waitingSum n (set os i (withStatus (orderOf os i) status)) p + waitingAmount p (orderOf os i) ≡ waitingSum n os p
+  pub sum-ended : isWaiting status ≡ false → (p : ℕ)
+      → waitingSum n (set os i (withStatus (orderOf os i) status)) p + waitingAmount p (orderOf os i) ≡ waitingSum n os p
   sum-ended ended p =
       let e = sum-changed p in
       let z : waitingAmount p (withStatus (orderOf os i) status) ≡ 0 = simp ended in
@@ -117,7 +121,8 @@ module _ (size clock n : ℕ) (os : List Order) (s : OrdersSound size clock n os
       (same-or-not j n)
 
   -- what holds between each two, and between each and the new one
-  pairs : (P : Order → Order → Type 0) → ((j k : ℕ) → j < k → k < n → P (orderOf os j) (orderOf os k)) → ((j : ℕ) → j < n → P (orderOf os j) o)
+  pairs : (P : Order → Order → Type 0) → ((j k : ℕ) → j < k → k < n → P (orderOf os j) (orderOf os k))
+      → ((j : ℕ) → j < n → P (orderOf os j) o)
       → (j k : ℕ) → j < k → k < n + 1 → P (orderOf (set os n o) j) (orderOf (set os n o) k)
   pairs P all this j k l m =
       ⊎-elim
@@ -146,11 +151,14 @@ module _ (size clock n : ℕ) (os : List Order) (s : OrdersSound size clock n os
   sum-new p =
       ap (λ (m : ℕ). waitingSum m (set os n o) p) (add-one n)
       ∙ ap₂ _+_
-      (sum-same (λ j. waitingAmount p (orderOf (set os n o) j)) (λ j. waitingAmount p (orderOf os j)) n (λ j l. ap (waitingAmount p) (earlier j (λ q. omega arith))))
+      (sum-same (λ j. waitingAmount p (orderOf (set os n o) j)) (λ j. waitingAmount p (orderOf os j)) n
+      (λ j l. ap (waitingAmount p) (earlier j (λ q. omega arith))))
       (ap (waitingAmount p) last)
 
 -- a waiting order is part of its payer's sum
-pub sum-holds : (n : ℕ) (os : List Order) (i : ℕ) → i < n → isWaiting (orderOf os i .status) ≡ true → orderOf os i .amount ≤ waitingSum n os (orderOf os i .payer)
+pub sum-holds : (n : ℕ) (os : List Order) (i : ℕ) → i < n → isWaiting (orderOf os i .status) ≡ true
+    → orderOf os i .amount ≤ waitingSum n os (orderOf os i .payer)
 sum-holds n os i h w =
-    let e : waitingAmount (orderOf os i .payer) (orderOf os i) ≡ orderOf os i .amount = simp (w, eq-eqb (orderOf os i .payer) (orderOf os i .payer) refl) in
+    let e : waitingAmount (orderOf os i .payer) (orderOf os i) ≡ orderOf os i .amount =
+    simp (w, eq-eqb (orderOf os i .payer) (orderOf os i .payer) refl) in
     rw e at (sum-part (λ j. waitingAmount (orderOf os i .payer) (orderOf os j)) n i h)

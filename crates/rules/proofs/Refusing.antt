@@ -6,7 +6,27 @@ use Prim.Native.Nat.{ℕ, _≤_, _<_}
 use native.Mathlib.Omega.{arith}
 use borrow.Author.Tests.{eqb-true}
 use lib.Dec.{eqb}
-use Rattle.rules.specs.Refusal.{refusal12, refusal13, refusal14, refusal15, refusal16, refusal17, refusal18, refusal19, refusal20, refusal21, refusal22, namingOf, namingRefusal, permissionOf, permissionRefusal, backingOf, backingRefusal, firstOf, firstRefusal}
+use Rattle.rules.specs.Refusal.{
+  refusal12,
+  refusal13,
+  refusal14,
+  refusal15,
+  refusal16,
+  refusal17,
+  refusal18,
+  refusal19,
+  refusal20,
+  refusal21,
+  refusal22,
+  namingOf,
+  namingRefusal,
+  permissionOf,
+  permissionRefusal,
+  backingOf,
+  backingRefusal,
+  firstOf,
+  firstRefusal,
+}
 use Rattle.rules.specs.declared.finding.Finding.{Finding}
 use Rattle.rules.specs.declared.refusal.Naming.{Naming}
 use Rattle.rules.specs.declared.refusal.Naming.the-variants.{Known, NoParticipant, TxidHeld, NoRoute, Full, TxidNotHeld}
@@ -103,8 +123,10 @@ late-first m n a b = go (eqb m 0)
 
 pub refusal-late : (x : Finding) → Late (firstRefusal x)
 refusal-late x =
-    late-first (namingRefusal (namingOf x)) (firstOf (permissionRefusal (permissionOf x)) (backingRefusal (backingOf x))) (late-naming (namingOf x))
-    (late-first (permissionRefusal (permissionOf x)) (backingRefusal (backingOf x)) (late-permission (permissionOf x)) (late-backing (backingOf x)))
+    late-first (namingRefusal (namingOf x)) (firstOf (permissionRefusal (permissionOf x)) (backingRefusal (backingOf x)))
+    (late-naming (namingOf x))
+    (late-first (permissionRefusal (permissionOf x)) (backingRefusal (backingOf x)) (late-permission (permissionOf x))
+    (late-backing (backingOf x)))
 
 -- each fits its byte in an answer
 small-naming : (a : Naming) → namingRefusal a < 256
@@ -136,5 +158,7 @@ small-first m n a b = go (eqb m 0)
 
 pub refusal-small : (x : Finding) → firstRefusal x < 256
 refusal-small x =
-    small-first (namingRefusal (namingOf x)) (firstOf (permissionRefusal (permissionOf x)) (backingRefusal (backingOf x))) (small-naming (namingOf x))
-    (small-first (permissionRefusal (permissionOf x)) (backingRefusal (backingOf x)) (small-permission (permissionOf x)) (small-backing (backingOf x)))
+    small-first (namingRefusal (namingOf x)) (firstOf (permissionRefusal (permissionOf x)) (backingRefusal (backingOf x)))
+    (small-naming (namingOf x))
+    (small-first (permissionRefusal (permissionOf x)) (backingRefusal (backingOf x)) (small-permission (permissionOf x))
+    (small-backing (backingOf x)))

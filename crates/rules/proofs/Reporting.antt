@@ -54,7 +54,10 @@ fitting-append (r ∷ rs) ts a b = (a .0, fitting-append rs ts (a .1) b)
 
 few-append : (m n : ℕ) (rs ts : List Report) → Few m rs → Few n ts → Few (m + n) (rs ++ ts)
 few-append m n rs ts a b =
-    record { fit = fitting-append rs ts (a .fit) (b .fit); few = rw (length-append rs ts) (let x = a .few in let y = b .few in omega arith) }
+    record {
+      fit = fitting-append rs ts (a .fit) (b .fit);
+      few = rw (length-append rs ts) (let x = a .few in let y = b .few in omega arith);
+    }
 
 few-none : (n : ℕ) → Few n []
 few-none n = record { fit = tt; few = omega arith }
@@ -75,12 +78,14 @@ module _ (b : Book) (s : Sound b) where
       record { to = let x = participant-below b s to h in omega arith; code = omega arith; order = omega arith; amount = omega arith }
 
   fit-cut : (p code n : ℕ) → p < b .roster .size → code < 12 → n < 256 ^ 8 → FittingReport (tellCut p code n)
-  fit-cut p code n h c l = record { to = let x = participant-below b s p h in omega arith; code = omega arith; order = omega arith; amount = l }
+  fit-cut p code n h c l =
+      record { to = let x = participant-below b s p h in omega arith; code = omega arith; order = omega arith; amount = l }
 
 -- the expiries: two for each order
 pub swept-few : (b : Book) → Sound b → (i : ℕ) → i ≤ b .count → Few (i + i) (sweepTo b i .reports)
 swept-few b s zero h = few-none 0
-swept-few b s (suc i) h = go (swept b s i (omega arith)) (swept-few b s i (omega arith)) (due (w .book .clock) o (isBank (w .book .roster) (o .payee)))
+swept-few b s (suc i) h =
+    go (swept b s i (omega arith)) (swept-few b s i (omega arith)) (due (w .book .clock) o (isBank (w .book .roster) (o .payee)))
   where
     w : Step
     w = sweepTo b i
@@ -104,7 +109,8 @@ swept-few b s (suc i) h = go (swept b s i (omega arith)) (swept-few b s i (omega
 ticked-few : (b : Book) → Sound b → (time : ℕ) → b .clock ≤ time → Few 512 (tick b time .reports)
 unfolding tick
 ticked-few b s time l =
-    few-more (b .count + b .count) 512 _ (let c = s .orders .count in omega arith) (swept-few (atTime b time) (later-sound b s time l) (b .count) (omega arith))
+    few-more (b .count + b .count) 512 _ (let c = s .orders .count in omega arith)
+    (swept-few (atTime b time) (later-sound b s time l) (b .count) (omega arith))
 
 module _ (b : Book) (s : Sound b) where
   -- the cut: at most one for each participant
@@ -133,10 +139,12 @@ module _ (b : Book) (s : Sound b) where
     x = finding b (fieldsOf k time n) t
 
     fit-payer : (code : ℕ) → code < 12 → FittingReport (toPayer x code)
-    fit-payer code c = fit-order b s _ code (numberOf (x .order)) (x .about .amount) (s .orders .payer _ h) c (order-below b s _ h) (s .orders .most _ h)
+    fit-payer code c =
+        fit-order b s _ code (numberOf (x .order)) (x .about .amount) (s .orders .payer _ h) c (order-below b s _ h) (s .orders .most _ h)
 
     fit-payee : (code : ℕ) → code < 12 → FittingReport (toPayee x code)
-    fit-payee code c = fit-order b s _ code (numberOf (x .order)) (x .about .amount) (s .orders .payee _ h) c (order-below b s _ h) (s .orders .most _ h)
+    fit-payee code c =
+        fit-order b s _ code (numberOf (x .order)) (x .about .amount) (s .orders .payee _ h) c (order-below b s _ h) (s .orders .most _ h)
 
     settled-few : Few 32 (listed (settledTold x))
     settled-few = go (x .bank)
@@ -172,7 +180,8 @@ module _ (b : Book) (s : Sound b) where
 
   module _ (n time : ℕ) (t : List ℕ) where
     -- the ticket's own reports: at most 32
-    own-few : (k : Kind) → Tells t (fieldsOf k time n) → NoRefusal (finding b (fieldsOf k time n) t) → Few 32 (toldBy b (decisionOf (finding b (fieldsOf k time n) t)))
+    own-few : (k : Kind) → Tells t (fieldsOf k time n) → NoRefusal (finding b (fieldsOf k time n) t)
+        → Few 32 (toldBy b (decisionOf (finding b (fieldsOf k time n) t)))
     own-few kind.CoverIn tells r = few-none 32
     own-few kind.CoverOut tells r = few-none 32
     own-few kind.Order tells r =
@@ -180,12 +189,17 @@ module _ (b : Book) (s : Sound b) where
         (fit-order b s _ 1 (b .count) n (accepting.payee-known b (fieldsOf kind.Order time n) t (s .roster) (r .r14) refl) (omega arith)
         (accepting.order-room b (fieldsOf kind.Order time n) t (r .r15) refl) (tells .most))
     own-few kind.Yes tells r = settled-few n time t kind.Yes (accepting.order-found b (fieldsOf kind.Yes time n) t (r .r16) refl .below)
-    own-few kind.No tells r = payer-few n time t kind.No (accepting.order-found b (fieldsOf kind.No time n) t (r .r16) refl .below) 3 (omega arith)
-    own-few kind.Recall tells r = payee-few n time t kind.Recall (accepting.order-found b (fieldsOf kind.Recall time n) t (r .r16) refl .below) 5 (omega arith)
-    own-few kind.Return tells r = return-few n time t kind.Return (accepting.order-found b (fieldsOf kind.Return time n) t (r .r16) refl .below) (tells .most)
-    own-few kind.Decline tells r = payer-few n time t kind.Decline (accepting.order-found b (fieldsOf kind.Decline time n) t (r .r16) refl .below) 7 (omega arith)
+    own-few kind.No tells r =
+        payer-few n time t kind.No (accepting.order-found b (fieldsOf kind.No time n) t (r .r16) refl .below) 3 (omega arith)
+    own-few kind.Recall tells r =
+        payee-few n time t kind.Recall (accepting.order-found b (fieldsOf kind.Recall time n) t (r .r16) refl .below) 5 (omega arith)
+    own-few kind.Return tells r =
+        return-few n time t kind.Return (accepting.order-found b (fieldsOf kind.Return time n) t (r .r16) refl .below) (tells .most)
+    own-few kind.Decline tells r =
+        payer-few n time t kind.Decline (accepting.order-found b (fieldsOf kind.Decline time n) t (r .r16) refl .below) 7 (omega arith)
     own-few kind.Inquiry tells r =
-        answer-few n time t kind.Inquiry (accepting.order-found b (fieldsOf kind.Inquiry time n) t (r .r16) refl .below) (accepting.theOrder b (fieldsOf kind.Inquiry time n) t .status)
+        answer-few n time t kind.Inquiry (accepting.order-found b (fieldsOf kind.Inquiry time n) t (r .r16) refl .below)
+        (accepting.theOrder b (fieldsOf kind.Inquiry time n) t .status)
     own-few kind.Cut tells r = few-more (b .roster .size) 32 _ (s .roster .size) (cut-few (b .roster .size) (omega arith))
     own-few kind.Confirm tells r = few-none 32
     own-few kind.Tick tells r = few-none 32

@@ -55,7 +55,8 @@ fresh-sound r g =
             either = λ p h. inl (ap (λ (c : Cover). c .held) (zero p (below p h)));
             outside = λ p l h. zero p h;
           };
-      limited = rw (sum-zero (λ p. whole (coverOf (replicate mostParticipants noCover) p)) (r .size) (λ p h. ap whole (zero p (below p h)))) (omega arith);
+      limited = rw (sum-zero (λ p. whole (coverOf (replicate mostParticipants noCover) p)) (r .size) (λ p h. ap whole (zero p (below p h))))
+          (omega arith);
     }
   where
     below : (p : ℕ) → p < r .size → p < mostParticipants
@@ -87,7 +88,8 @@ module _ (b : Book) (s : Sound b) where
   limit = s .limited
 
   -- other covers of the same book
-  pub covers-sound : (cs : List Cover) → CoversSound (b .roster .size) (waitingSum (b .count) (b .orders)) cs → totalOf (b .roster .size) cs ≤ mostTotal
+  pub covers-sound : (cs : List Cover) → CoversSound (b .roster .size) (waitingSum (b .count) (b .orders)) cs
+      → totalOf (b .roster .size) cs ≤ mostTotal
       → Sound (withCovers b cs)
   unfolding total
   covers-sound cs c l = record { roster = s .roster; orders = s .orders; covers = c; limited = l }
@@ -144,7 +146,8 @@ module _ (b : Book) (s : Sound b) where
       unfolding o
       less p =
           let e = sums p in
-          let part : waitingAmount p (orderOf (b .orders) i) ≡ onlyFor (orderOf (b .orders) i .payer) p (orderOf (b .orders) i .amount) = simp w in
+          let part : waitingAmount p (orderOf (b .orders) i)
+          ≡ onlyFor (orderOf (b .orders) i .payer) p (orderOf (b .orders) i .amount) = simp w in
           let none = for-none (orderOf (b .orders) i .payer) p in
           omega arith
 
@@ -158,7 +161,8 @@ module _ (b : Book) (s : Sound b) where
           (let e = transfer-total (fitted few (s .covers)) m p backed in let most = limit in omega arith)
 
       -- the payer's reserved falls, the payee's available rises
-      pub settled-sound : Sound (Ended (transferred (by (orderOf (b .orders) i .payee) Give (orderOf (b .orders) i .amount)) (transferred (by (orderOf (b .orders) i .payer) Spend (orderOf (b .orders) i .amount)) (b .covers))))
+      pub settled-sound : Sound (Ended (transferred (by (orderOf (b .orders) i .payee) Give (orderOf (b .orders) i .amount))
+          (transferred (by (orderOf (b .orders) i .payer) Spend (orderOf (b .orders) i .amount)) (b .covers))))
       unfolding o due due′
       settled-sound =
           let spend = by (o .payer) Spend (o .amount) in
@@ -167,7 +171,8 @@ module _ (b : Book) (s : Sound b) where
           let spent = transfer-total (fitted few (s .covers)) spend (s .orders .payer i h) backed in
           let given = transfer-total (fitted few left) give (s .orders .payee i h) tt in
           let most = limit in
-          ended-sound (transferred give (transferred spend (b .covers))) (transfer-keeps few left give (s .orders .payee i h) tt due′ (λ p. refl)) (omega arith)
+          ended-sound (transferred give (transferred spend (b .covers)))
+          (transfer-keeps few left give (s .orders .payee i h) tt due′ (λ p. refl)) (omega arith)
 
     -- the order did not wait
     module _ (w : isWaiting (orderOf (b .orders) i .status) ≡ false) where
@@ -187,7 +192,8 @@ module _ (b : Book) (s : Sound b) where
 
       -- the payee's available falls, the payer's rises
       pub returned-sound : (n : ℕ) → n ≤ coverOf (b .covers) (orderOf (b .orders) i .payee) .available
-          → Sound (Ended (transferred (by (orderOf (b .orders) i .payer) Give n) (transferred (by (orderOf (b .orders) i .payee) Draw n) (b .covers))))
+          → Sound (Ended
+          (transferred (by (orderOf (b .orders) i .payer) Give n) (transferred (by (orderOf (b .orders) i .payee) Draw n) (b .covers))))
       unfolding o due due′
       returned-sound n l =
           let draw = by (o .payee) Draw n in
@@ -196,10 +202,12 @@ module _ (b : Book) (s : Sound b) where
           let drawn = transfer-total (fitted few (s .covers)) draw (s .orders .payee i h) l in
           let given = transfer-total (fitted few left) give (s .orders .payer i h) tt in
           let most = limit in
-          ended-sound (transferred give (transferred draw (b .covers))) (as-due (transfer-keeps few left give (s .orders .payer i h) tt due (λ p. refl))) (omega arith)
+          ended-sound (transferred give (transferred draw (b .covers)))
+          (as-due (transfer-keeps few left give (s .orders .payer i h) tt due (λ p. refl))) (omega arith)
 
   -- one order more
-  pub opened-sound : (o : Order) → NewOrder (b .roster .size) (b .clock) (b .count) (b .orders) o → o .amount ≤ coverOf (b .covers) (o .payer) .available
+  pub opened-sound : (o : Order) → NewOrder (b .roster .size) (b .clock) (b .count) (b .orders) o
+      → o .amount ≤ coverOf (b .covers) (o .payer) .available
       → isWaiting (o .status) ≡ true
       → Sound
       (record {
@@ -219,7 +227,8 @@ module _ (b : Book) (s : Sound b) where
         limited = let e = transfer-total (fitted few (s .covers)) m (new .payer) l in let most = limit in omega arith;
       }
     where
-      more : (p : ℕ) → waitingSum (b .count + 1) (set (b .orders) (b .count) o) p + onlyFor (o .payer) p 0 ≡ due p + onlyFor (o .payer) p (o .amount)
+      more : (p : ℕ)
+          → waitingSum (b .count + 1) (set (b .orders) (b .count) o) p + onlyFor (o .payer) p 0 ≡ due p + onlyFor (o .payer) p (o .amount)
       more p =
           let e = sum-new (b .roster .size) (b .clock) (b .count) (b .orders) (s .orders) o new p in
           let part : waitingAmount p o ≡ onlyFor (o .payer) p (o .amount) = simp w in

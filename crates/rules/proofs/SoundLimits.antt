@@ -34,5 +34,7 @@ module _ (b : Book) (s : Sound b) where
   order-below i h = let l = s .orders .count in omega arith
 
   -- a waiting order's amount is reserved
-  pub waiting-reserved : (i : ℕ) → i < b .count → isWaiting (orderOf (b .orders) i .status) ≡ true → orderOf (b .orders) i .amount ≤ coverOf (b .covers) (orderOf (b .orders) i .payer) .reserved
-  waiting-reserved i h w = rw (s .covers .reserved (orderOf (b .orders) i .payer) (s .orders .payer i h)) (sum-holds (b .count) (b .orders) i h w)
+  pub waiting-reserved : (i : ℕ) → i < b .count → isWaiting (orderOf (b .orders) i .status) ≡ true
+      → orderOf (b .orders) i .amount ≤ coverOf (b .covers) (orderOf (b .orders) i .payer) .reserved
+  waiting-reserved i h w =
+      rw (s .covers .reserved (orderOf (b .orders) i .payer) (s .orders .payer i h)) (sum-holds (b .count) (b .orders) i h w)

@@ -89,12 +89,14 @@ module _ (b : Book) (s : Sound b) (n time : ℕ) (t : List ℕ) where
   unfolding total
   confirm-sound p h limit = go (eqb (coverOf (b .covers) p .held) 0) refl
     where
-      go : (x : Bool) → eqb (coverOf (b .covers) p .held) 0 ≡ x → Sound (withCovers b (transferred (by p (cond x Debit Credit) n) (b .covers)))
+      go : (x : Bool) → eqb (coverOf (b .covers) p .held) 0 ≡ x
+          → Sound (withCovers b (transferred (by p (cond x Debit Credit) n) (b .covers)))
       go true e = keeping.moved-sound b s (by p Debit n) h tt (λ q. refl) (limit e)
       go false e = keeping.moved-sound b s (by p Credit n) h tt (λ q. refl) (let l = s .limited in omega arith)
 
   -- the ticket's own step
-  pub own-sound : (k : Kind) → Tells t (fieldsOf k time n) → NoRefusal (finding b (fieldsOf k time n) t) → Sound (applied b (decisionOf (finding b (fieldsOf k time n) t)))
+  pub own-sound : (k : Kind) → Tells t (fieldsOf k time n) → NoRefusal (finding b (fieldsOf k time n) t)
+      → Sound (applied b (decisionOf (finding b (fieldsOf k time n) t)))
   unfolding total
   own-sound kind.CoverIn tells r =
       let f = fieldsOf kind.CoverIn time n in
@@ -124,7 +126,8 @@ module _ (b : Book) (s : Sound b) (n time : ℕ) (t : List ℕ) where
       (accepting.cover-there b f t (r .r20) refl) refl)
   own-sound kind.Yes tells r =
       let f = fieldsOf kind.Yes time n in
-      keeping.settled-sound b s (accepting.orderNumber b f t) (accepting.order-found b f t (r .r16) refl .below) (status.Settled mark.None) refl
+      keeping.settled-sound b s (accepting.orderNumber b f t) (accepting.order-found b f t (r .r16) refl .below)
+      (status.Settled mark.None) refl
       (accepting.status-meets b f t (r .r18))
   own-sound kind.No tells r =
       let f = fieldsOf kind.No time n in
@@ -134,7 +137,8 @@ module _ (b : Book) (s : Sound b) (n time : ℕ) (t : List ℕ) where
   own-sound kind.Recall tells r =
       let f = fieldsOf kind.Recall time n in
       rw (nobody-moves (transferred nobody (b .covers)), nobody-moves (b .covers))
-      (keeping.remarked-sound b s (accepting.orderNumber b f t) (accepting.order-found b f t (r .r16) refl .below) (status.Settled mark.Asked) refl
+      (keeping.remarked-sound b s (accepting.orderNumber b f t) (accepting.order-found b f t (r .r16) refl .below)
+      (status.Settled mark.Asked) refl
       (unmarked-not-waiting (accepting.theOrder b f t .status) (accepting.status-meets b f t (r .r18))))
   own-sound kind.Return tells r =
       let f = fieldsOf kind.Return time n in
@@ -144,16 +148,19 @@ module _ (b : Book) (s : Sound b) (n time : ℕ) (t : List ℕ) where
   own-sound kind.Decline tells r =
       let f = fieldsOf kind.Decline time n in
       rw (nobody-moves (transferred nobody (b .covers)), nobody-moves (b .covers))
-      (keeping.remarked-sound b s (accepting.orderNumber b f t) (accepting.order-found b f t (r .r16) refl .below) (status.Settled mark.Declined) refl
+      (keeping.remarked-sound b s (accepting.orderNumber b f t) (accepting.order-found b f t (r .r16) refl .below)
+      (status.Settled mark.Declined) refl
       (asked-not-waiting (accepting.theOrder b f t .status) (accepting.status-meets b f t (r .r18))))
   own-sound kind.Inquiry tells r = rw (same-applied b (fieldsOf kind.Inquiry time n) t _) s
   own-sound kind.Cut tells r =
       let c = cut-sound (b .roster) (s .roster .size) (s .covers) (all-closed b (r .r21)) (b .roster .size) (omega arith) in
-      rw (cut-applied b (fieldsOf kind.Cut time n) t Told.Nobody) (keeping.covers-sound b s _ (c .sound) (let e = c .total in let l = s .limited in omega arith))
+      rw (cut-applied b (fieldsOf kind.Cut time n) t Told.Nobody)
+      (keeping.covers-sound b s _ (c .sound) (let e = c .total in let l = s .limited in omega arith))
   own-sound kind.Confirm tells r =
       let f = fieldsOf kind.Confirm time n in
       rw (kept-applied b f t (by (accepting.senderNumber b f t) (confirmMove (finding b f t)) n) Told.Nobody)
-      (confirm-sound (accepting.senderNumber b f t) (accepting.sender-found b f t (r .r12) refl .below) (λ z. accepting.limit-kept b f t (r .r22) z))
+      (confirm-sound (accepting.senderNumber b f t) (accepting.sender-found b f t (r .r12) refl .below)
+      (λ z. accepting.limit-kept b f t (r .r22) z))
   own-sound kind.Tick tells r = rw (same-applied b (fieldsOf kind.Tick time n) t Told.Nobody) s
 
 module _ (b : Book) (s : Sound b) (t : List ℕ) where
@@ -165,7 +172,8 @@ module _ (b : Book) (s : Sound b) (t : List ℕ) where
 
   taken-sound : (f : Fields) → Tells t f → b .clock ≤ f .time → NoRefusal (finding (tick b (f .time) .book) f t)
       → Sound (applied (tick b (f .time) .book) (decisionOf (finding (tick b (f .time) .book) f t)))
-  taken-sound f tells l none = own-sound (tick b (f .time) .book) (tick-swept b s (f .time) l .sound) (f .amount) (f .time) t (f .kind) tells none
+  taken-sound f tells l none =
+      own-sound (tick b (f .time) .book) (tick-swept b s (f .time) l .sound) (f .amount) (f .time) t (f .kind) tells none
 
   pub step-sound : Sound (stepOf b t .book)
   step-sound = step-goes b t (λ (w : Step). Sound (w .book)) turned-sound refused-sound taken-sound

@@ -1,8 +1,8 @@
 -- What each kind of ticket asks for, as one table.
---     termsOf      of each kind
---     namesSender, opensOrder, namesOrder      what a subject is
---     partyOf      the participant that answers for an order
---     meets        a status is as a step needs it
+--     termsOf                                of each kind
+--     namesSender, opensOrder, namesOrder    what a subject is
+--     partyOf                                the participant that answers for an order
+--     meets                                  a status is as a step needs it
 -- Assumes nothing.
 use Prim.Native.Nat.{ℕ}
 use mathlib.Core.Bool.{Bool, true, false}

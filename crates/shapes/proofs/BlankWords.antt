@@ -21,7 +21,8 @@ blank-word (zero ∷ s) = go (word s) ∙ blank-word s
     go : (n : ℕ) → eqb (0 + 256 * n) 0 ≡ eqb n 0
     go zero = refl
     go (suc n) = not-zero (0 + 256 * suc n) (omega arith) ∙ sym (not-zero (suc n) (omega arith))
-blank-word (suc b ∷ s) = not-zero (suc b + 256 * word s) (omega arith) ∙ sym (ap (λ (z : Bool). z && blank s) (not-zero (suc b) (omega arith)))
+blank-word (suc b ∷ s) =
+    not-zero (suc b + 256 * word s) (omega arith) ∙ sym (ap (λ (z : Bool). z && blank s) (not-zero (suc b) (omega arith)))
 
 blank-four : (at : ℕ) (t : List ℕ) → fourAre 0 at t ≡ blank (part 32 at t)
 blank-four at t =
@@ -73,7 +74,8 @@ module _ (t : List ℕ) where
   from-amount w e =
       as-first (λ (n : ℕ). fourAre n 16 t && fourAre n 48 t && fourAre n 76 t) w
       ∙ first-of-four (fourAre 0 16 t) (fourAre 0 48 t) (fourAre 0 76 t) (eqb w 0)
-      ∙ ap₂ _&&_ (ap₂ _&&_ (ap₂ _&&_ (zero-word w 8 e) (blank-four 16 t) ∙ sym (blank-join 8 32 8 t)) (blank-four 48 t) ∙ sym (blank-join 40 32 8 t))
+      ∙ ap₂ _&&_ (ap₂ _&&_ (ap₂ _&&_ (zero-word w 8 e) (blank-four 16 t) ∙ sym (blank-join 8 32 8 t)) (blank-four 48 t)
+      ∙ sym (blank-join 40 32 8 t))
       (blank-four 76 t)
       ∙ blank-overlap 68 4 28 8 t
 

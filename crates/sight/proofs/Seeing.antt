@@ -61,7 +61,8 @@ module _ (clock : ℕ) (t : List ℕ) (sender order route : Found) where
       ap sight-read (read-named t k e n)
       ∙ go (ltb (amountOf t) (formOf k .least)) refl (ltb (formOf k .most) (amountOf t)) refl (ltb (timeOf t) clock) refl
     where
-      go : (a : Bool) → ltb (amountOf t) (formOf k .least) ≡ a → (b : Bool) → ltb (formOf k .most) (amountOf t) ≡ b → (c : Bool) → ltb (timeOf t) clock ≡ c
+      go : (a : Bool) → ltb (amountOf t) (formOf k .least) ≡ a → (b : Bool) → ltb (formOf k .most) (amountOf t) ≡ b → (c : Bool)
+          → ltb (timeOf t) clock ≡ c
           → sight-read (readStated k t (statedIn (formOf k) t)) ≡ asked k (termsOf k .subject)
       go true a b x c y = simp a
       go false a true b c y = simp (a, b)

@@ -50,7 +50,8 @@ pub fn see(
 ) -> Sight
     requires { ⌜
         (length (now t) ≡ ticketLength) × BicRows size (now bics) (now «bic_heads») (now «bic_links»)
-        × TxidRows count (now txids) (now «txid_heads») (now «txid_links») × BicRows rows (now routes) (now «route_heads») (now «route_links»)
+        × TxidRows count (now txids) (now «txid_heads») (now «txid_links»)
+        × BicRows rows (now routes) (now «route_heads») (now «route_links»)
         ⌝ }
     ensures { λ r.
         ⌜

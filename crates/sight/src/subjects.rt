@@ -133,7 +133,8 @@ pub fn formed_of(
     requires { ⌜
         (length (now t) ≡ ticketLength) × (kinded (kindByte (now t)) (flagByte (now t)) ≡ Kinded.As kind)
         × BicRows size (now bics) (now «bic_heads») (now «bic_links»)
-        × TxidRows count (now txids) (now «txid_heads») (now «txid_links») × BicRows rows (now routes) (now «route_heads») (now «route_links»)
+        × TxidRows count (now txids) (now «txid_heads») (now «txid_links»)
+        × BicRows rows (now routes) (now «route_heads») (now «route_links»)
         ⌝ }
     ensures { λ r.
         ⌜

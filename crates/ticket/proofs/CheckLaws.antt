@@ -35,7 +35,8 @@ module _ (t : List ℕ) (k : Kind) (formed : shapeOf t ≡ Formed k) where
   pub read-named : accountOf (formOf k) t ≡ Named → reading t ≡ readStated k t (statedIn (formOf k) t)
   read-named named = read-formed ∙ ap (readAccount k t) named
 
-  pub read-stated : (n : ℕ) → accountOf (formOf k) t ≡ Named → statedIn (formOf k) t ≡ Amount n → reading t ≡ readLimit k t n (limitOf (formOf k) n)
+  pub read-stated : (n : ℕ) → accountOf (formOf k) t ≡ Named → statedIn (formOf k) t ≡ Amount n
+      → reading t ≡ readLimit k t n (limitOf (formOf k) n)
   read-stated n named stated = read-named named ∙ ap (readStated k t) stated
 
 pub read-malformed : (t : List ℕ) → shapeOf t ≡ Malformed → reading t ≡ Refused 7

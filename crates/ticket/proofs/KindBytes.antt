@@ -9,7 +9,20 @@ use lib.Dec.{leb, eqb}
 use Rattle.fields.proofs.Tests.{and-left, and-right}
 use Rattle.ticket.specs.Kind.{kindNumber, flagLow, flagHigh, allKinds, isOf, kindAmong, kinded}
 use Rattle.ticket.specs.declared.kinds.Kind.{Kind}
-use Rattle.ticket.specs.declared.kinds.Kind.the-variants.{CoverIn, CoverOut, Order, Yes, No, Recall, Return, Decline, Inquiry, Cut, Confirm, Tick}
+use Rattle.ticket.specs.declared.kinds.Kind.the-variants.{
+  CoverIn,
+  CoverOut,
+  Order,
+  Yes,
+  No,
+  Recall,
+  Return,
+  Decline,
+  Inquiry,
+  Cut,
+  Confirm,
+  Tick,
+}
 use Rattle.ticket.specs.declared.kinds.Kinded.{Kinded}
 use Rattle.ticket.specs.declared.kinds.Kinded.the-variants.{As}
 

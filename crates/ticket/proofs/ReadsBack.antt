@@ -23,14 +23,36 @@ use Rattle.ticket.specs.TicketReading.{reading, readLimit}
 use Rattle.ticket.specs.TicketWriting.{WrittenTicket, ticketBytes, IfListed, WellFormedTicket}
 use Rattle.ticket.specs.declared.Reading.the-variants.{Read}
 use Rattle.ticket.specs.declared.kinds.Kind.{Kind}
-use Rattle.ticket.specs.declared.kinds.Kind.the-variants.{CoverIn, CoverOut, Order, Yes, No, Recall, Return, Decline, Inquiry, Cut, Confirm, Tick}
+use Rattle.ticket.specs.declared.kinds.Kind.the-variants.{
+  CoverIn,
+  CoverOut,
+  Order,
+  Yes,
+  No,
+  Recall,
+  Return,
+  Decline,
+  Inquiry,
+  Cut,
+  Confirm,
+  Tick,
+}
 use Rattle.ticket.specs.declared.shapes.Shape.the-variants.{Formed}
 use Rattle.ticket.specs.declared.shapes.Account.the-variants.{Named, Wrong}
 use Rattle.ticket.specs.declared.amounts.Stated.the-variants.{Amount}
 use Rattle.ticket.specs.declared.amounts.Limit.the-variants.{Within}
 use Rattle.ticket.proofs.KindBytes.{bytes-kinded}
 use Rattle.ticket.proofs.CheckLaws.{read-stated}
-use Rattle.ticket.proofs.WrittenFields.{written-time, written-amount, sender-field, payee-field, txid-field, iban-field, last-field, length-written}
+use Rattle.ticket.proofs.WrittenFields.{
+  written-time,
+  written-amount,
+  sender-field,
+  payee-field,
+  txid-field,
+  iban-field,
+  last-field,
+  length-written,
+}
 
 -- each kind's amounts fit in eight bytes
 most-fits : (k : Kind) → formOf k .most ≤ mostCover
@@ -111,8 +133,10 @@ module _ (k : Kind) (w : WrittenTicket) (f : WellFormedTicket k w) where
         amount-passes (formOf k .most) (w .amount) (f .most),
         ap (bicIfListed (formOf k .sender)) (sender-field w sender-fits) ∙ bic-passes (formOf k .sender) (w .sender) (f .sender),
         ap (bicIfListed (formOf k .payee)) (payee-field w sender-fits payee-fits) ∙ bic-passes (formOf k .payee) (w .payee) (f .payee),
-        ap (txidIfListed (formOf k .txid)) (txid-field w sender-fits payee-fits txid-fits) ∙ txid-passes (formOf k .txid) (w .txid) (f .txid),
-        ap (blankUnlessListed (formOf k .iban)) (iban-field w sender-fits payee-fits txid-fits iban-fits) ∙ iban-passes (formOf k .iban) (w .iban) (f .iban),
+        ap (txidIfListed (formOf k .txid)) (txid-field w sender-fits payee-fits txid-fits)
+            ∙ txid-passes (formOf k .txid) (w .txid) (f .txid),
+        ap (blankUnlessListed (formOf k .iban)) (iban-field w sender-fits payee-fits txid-fits iban-fits)
+            ∙ iban-passes (formOf k .iban) (w .iban) (f .iban),
         ap (blankUnlessListed false) (last-field w sender-fits payee-fits txid-fits iban-fits),
       )
 
@@ -129,7 +153,8 @@ module _ (k : Kind) (w : WrittenTicket) (f : WellFormedTicket k w) where
 
   named : accountOf (formOf k) (ticketBytes w) ≡ Named
   named =
-      ap (λ (s : List ℕ). cond (formOf k .iban) (cond (isIban (unpadded s)) Named Wrong) Named) (iban-field w sender-fits payee-fits txid-fits iban-fits)
+      ap (λ (s : List ℕ). cond (formOf k .iban) (cond (isIban (unpadded s)) Named Wrong) Named)
+      (iban-field w sender-fits payee-fits txid-fits iban-fits)
       ∙ account-passes (formOf k .iban) (w .iban) (f .iban)
 
   within : limitOf (formOf k) (w .amount) ≡ Within

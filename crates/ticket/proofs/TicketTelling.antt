@@ -49,7 +49,8 @@ record Shaped (t : List ℕ) (k : Kind) : Type 0 where
 shaped : (t : List ℕ) (k : Kind) → shapeOf t ≡ Formed k → Shaped t k
 shaped t k e = whole (eqb (length t) layout.ticketLength) refl
   where
-    is : (k′ : Kind) → kinded (layout.kindByte t) (layout.flagByte t) ≡ As k′ → (b : Bool) → wellFormed (formOf k′) t ≡ b → _≡_ {A = Shape} (cond b (Formed k′) Malformed) (Formed k) → Shaped t k
+    is : (k′ : Kind) → kinded (layout.kindByte t) (layout.flagByte t) ≡ As k′ → (b : Bool) → wellFormed (formOf k′) t ≡ b
+        → _≡_ {A = Shape} (cond b (Formed k′) Malformed) (Formed k) → Shaped t k
     is k′ a true w q =
         let same : k′ ≡ k = cc in
         record { kind = rw same at a; formed = rw same at w }
@@ -93,7 +94,8 @@ read-tells t f e = from-shape (shapeOf t) refl
     from-limit : (k : Kind) → shapeOf t ≡ Formed k → accountOf (formOf k) t ≡ Named → (n : ℕ) → statedIn (formOf k) t ≡ Amount n
         → (l : Limit) → limitOf (formOf k) n ≡ l → Tells t f
     from-limit k e₁ e₂ n e₃ Within e₄ =
-        let read : reading t ≡ Read (record { kind = k; time = layout.timeOf t; amount = n }) = read-stated t k e₁ n e₂ e₃ ∙ ap (readLimit k t n) e₄ in
+        let read : reading t ≡ Read (record { kind = k; time = layout.timeOf t; amount = n }) = read-stated t k e₁ n e₂ e₃
+        ∙ ap (readLimit k t n) e₄ in
         let both : _≡_ {A = Reading} (Read (record { kind = k; time = layout.timeOf t; amount = n })) (Read f) = sym read ∙ e in
         let is : _≡_ {A = Fields} (record { kind = k; time = layout.timeOf t; amount = n }) f = cc in
         let s = shaped t k e₁ in
@@ -135,9 +137,11 @@ listed-txid t f tells listed = rw listed at (and-right before (txidIfListed (for
 
     to-txid : (before && txidIfListed (formOf (f .kind) .txid) (layout.txidField t)) ≡ true
     to-txid =
-        and-left (before && txidIfListed (formOf (f .kind) .txid) (layout.txidField t)) (blankUnlessListed (formOf (f .kind) .iban) (layout.ibanField t))
+        and-left (before && txidIfListed (formOf (f .kind) .txid) (layout.txidField t))
+        (blankUnlessListed (formOf (f .kind) .iban) (layout.ibanField t))
         (and-left
-        (before && txidIfListed (formOf (f .kind) .txid) (layout.txidField t) && blankUnlessListed (formOf (f .kind) .iban) (layout.ibanField t))
+        (before && txidIfListed (formOf (f .kind) .txid) (layout.txidField t)
+        && blankUnlessListed (formOf (f .kind) .iban) (layout.ibanField t))
         (blankUnlessListed false (layout.lastField t))
         (tells .formed))
 

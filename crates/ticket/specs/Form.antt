@@ -8,7 +8,20 @@ use Prim.Native.Nat.{ℕ}
 use mathlib.Core.Bool.{true, false}
 use Rattle.ticket.specs.declared.forms.Form.{Form}
 use Rattle.ticket.specs.declared.kinds.Kind.{Kind}
-use Rattle.ticket.specs.declared.kinds.Kind.the-variants.{CoverIn, CoverOut, Order, Yes, No, Recall, Return, Decline, Inquiry, Cut, Confirm, Tick}
+use Rattle.ticket.specs.declared.kinds.Kind.the-variants.{
+  CoverIn,
+  CoverOut,
+  Order,
+  Yes,
+  No,
+  Recall,
+  Return,
+  Decline,
+  Inquiry,
+  Cut,
+  Confirm,
+  Tick,
+}
 
 abbrev pub mostCover : ℕ
 mostCover = 1_000_000_000_000_000_000

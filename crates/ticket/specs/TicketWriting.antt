@@ -17,7 +17,20 @@ use Rattle.fields.specs.Text.{padded}
 use Rattle.ticket.specs.Kind.{kindNumber, flagLow, flagHigh}
 use Rattle.ticket.specs.Form.{formOf}
 use Rattle.ticket.specs.declared.kinds.Kind.{Kind}
-use Rattle.ticket.specs.declared.kinds.Kind.the-variants.{CoverIn, CoverOut, Order, Yes, No, Recall, Return, Decline, Inquiry, Cut, Confirm, Tick}
+use Rattle.ticket.specs.declared.kinds.Kind.the-variants.{
+  CoverIn,
+  CoverOut,
+  Order,
+  Yes,
+  No,
+  Recall,
+  Return,
+  Decline,
+  Inquiry,
+  Cut,
+  Confirm,
+  Tick,
+}
 
 pub record WrittenTicket : Type 0 where
   pub kind : ℕ

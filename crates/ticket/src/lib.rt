@@ -1,5 +1,5 @@
-// A ticket of 108 bytes: where its fields lie, its kind, its TxId, and the answers of refusals 7 to 10. What these look at is in specs/; the code
-// that asks it is in `shapes` and `sight`.
+// A ticket of 108 bytes: where its fields lie, its kind, its TxId, and the answers of refusals 7 to 10. What these look at is in specs/;
+// the code that asks it is in `shapes` and `sight`.
 pub mod amounts;
 pub mod forms;
 pub mod kinds;

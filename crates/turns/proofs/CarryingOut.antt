@@ -44,10 +44,12 @@ pub record CarriedOut (c : Book) (v : Verdict) (n : ℕ) (text : List ℕ) (cs :
 
 -- the sum of all cover with one cover changed by a move of n, as the code works it out: from old to new
 module _ (u : Mover) (n : ℕ) (cs : List Cover) (long : length cs ≡ mostParticipants) (few : u .who < mostParticipants)
-    (most : transferBy u n .amount ≤ mostTotal) {new : Cover} (changes : new ≡ moved (u .how) n (coverOf cs (u .who))) {all : ℕ} (sum : all ≡ allOf cs) where
+    (most : transferBy u n .amount ≤ mostTotal) {new : Cover} (changes : new ≡ moved (u .how) n (coverOf cs (u .who))) {all : ℕ}
+    (sum : all ≡ allOf cs) where
   grows : whole new ≤ whole (coverOf cs (u .who)) + transferBy u n .amount
   grows =
-      subst (λ (z : Cover). whole z ≤ whole (coverOf cs (u .who)) + transferBy u n .amount) (moved-by u n (coverOf cs (u .who)) ∙ sym changes)
+      subst (λ (z : Cover). whole z ≤ whole (coverOf cs (u .who)) + transferBy u n .amount)
+      (moved-by u n (coverOf cs (u .who)) ∙ sym changes)
       (whole-grows (transferBy u n .how) (transferBy u n .amount) (coverOf cs (u .who)))
 
   sum-fits : allOf cs ≤ mostTotal + mostTotal → (whole (coverOf cs (u .who)) ≤ all) × (all + whole new ≤ mostNumber)
@@ -98,7 +100,8 @@ module _ {b : Book} {t : List ℕ} {e : Entry} {n₀ : ℕ} {text₀ : List ℕ}
 
     pub second-room : Room (v .second .how) (v .amount) (coverOf cs₁ (v .second .who))
     second-room =
-        subst (λ (z : Cover). Room (v .second .how) (v .amount) (coverOf (set (c .covers) (v .first .who) z) (v .second .who))) (sym changes₁)
+        subst (λ (z : Cover). Room (v .second .how) (v .amount) (coverOf (set (c .covers) (v .first .who) z) (v .second .who)))
+        (sym changes₁)
         (f .secondRoom)
 
     -- and then the second

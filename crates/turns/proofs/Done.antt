@@ -30,9 +30,10 @@ use Rattle.course.proofs.Summing.{allOf}
 use Rattle.turns.proofs.Index.{TxidIndex}
 use Rattle.turns.proofs.Turn.{refused-turn}
 
--- of ticket t in book b, n₀ reports standing in the text before it; afterwards the book, the refusal, the rows followed, n reports in the text,
--- the mark, the index and all cover together
-pub record Done (wordsOf : List ℕ → List ℕ) (bucketOf : List ℕ → ℕ) (b : Book) (t : List ℕ) (n₀ : ℕ) (text₀ : List ℕ) (b′ : Book) (r k n : ℕ)
+-- of ticket t in book b, n₀ reports standing in the text before it; afterwards the book, the refusal, the rows followed, n reports in the
+-- text, the mark, the index and all cover together
+pub record Done (wordsOf : List ℕ → List ℕ) (bucketOf : List ℕ → ℕ) (b : Book) (t : List ℕ) (n₀ : ℕ)
+    (text₀ : List ℕ) (b′ : Book) (r k n : ℕ)
     (text : List ℕ) (m : ℕ) (txids heads links : List ℕ) (all : ℕ) : Type 0 where
   pub book : b′ ≡ stepOf b t .book
   pub sound : Sound b′
@@ -50,8 +51,10 @@ pub record Done (wordsOf : List ℕ → List ℕ) (bucketOf : List ℕ → ℕ) 
   pub sum : all ≡ allOf (b′ .covers)
 
 -- the answer
-pub answer-is : {wordsOf : List ℕ → List ℕ} {bucketOf : List ℕ → ℕ} {b : Book} {t : List ℕ} {n₀ : ℕ} {text₀ : List ℕ} {b′ : Book} {r k n : ℕ}
-    {text : List ℕ} {m : ℕ} {txids heads links : List ℕ} {all : ℕ} → Done wordsOf bucketOf b t n₀ text₀ b′ r k n text m txids heads links all
+pub answer-is : {wordsOf : List ℕ → List ℕ} {bucketOf : List ℕ → ℕ} {b : Book} {t : List ℕ} {n₀ : ℕ}
+    {text₀ : List ℕ} {b′ : Book} {r k n : ℕ}
+    {text : List ℕ} {m : ℕ} {txids heads links : List ℕ} {all : ℕ}
+    → Done wordsOf bucketOf b t n₀ text₀ b′ r k n text m txids heads links all
     → _≡_ {A = Answer} (record { refusal = r; reports = n - n₀; rows = k }) (answerOf (stepOf b t))
 answer-is {b = b} {t} {n₀} {n = n} h =
     let e = h .told in
@@ -87,15 +90,18 @@ pub refused-answer : (b : Book) (t : List ℕ) (r : ℕ) → entryOf (b .clock) 
 refused-answer b t r refusal refused = ap answerOf (sym (refused-turn b t r refusal refused))
 
 -- the loop over tickets goes on
-pub going-on : {wordsOf : List ℕ → List ℕ} {bucketOf : List ℕ → ℕ} {b₀ : Book} {tickets answers₀ reports₀ : List ℕ} {b : Book} {taken n₀ : ℕ}
-    {bytes text₀ t : List ℕ} {b′ : Book} {r k n : ℕ} {text : List ℕ} {m : ℕ} {txids heads links : List ℕ} {all : ℕ} {a : Answer} {bytes′ : List ℕ}
+pub going-on : {wordsOf : List ℕ → List ℕ} {bucketOf : List ℕ → ℕ} {b₀ : Book} {tickets answers₀ reports₀ : List ℕ}
+    {b : Book} {taken n₀ : ℕ}
+    {bytes text₀ t : List ℕ} {b′ : Book} {r k n : ℕ} {text : List ℕ} {m : ℕ} {txids heads links : List ℕ} {all : ℕ}
+    {a : Answer} {bytes′ : List ℕ}
     → Going b₀ tickets answers₀ reports₀ b taken n₀ bytes text₀
     → roomLeft (length tickets - 108 * taken) (length answers₀ - 4 * taken) (length reports₀ - 12 * n₀) ≡ true
     → t ≡ take 108 (drop (108 * taken) tickets)
     → Done wordsOf bucketOf b t n₀ text₀ b′ r k n text m txids heads links all
     → a ≡ answerOf (stepOf b t) → bytes′ ≡ sets bytes (4 * taken) (answerBytes a)
     → Going b₀ tickets answers₀ reports₀ b′ (taken + 1) n bytes′ text
-going-on {b₀ = b₀} {tickets} {answers₀} {reports₀} {b} {taken} {n₀} {bytes} {text₀} {t} {b′} {n = n} {text} {bytes′ = bytes′} g more is h is-answer
+going-on {b₀ = b₀} {tickets} {answers₀} {reports₀} {b} {taken} {n₀} {bytes} {text₀} {t} {b′} {n = n} {text}
+    {bytes′ = bytes′} g more is h is-answer
     is-bytes =
     let room : 6528 ≤ length reports₀ - 12 * n₀ =
     room-left (length tickets - 108 * taken) (length answers₀ - 4 * taken) (length reports₀ - 12 * n₀) more .report in

@@ -1,5 +1,5 @@
--- The facts that a ticket is judged on: sender, order and route row are found before the expiries, all else in the book after them. They are
--- those of what is sought in the book after them. Assumes nothing.
+-- The facts that a ticket is judged on: sender, order and route row are found before the expiries, all else in the book after them. They
+-- are those of what is sought in the book after them. Assumes nothing.
 --     sender-same, order-same, route-same    what is found before the expiries is what is found after them
 --     Searched                               what was found before them, and the numbers of sender and order
 --     sender-in, order-in, payee-in          those numbers are in range
@@ -136,7 +136,8 @@ module _ {b : Book} {t : List ℕ} {e : Entry} {n₀ : ℕ} {text₀ : List ℕ}
       -- the order that a ticket opens
       pub new-order : {txid : List ℕ} → txid ≡ txidField t
           → _≡_ {A = Order}
-          (record { txid = txid; payer = p; payee = reached way; amount = e .amount; time = c .clock; status = Waiting }) (newOrder (sought c e t))
+          (record { txid = txid; payer = p; payee = reached way; amount = e .amount; time = c .clock; status = Waiting })
+          (newOrder (sought c e t))
       new-order is-txid =
           λ j. record {
             txid = is-txid j;

@@ -1,5 +1,5 @@
--- A turn up to its verdict: a ticket that is refused by 7 to 11 changes nothing; of another, the expiries, and then the step of the rules is
--- that of the verdict on what is sought in the book after them. Assumes nothing.
+-- A turn up to its verdict: a ticket that is refused by 7 to 11 changes nothing; of another, the expiries, and then the step of the rules
+-- is that of the verdict on what is sought in the book after them. Assumes nothing.
 --     refused-turn    the step of a ticket that 7 to 11 refuse
 --     TakenUp         a ticket that they do not refuse
 --     Expired         the expiries of such a ticket are done, all of them
@@ -181,11 +181,21 @@ module _ {b : Book} {t : List ℕ} {e : Entry} {n₀ : ℕ} {text₀ : List ℕ}
         ∙ ap
         (λ (d : Book).
         let j = judged (e .refusal) (sought d e t) in
-        record { refusal = j .refusal; reports = sweptStep .reports ++ toldBy d (j .decision); rows = j .decision .rows; book = applied d (j .decision) })
+        record {
+          refusal = j .refusal;
+          reports = sweptStep .reports ++ toldBy d (j .decision);
+          rows = j .decision .rows;
+          book = applied d (j .decision);
+        })
         (sym book-is)
         ∙ ap
         (λ (j : Judged).
-        record { refusal = j .refusal; reports = sweptStep .reports ++ toldBy c (j .decision); rows = j .decision .rows; book = applied c (j .decision) })
+        record {
+          refusal = j .refusal;
+          reports = sweptStep .reports ++ toldBy c (j .decision);
+          rows = j .decision .rows;
+          book = applied c (j .decision);
+        })
         judged-is
 
     -- can be carried out

@@ -1,8 +1,8 @@
 -- The ends of a turn: from what the code has then to what the step of the rules gives, a law for each way it ends. Assumes nothing.
---     did-nothing    no order changes
+--     did-nothing     no order changes
 --     order-opened    a new order
---     changed        the order that the ticket is about has another status
---     cut            all covers are cut
+--     changed         the order that the ticket is about has another status
+--     cut             all covers are cut
 use mathlib.Core.Path.{_≡_, refl, sym, _∙_, ap, ap₂, subst}
 use mathlib.Core.List.{List, [], _++_}
 use Prim.Native.Nat.{ℕ, _+_, _*_, _<_}
@@ -45,14 +45,28 @@ use Rattle.course.proofs.Naming.{KeepsName, other-txid, applied-txid, kept-txid
 use Rattle.verdict.specs.Judgement.{verdictOf}
 use Rattle.verdict.specs.Meaning.{factsOf, decidedBy}
 use Rattle.turns.proofs.Index.{TxidIndex, same-index, more-index}
-use Rattle.turns.proofs.Turn.{Expired, sweptStep, told-is, text-is, after-sound, after-count, after-roster, after-index, turn, verdict-applicable}
+use Rattle.turns.proofs.Turn.{
+  Expired,
+  sweptStep,
+  told-is,
+  text-is,
+  after-sound,
+  after-count,
+  after-roster,
+  after-index,
+  turn,
+  verdict-applicable,
+}
 use Rattle.turns.proofs.VerdictFitting.{verdictReports, fits, both-moved}
 use Rattle.turns.proofs.Done.{Done}
 use Rattle.turns.proofs.CarryingOut.{CarriedOut, cut-silent, covers-same}
 
-module _ {wordsOf : List ℕ → List ℕ} {bucketOf : List ℕ → ℕ} {b : Book} {t : List ℕ} {e : Entry} {n₀ : ℕ} {text₀ : List ℕ} {c : Book} {m n : ℕ}
-    {text : List ℕ} (w : Expired b t e n₀ text₀ c m n text) {v : Verdict} (is : v ≡ verdictOf (factsOf (sought c e t))) {cs : List Cover} {all n₂ : ℕ}
-    {text₂ : List ℕ} (k : CarriedOut c v n text cs all n₂ text₂) {txids heads links : List ℕ} (f : TxidIndex wordsOf bucketOf b txids heads links) where
+module _ {wordsOf : List ℕ → List ℕ} {bucketOf : List ℕ → ℕ} {b : Book} {t : List ℕ} {e : Entry} {n₀ : ℕ}
+    {text₀ : List ℕ} {c : Book} {m n : ℕ}
+    {text : List ℕ} (w : Expired b t e n₀ text₀ c m n text) {v : Verdict} (is : v ≡ verdictOf (factsOf (sought c e t)))
+    {cs : List Cover} {all n₂ : ℕ}
+    {text₂ : List ℕ} (k : CarriedOut c v n text cs all n₂ text₂) {txids heads links : List ℕ}
+    (f : TxidIndex wordsOf bucketOf b txids heads links) where
   -- any way it ends, from the decision that the verdict stands for
   module _ (d : Does) (does : v .does ≡ d) where
     abbrev decision : Decision
@@ -62,7 +76,12 @@ module _ {wordsOf : List ℕ → List ℕ} {bucketOf : List ℕ → ℕ} {b : Bo
     ok = subst (λ (z : Does). Applicable c (decidedBy z (sought c e t) v)) does (verdict-applicable w is)
 
     step-is : stepOf b t
-        ≡ record { refusal = v .refusal; reports = sweptStep w .reports ++ toldBy c decision; rows = decision .rows; book = applied c decision }
+        ≡ record {
+          refusal = v .refusal;
+          reports = sweptStep w .reports ++ toldBy c decision;
+          rows = decision .rows;
+          book = applied c decision;
+        }
     step-is =
         turn w is
         ∙ ap
@@ -102,7 +121,8 @@ module _ {wordsOf : List ℕ → List ℕ} {bucketOf : List ℕ → ℕ} {b : Bo
               ∙ ap (λ (rs : List Report). sets text₀ (12 * n₀) (reportsBytes rs)) told-all;
           passed =
               subst (Passed m) (sym book)
-              (passed-applied c decision ok (after-sound w .orders .long) m (let h = w .few in let q = after-count w in omega arith) (w .sweeping .passed));
+              (passed-applied c decision ok (after-sound w .orders .long) m
+              (let h = w .few in let q = after-count w in omega arith) (w .sweeping .passed));
           few =
               let more = count-grows c decision ok in
               let q = ap (λ (x : Book). x .count) book in
@@ -131,11 +151,18 @@ module _ {wordsOf : List ℕ → List ℕ} {bucketOf : List ℕ → ℕ} {b : Bo
   pub did-nothing : {b′ : Book} → v .does ≡ Nothing → b′ ≡ withCovers c cs
       → Done wordsOf bucketOf b t n₀ text₀ b′ (v .refusal) 0 n₂ text₂ m txids heads links all
   did-nothing does book =
-      ended Nothing does (book ∙ ap₂ (λ (x : List Cover) (os : List Order). with x os (c .count)) (k .covers ∙ both-moved w is Nothing) written-back) refl
+      ended Nothing does
+      (book ∙ ap₂ (λ (x : List Cover) (os : List Order). with x os (c .count)) (k .covers ∙ both-moved w is Nothing) written-back) refl
       (k .told) (k .reports) (kept-index Nothing does (record { count = refl; txid = refl }))
 
   pub changed : {b′ : Book} {s : Status} {i : ℕ} → v .does ≡ Becomes s → i ≡ numberOf (soughtOrder c e t)
-      → b′ ≡ record { clock = c .clock; covers = cs; orders = set (c .orders) i (withStatus (orderOf (c .orders) i) s); count = c .count; roster = c .roster }
+      → b′ ≡ record {
+        clock = c .clock;
+        covers = cs;
+        orders = set (c .orders) i (withStatus (orderOf (c .orders) i) s);
+        count = c .count;
+        roster = c .roster;
+      }
       → Done wordsOf bucketOf b t n₀ text₀ b′ (v .refusal) 0 n₂ text₂ m txids heads links all
   changed {s = s} does at book =
       ended (Becomes s) does
@@ -144,7 +171,8 @@ module _ {wordsOf : List ℕ → List ℕ} {bucketOf : List ℕ → ℕ} {b : Bo
       (k .covers ∙ both-moved w is (Becomes s)) at)
       refl (k .told) (k .reports) (kept-index (Becomes s) does (record { count = refl; txid = refl }))
 
-  pub order-opened : {b′ : Book} {o : Order} {rows bucket : ℕ} {txids′ heads′ links′ : List ℕ} → v .does ≡ Opens → o ≡ newOrder (sought c e t)
+  pub order-opened : {b′ : Book} {o : Order} {rows bucket : ℕ} {txids′ heads′ links′ : List ℕ} → v .does ≡ Opens
+      → o ≡ newOrder (sought c e t)
       → b′ ≡ record { clock = c .clock; covers = cs; orders = set (c .orders) (c .count) o; count = c .count + 1; roster = c .roster }
       → rows ≡ rowsFollowed (sought c e t .way)
       → ((s : List ℕ) → length s ≡ 35 → length (wordsOf s) ≡ 5) → bucket ≡ bucketOf (wordsOf (txidField t)) → bucket < rowBuckets
@@ -162,7 +190,8 @@ module _ {wordsOf : List ℕ → List ℕ} {bucketOf : List ℕ → ℕ} {b : Bo
       (more-index (after-index w f) (may .number) refl (λ i l. other-txid c d long (may .number) i (λ q. omega arith))
       (applied-txid c d long (may .number)) (wide (txidField t) (may .txid)) is-bucket inside new-heads new-links new-txids)
 
-  pub cut : {b′ : Book} {r : Roster} {cs′ : List Cover} {n₃ : ℕ} {text₃ : List ℕ} → v .does ≡ Cuts → r ≡ b .roster → cs′ ≡ cutTo r cs (r .size)
+  pub cut : {b′ : Book} {r : Roster} {cs′ : List Cover} {n₃ : ℕ} {text₃ : List ℕ} → v .does ≡ Cuts → r ≡ b .roster
+      → cs′ ≡ cutTo r cs (r .size)
       → b′ ≡ withCovers c cs′ → n₃ ≡ n₂ + length (cutReportsTo r cs (r .size))
       → text₃ ≡ sets text₂ (12 * n₂) (reportsBytes (cutReportsTo r cs (r .size)))
       → Done wordsOf bucketOf b t n₀ text₀ b′ (v .refusal) 0 n₃ text₃ m txids heads links all

@@ -1,8 +1,8 @@
 -- A verdict can be carried out as it stands: its numbers are in range, and there is room for what it moves. Assumes nothing.
---     movedBy      the covers after a move
+--     movedBy           the covers after a move
 --     verdictReports    what is told
---     Fits         what the code needs of a verdict, so that no index, sum or difference of it leaves its range
---     fits         the verdict on what is sought has it
+--     Fits              what the code needs of a verdict, so that no index, sum or difference of it leaves its range
+--     fits              the verdict on what is sought has it
 use mathlib.Core.Path.{_≡_, refl, sym, _∙_, ap, ap₂, subst}
 use mathlib.Core.List.{List}
 use Prim.Native.Nat.{ℕ, _≤_, _<_}
@@ -99,7 +99,8 @@ module _ {b : Book} {t : List ℕ} {e : Entry} {n₀ : ℕ} {text₀ : List ℕ}
   both-moved d =
       sym (transferred-by (v .second) (v .amount) (movedBy (v .first) (v .amount) (c .covers)) (put .second))
       ∙ ap (transferred (transferBy (v .second) (v .amount))) first-moved
-      ∙ ap₂ (λ (y z : Transfer). transferred z (transferred y (c .covers))) (sym (first-as d (sought c e t) v)) (sym (second-as d (sought c e t) v))
+      ∙ ap₂ (λ (y z : Transfer). transferred z (transferred y (c .covers))) (sym (first-as d (sought c e t) v))
+      (sym (second-as d (sought c e t) v))
 
   pub fits : Fits c v
   fits =
@@ -110,17 +111,20 @@ module _ {b : Book} {t : List ℕ} {e : Entry} {n₀ : ℕ} {text₀ : List ℕ}
         second = range .second;
         firstRoom =
             room-by (v .first) (v .amount) (coverOf (c .covers) (v .first .who))
-            (subst (λ (p : ℕ). Room (transferBy (v .first) (v .amount) .how) (transferBy (v .first) (v .amount) .amount) (coverOf (c .covers) p))
+            (subst (λ (p : ℕ). Room (transferBy (v .first) (v .amount) .how)
+            (transferBy (v .first) (v .amount) .amount) (coverOf (c .covers) p))
             (who-by (v .first) (v .amount) (put .first))
             (subst (λ (z : Transfer). Room (z .how) (z .amount) (coverOf (c .covers) (z .who))) (first-as (v .does) x v) (ok .firstRoom)));
         secondRoom =
             let n = v .amount in
             room-by (v .second) n (coverOf (movedBy (v .first) n (c .covers)) (v .second .who))
-            (subst (λ (cs : List Cover). Room (transferBy (v .second) n .how) (transferBy (v .second) n .amount) (coverOf cs (v .second .who)))
+            (subst
+            (λ (cs : List Cover). Room (transferBy (v .second) n .how) (transferBy (v .second) n .amount) (coverOf cs (v .second .who)))
             (sym first-moved)
             (subst
             (λ (p : ℕ).
-            Room (transferBy (v .second) n .how) (transferBy (v .second) n .amount) (coverOf (transferred (transferBy (v .first) n) (c .covers)) p))
+            Room (transferBy (v .second) n .how) (transferBy (v .second) n .amount)
+            (coverOf (transferred (transferBy (v .first) n) (c .covers)) p))
             (who-by (v .second) n (put .second))
             (subst (λ (z : Transfer). Room (z .how) (z .amount) (coverOf (transferred (transferBy (v .first) n) (c .covers)) (z .who)))
             (second-as (v .does) x v)

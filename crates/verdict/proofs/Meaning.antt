@@ -15,7 +15,20 @@ use Rattle.rules.specs.Cover.{mostTotal}
 use Rattle.rules.specs.Status.{isWaiting, isUnmarked, isAsked}
 use Rattle.rules.specs.Decision.{by, nobody, orderKept, orderBecomes, inquiryAnswer, decisionOf}
 use Rattle.rules.specs.Refusal.{namingRefusal, permissionRefusal, backingRefusal, firstOf, firstRefusal}
-use Rattle.rules.specs.Checks.{spaceRefusal, partyRefusal, standing, standingRefusal, sumRefusal, fundsRefusal, confirmRefusal, confirming, brings, totalRefusal, cutCheck, cutRefusal}
+use Rattle.rules.specs.Checks.{
+  spaceRefusal,
+  partyRefusal,
+  standing,
+  standingRefusal,
+  sumRefusal,
+  fundsRefusal,
+  confirmRefusal,
+  confirming,
+  brings,
+  totalRefusal,
+  cutCheck,
+  cutRefusal,
+}
 use Rattle.rules.specs.declared.Recall.the-variants as mark
 use Rattle.rules.specs.declared.Status.{Status}
 use Rattle.rules.specs.declared.Status.the-variants as status
@@ -36,17 +49,45 @@ use Rattle.rules.specs.declared.verdict.About.{About}
 use Rattle.rules.specs.declared.verdict.Verdict.{Verdict}
 use Rattle.course.specs.Judging.{judged, decidedUnless}
 use Rattle.course.specs.declared.Judged.{Judged}
-use Rattle.verdict.specs.OwnStep.{notice, noNotice, unless, refusedVerdict, coverMoved, opened, settled, turnedDown, recalled, declined, returned, answered, cutVerdict, answerTold, answerAlso}
-use Rattle.verdict.specs.Judgement.{coverInRefusal, coverOutRefusal, orderRefusal, answerRefusal, recallRefusal, returnRefusal, declineRefusal, inquiryRefusal, verdictOf}
+use Rattle.verdict.specs.OwnStep.{
+  notice,
+  noNotice,
+  unless,
+  refusedVerdict,
+  coverMoved,
+  opened,
+  settled,
+  turnedDown,
+  recalled,
+  declined,
+  returned,
+  answered,
+  cutVerdict,
+  answerTold,
+  answerAlso,
+}
+use Rattle.verdict.specs.Judgement.{
+  coverInRefusal,
+  coverOutRefusal,
+  orderRefusal,
+  answerRefusal,
+  recallRefusal,
+  returnRefusal,
+  declineRefusal,
+  inquiryRefusal,
+  verdictOf,
+}
 use Rattle.verdict.specs.Meaning.{aboutOf, factsOf, reportBy, noticesTold, decisionBy, judgedBy}
 
 -- refused by n, or a step
 unless-judged : (x : Finding) (n : ℕ) (v : Verdict) → firstRefusal x ≡ n → v .refusal ≡ 0 → decisionOf x ≡ decisionBy x v
     → judged 0 x ≡ judgedBy x (unless n v)
-unless-judged x n v refuses accepts stands = ap (λ (m : ℕ). record { refusal = m; decision = decidedUnless m x }) refuses ∙ go (eqb n 0) refl
+unless-judged x n v refuses accepts stands =
+    ap (λ (m : ℕ). record { refusal = m; decision = decidedUnless m x }) refuses ∙ go (eqb n 0) refl
   where
     go : (z : Bool) → eqb n 0 ≡ z
-        → record { refusal = n; decision = cond z (decisionOf x) (orderKept x nobody false Nobody) } ≡ judgedBy x (cond z v (refusedVerdict n))
+        → record { refusal = n; decision = cond z (decisionOf x) (orderKept x nobody false Nobody) }
+        ≡ judgedBy x (cond z v (refusedVerdict n))
     go true e = λ i. record { refusal = (eqb-true n 0 e ∙ sym accepts) i; decision = stands i }
     go false e = refl
 
@@ -88,11 +129,13 @@ party-alone : (right : Bool)
 party-alone true = refl
 party-alone false = refl
 
-funds-alone : (short : Bool) → backingRefusal (cond short backing.TooLittle backing.Backed) ≡ fundsRefusal (cond short funds.TooLittle funds.Enough)
+funds-alone : (short : Bool)
+    → backingRefusal (cond short backing.TooLittle backing.Backed) ≡ fundsRefusal (cond short funds.TooLittle funds.Enough)
 funds-alone true = refl
 funds-alone false = refl
 
-limit-alone : (above : Bool) → backingRefusal (cond above backing.AboveLimit backing.Backed) ≡ totalRefusal (cond above limit.Above limit.Within)
+limit-alone : (above : Bool)
+    → backingRefusal (cond above backing.AboveLimit backing.Backed) ≡ totalRefusal (cond above limit.Above limit.Within)
 limit-alone true = refl
 limit-alone false = refl
 
@@ -106,7 +149,8 @@ abbrev pub confirmed : Bool → Bool → Bool → Confirming
 confirmed noNotice within all = cond noNotice (cond within (By Debit) Excluded) (cond all (By Credit) Excluded)
 
 confirm-checks : (y : Finding) (p n : ℕ) (noNotice within all above : Bool)
-    → let m = backingRefusal (cond (not (cond noNotice within all)) backing.NotAsCut (cond (noNotice && above) backing.AboveLimit backing.Backed)) in
+    → let m = backingRefusal
+    (cond (not (cond noNotice within all)) backing.NotAsCut (cond (noNotice && above) backing.AboveLimit backing.Backed)) in
     let decides = orderKept y (by p (cond noNotice Debit Credit) n) false Nobody in
     let how = confirming (confirmed noNotice within all) in
     record { refusal = m; decision = cond (eqb m 0) decides (orderKept y nobody false Nobody) }
@@ -213,7 +257,8 @@ module _ (x : Finding) where
   return (At p) (At i) r =
       unless-judged (of kind.Return (At p) (At i) r)
       (returnRefusal (At p) (At i) about (x .cover .available) (x .amount)) (returned i about (x .amount))
-      (return-checks (eqb p (about .payee)) (isAsked (about .status)) (eqb (x .amount) (about .amount)) (ltb (x .cover .available) (x .amount)))
+      (return-checks (eqb p (about .payee)) (isAsked (about .status)) (eqb (x .amount) (about .amount))
+      (ltb (x .cover .available) (x .amount)))
       refl refl
 
   decline : (s o r : Found) → Stands (of kind.Decline s o r)
@@ -224,7 +269,8 @@ module _ (x : Finding) where
       (party-standing (eqb p (about .payee)) (isAsked (about .status))) refl refl
 
   inquiry-told : (p i : ℕ) (r : Found) (s : Status)
-      → inquiryAnswer (of kind.Inquiry (At p) (At i) r) s ≡ noticesTold (answerTold about (x .bank) s) (answerAlso about s) i (about .amount)
+      → inquiryAnswer (of kind.Inquiry (At p) (At i) r) s
+      ≡ noticesTold (answerTold about (x .bank) s) (answerAlso about s) i (about .amount)
   inquiry-told p i r status.Waiting = waiting-told (about .payer) (about .payee) i (about .amount) (x .bank)
   inquiry-told p i r status.Refused = refl
   inquiry-told p i r status.Expired = refl

@@ -1,8 +1,8 @@
 -- What holds of every verdict: the laws by which it can be carried out. Assumes nothing.
---     every            what holds of a refused ticket's verdict and of the step of its kind
---     refused-alone    of a refused ticket all but the refusal is nothing
+--     every               what holds of a refused ticket's verdict and of the step of its kind
+--     refused-alone       of a refused ticket all but the refusal is nothing
 --     verdict-in-range    who moves and who is told are participants, and the order that is told of is one
---     cuts-alone       a cut moves no cover by itself, and tells by the cut alone
+--     cuts-alone          a cut moves no cover by itself, and tells by the cut alone
 use mathlib.Core.Path.{_≡_, refl}
 use mathlib.Core.Bool.{Bool, true, false, cond}
 use Prim.Native.Nat.{ℕ, _<_}
@@ -15,7 +15,18 @@ use Rattle.ticket.specs.declared.kinds.Kind.{Kind}
 use Rattle.ticket.specs.declared.kinds.Kind.the-variants as kind
 use Rattle.dayfile.specs.Route.{reached}
 use Rattle.dayfile.specs.declared.route.Followed.{Followed}
-use Rattle.rules.specs.Checks.{senderCheck, sending, payeeCheck, receiving, heldCheck, named, cutRefusal, cutCheck, confirmCheck, confirming}
+use Rattle.rules.specs.Checks.{
+  senderCheck,
+  sending,
+  payeeCheck,
+  receiving,
+  heldCheck,
+  named,
+  cutRefusal,
+  cutCheck,
+  confirmCheck,
+  confirming,
+}
 use Rattle.rules.specs.declared.Recall.{Recall}
 use Rattle.rules.specs.declared.Recall.the-variants as mark
 use Rattle.rules.specs.declared.Status.{Status}
@@ -25,8 +36,35 @@ use Rattle.rules.specs.declared.verdict.About.{About}
 use Rattle.rules.specs.declared.verdict.Facts.{Facts}
 use Rattle.rules.specs.declared.verdict.Does.the-variants.{Nothing, Cuts}
 use Rattle.rules.specs.declared.verdict.Verdict.{Verdict}
-use Rattle.verdict.specs.OwnStep.{unless, refusedVerdict, nothing, coverMoved, opened, settled, turnedDown, recalled, declined, returned, answered, answerTold, answerAlso, cutVerdict}
-use Rattle.verdict.specs.Judgement.{coverInRefusal, coverOutRefusal, orderRefusal, answerRefusal, recallRefusal, returnRefusal, declineRefusal, inquiryRefusal, confirmsRefusal, verdictFor, verdictOf}
+use Rattle.verdict.specs.OwnStep.{
+  unless,
+  refusedVerdict,
+  nothing,
+  coverMoved,
+  opened,
+  settled,
+  turnedDown,
+  recalled,
+  declined,
+  returned,
+  answered,
+  answerTold,
+  answerAlso,
+  cutVerdict,
+}
+use Rattle.verdict.specs.Judgement.{
+  coverInRefusal,
+  coverOutRefusal,
+  orderRefusal,
+  answerRefusal,
+  recallRefusal,
+  returnRefusal,
+  declineRefusal,
+  inquiryRefusal,
+  confirmsRefusal,
+  verdictFor,
+  verdictOf,
+}
 
 -- the step of each kind
 abbrev pub stepFor : Kind → Facts → Verdict
@@ -154,7 +192,8 @@ module _ (size orders : ℕ) (x : Facts) (h : Known size orders x) where
       let o = h .order in
       record { first = omega (arith, p); second = omega (arith, p); told = omega (arith, p); also = omega (arith, p); number = omega arith }
 
-  moves : (v : Verdict) → v .first .who ≡ sending (senderCheck (x .sender)) → v .second .who ≡ 0 → v .told .to ≡ 0 → v .also .to ≡ 0 → v .number ≡ 0
+  moves : (v : Verdict) → v .first .who ≡ sending (senderCheck (x .sender)) → v .second .who ≡ 0 → v .told .to ≡ 0
+      → v .also .to ≡ 0 → v .number ≡ 0
       → VerdictInRange size orders v
   moves v a b c d e =
       let s = p in
@@ -165,13 +204,27 @@ module _ (size orders : ℕ) (x : Facts) (h : Known size orders x) where
   step-in-range kind.CoverIn = moves (stepFor kind.CoverIn x) refl refl refl refl refl
   step-in-range kind.CoverOut = moves (stepFor kind.CoverOut x) refl refl refl refl refl
   step-in-range kind.Order =
-      record { first = p; second = omega (arith, p); told = receives (x .route) (x .way) size (h .reached); also = omega (arith, p); number = h .count }
+      record {
+        first = p;
+        second = omega (arith, p);
+        told = receives (x .route) (x .way) size (h .reached);
+        also = omega (arith, p);
+        number = h .count;
+      }
   step-in-range kind.Yes =
-      record { first = h .payer; second = h .payee; told = h .payer; also = payee-below size (x .about) (h .payer) (h .payee) (named (heldCheck (x .order))) (x .bank); number = i }
+      record {
+        first = h .payer;
+        second = h .payee;
+        told = h .payer;
+        also = payee-below size (x .about) (h .payer) (h .payee) (named (heldCheck (x .order))) (x .bank);
+        number = i;
+      }
   step-in-range kind.No = record { first = h .payer; second = omega (arith, p); told = h .payer; also = omega (arith, p); number = i }
-  step-in-range kind.Recall = record { first = omega (arith, p); second = omega (arith, p); told = h .payee; also = omega (arith, p); number = i }
+  step-in-range kind.Recall =
+      record { first = omega (arith, p); second = omega (arith, p); told = h .payee; also = omega (arith, p); number = i }
   step-in-range kind.Return = record { first = h .payee; second = h .payer; told = h .payer; also = omega (arith, p); number = i }
-  step-in-range kind.Decline = record { first = omega (arith, p); second = omega (arith, p); told = h .payer; also = omega (arith, p); number = i }
+  step-in-range kind.Decline =
+      record { first = omega (arith, p); second = omega (arith, p); told = h .payer; also = omega (arith, p); number = i }
   step-in-range kind.Inquiry =
       record {
         first = omega (arith, p);
@@ -181,7 +234,13 @@ module _ (size orders : ℕ) (x : Facts) (h : Known size orders x) where
         number = i;
       }
   step-in-range kind.Cut =
-      record { first = omega (arith, p); second = omega (arith, p); told = omega (arith, p); also = omega (arith, p); number = omega (arith, i) }
+      record {
+        first = omega (arith, p);
+        second = omega (arith, p);
+        told = omega (arith, p);
+        also = omega (arith, p);
+        number = omega (arith, i);
+      }
   step-in-range kind.Confirm = moves (stepFor kind.Confirm x) refl refl refl refl refl
   step-in-range kind.Tick = nobody-in-range 0
 

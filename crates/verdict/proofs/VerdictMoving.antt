@@ -1,8 +1,8 @@
 -- A verdict carried out as it stands: who moves by its one amount, what is told by its codes. Assumes nothing.
---     stays-put          who stays put is participant 0
---     moved-by           a cover moves as the decision has it, and there is room for it where there is for the decision's
---     transferred-by     the covers after a move
---     told-none, told-one, told-two      the reports, by the codes
+--     stays-put                        who stays put is participant 0
+--     moved-by                         a cover moves as the decision has it, and there is room for it where there is for the decision's
+--     transferred-by                   the covers after a move
+--     told-none, told-one, told-two    the reports, by the codes
 use mathlib.Core.Path.{_≡_, refl}
 use mathlib.Core.Bool.{Bool, true, false, _&&_, not, cond}
 use mathlib.Core.List.{List, [], _∷_}
@@ -94,7 +94,8 @@ confirm-put : (s : Found) (n : ℕ) (none within all above : Bool)
     → let how = confirming (confirmed none within all) in
     Put
     (unless
-    (firstOf (senderRefusal (senderCheck s)) (firstOf (confirmRefusal (confirmed none within all)) (totalRefusal (cond (brings how && above) Above Within))))
+    (firstOf (senderRefusal (senderCheck s))
+    (firstOf (confirmRefusal (confirmed none within all)) (totalRefusal (cond (brings how && above) Above Within))))
     (coverMoved (sending (senderCheck s)) how n))
 confirm-put found.Nothing n none within all above = refused-put 12
 confirm-put (found.At p) n true true all true = refused-put 22

@@ -11,12 +11,55 @@ use Rattle.ticket.specs.declared.kinds.Kind.{Kind}
 use Rattle.ticket.specs.declared.kinds.Kind.the-variants as kind
 use Rattle.dayfile.specs.declared.route.Followed.{Followed}
 use Rattle.rules.specs.Refusal.{firstOf}
-use Rattle.rules.specs.Checks.{senderCheck, senderRefusal, sending, newCheck, newRefusal, payeeCheck, payeeRefusal, receiving, spaceCheck, spaceRefusal, heldCheck, heldRefusal, named, partyCheck, partyRefusal, waitingCheck, unmarkedCheck, askedCheck, standingRefusal, sumCheck, sumRefusal, fundsCheck, fundsRefusal, cutCheck, cutRefusal, confirmCheck, confirmRefusal, confirming, limitCheck, totalRefusal}
+use Rattle.rules.specs.Checks.{
+  senderCheck,
+  senderRefusal,
+  sending,
+  newCheck,
+  newRefusal,
+  payeeCheck,
+  payeeRefusal,
+  receiving,
+  spaceCheck,
+  spaceRefusal,
+  heldCheck,
+  heldRefusal,
+  named,
+  partyCheck,
+  partyRefusal,
+  waitingCheck,
+  unmarkedCheck,
+  askedCheck,
+  standingRefusal,
+  sumCheck,
+  sumRefusal,
+  fundsCheck,
+  fundsRefusal,
+  cutCheck,
+  cutRefusal,
+  confirmCheck,
+  confirmRefusal,
+  confirming,
+  limitCheck,
+  totalRefusal,
+}
 use Rattle.rules.specs.declared.decision.Move.the-variants.{Give, Draw}
 use Rattle.rules.specs.declared.verdict.About.{About}
 use Rattle.rules.specs.declared.verdict.Facts.{Facts}
 use Rattle.rules.specs.declared.verdict.Verdict.{Verdict}
-use Rattle.verdict.specs.OwnStep.{unless, nothing, coverMoved, opened, settled, turnedDown, recalled, declined, returned, answered, cutVerdict}
+use Rattle.verdict.specs.OwnStep.{
+  unless,
+  nothing,
+  coverMoved,
+  opened,
+  settled,
+  turnedDown,
+  recalled,
+  declined,
+  returned,
+  answered,
+  cutVerdict,
+}
 
 -- Cover in: available rises
 abbrev pub coverInRefusal : Found → ℕ → ℕ → ℕ

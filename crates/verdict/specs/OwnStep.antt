@@ -45,7 +45,16 @@ nothing = refusedVerdict 0
 -- one participant's cover moves
 abbrev pub coverMoved : ℕ → Move → ℕ → Verdict
 coverMoved who how n =
-    record { refusal = 0; does = Nothing; number = 0; first = mover who how; second = noMover; amount = n; told = noNotice; also = noNotice }
+    record {
+      refusal = 0;
+      does = Nothing;
+      number = 0;
+      first = mover who how;
+      second = noMover;
+      amount = n;
+      told = noNotice;
+      also = noNotice;
+    }
 
 -- Order: available to reserved; new Waiting order; report 1 to payee
 abbrev pub opened : ℕ → ℕ → ℕ → ℕ → Verdict
@@ -162,4 +171,5 @@ answered i a bank =
 
 -- Cut: all covers, with their own reports
 abbrev pub cutVerdict : Verdict
-cutVerdict = record { refusal = 0; does = Cuts; number = 0; first = noMover; second = noMover; amount = 0; told = noNotice; also = noNotice }
+cutVerdict =
+    record { refusal = 0; does = Cuts; number = 0; first = noMover; second = noMover; amount = 0; told = noNotice; also = noNotice }

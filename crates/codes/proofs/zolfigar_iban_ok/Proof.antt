@@ -37,7 +37,8 @@ fronted : (c : tie.Else3) → ibanFront (s (c .before .before)) ≡ true
 fronted c = sym (c .before .iban-front .ensures) ∙ not-false _ (c .if3 .left)
 
 -- so are the classes
-passed : (c : tie.Else4) → eqb (speltMoved (padded 34 (s (c .before .before .before .before)))) 1 ≡ isIban (s (c .before .before .before .before))
+passed : (c : tie.Else4)
+    → eqb (speltMoved (padded 34 (s (c .before .before .before .before)))) 1 ≡ isIban (s (c .before .before .before .before))
 passed c =
     let l = c .before .before .before .before in
     let spelt = sym (c .before .all-in .ensures) ∙ not-false _ (c .if4 .left) in

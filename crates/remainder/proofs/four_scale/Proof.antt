@@ -11,7 +11,8 @@ use Rattle.remainder.proofs.four_scale.Tie as tie
 
 product : (c : tie.After-two-scale2) → c .before .two-scale .result * c .two-scale2 .result ≤ 10 ^ 8 * 10 ^ 8
 product c =
-    most (c .before .two-scale .result) (c .two-scale2 .result) (10 ^ 8) (10 ^ 8) (c .before .two-scale .ensures .1) (c .two-scale2 .ensures .1)
+    most (c .before .two-scale .result) (c .two-scale2 .result) (10 ^ 8) (10 ^ 8) (c .before .two-scale .ensures .1)
+    (c .two-scale2 .ensures .1)
 
 pub four-scale-spec : {M : Type 1} → statement M
 four-scale-spec =

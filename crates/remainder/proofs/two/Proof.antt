@@ -38,6 +38,13 @@ two-spec =
     (λ c κs. search needs)
     (λ c. omega (arith, product (c .before .before), number c))
     (λ c. (
-      simp (add-zero, zero-mul, zero-add, c .before .before .before .before .wide .ensures, c .before .before .wide2 .ensures, c .wide3 .ensures),
+      simp (
+        add-zero,
+        zero-mul,
+        zero-add,
+        c .before .before .before .before .wide .ensures,
+        c .before .before .wide2 .ensures,
+        c .wide3 .ensures,
+      ),
       omega (arith, product (c .before .before), number c),
     )))

@@ -33,10 +33,12 @@ txid-spec =
     (λ c.
     let ok = c .before in
     let u = ok .before in
-    let is = answered-yes (isTxid (txidOf (now (u .before .before .before .before .args .t)))) (ok .zolfigar-txid-ok .ensures ∙ ap (λ (s : List ℕ). answer (isTxid s)) (u .unpadded .ensures)) (c .if2 .taken) in
+    let is = answered-yes (isTxid (txidOf (now (u .before .before .before .before .args .t))))
+    (ok .zolfigar-txid-ok .ensures ∙ ap (λ (s : List ℕ). answer (isTxid s)) (u .unpadded .ensures)) (c .if2 .taken) in
     u .unpadded .ensures ∙ sym (simp (eq-eqb _ _ (u .before .before .if1 .left), is)))
     (λ c.
     let ok = c .before .before in
     let u = ok .before in
-    let is = answered-no (isTxid (txidOf (now (u .before .before .before .before .args .t)))) (ok .zolfigar-txid-ok .ensures ∙ ap (λ (s : List ℕ). answer (isTxid s)) (u .unpadded .ensures)) (c .before .if2 .left) in
+    let is = answered-no (isTxid (txidOf (now (u .before .before .before .before .args .t))))
+    (ok .zolfigar-txid-ok .ensures ∙ ap (λ (s : List ℕ). answer (isTxid s)) (u .unpadded .ensures)) (c .before .if2 .left) in
     simp (eq-eqb _ _ (u .before .before .if1 .left), is)))

@@ -77,4 +77,5 @@ bic-chained-spec =
     (λ c.
     let l = c .before in
     let e : l .loop .at ≡ 0 = let t = c .loop-test .left in omega arith in
-    all-compared _ _ _ _ _ _ _ _ (l .loop .inv .0) (subst (Comparing _ _ _ _ _ _ _ _ (l .loop .inv .0) (l .loop .found)) e (l .loop .inv .1))))
+    all-compared _ _ _ _ _ _ _ _ (l .loop .inv .0)
+    (subst (Comparing _ _ _ _ _ _ _ _ (l .loop .inv .0) (l .loop .found)) e (l .loop .inv .1))))

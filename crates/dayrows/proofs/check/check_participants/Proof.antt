@@ -1,4 +1,5 @@
--- `dayrows::check::check_participants` meets its contract. The loop's invariant: whether the first i rows are right by themselves. Assumes nothing.
+-- `dayrows::check::check_participants` meets its contract. The loop's invariant: whether the first i rows are right by themselves.
+-- Assumes nothing.
 use mathlib.Core.Path.{_≡_, sym, _∙_, ap, ap₂}
 use mathlib.Core.Bool.{Bool, _&&_, not, cond}
 use mathlib.Core.List.{List}

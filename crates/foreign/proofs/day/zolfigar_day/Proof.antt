@@ -52,7 +52,8 @@ zolfigar-day-spec =
     let l = at .loop in
     let a = at .before .before .before .before .args in
     let test = going (l .d .ended) (n .before .before .if1 .taken) in
-    let law = piece-fits (now (a .file)) (now (a .text)) (l .text) (l .d) (l .at) (l .inv .0) test (l .piece) _ (n .next-piece .result) (n .next-piece .ensures) (l .inv .1) in
+    let law = piece-fits (now (a .file)) (now (a .text)) (l .text) (l .d) (l .at) (l .inv .0) test (l .piece) _ (n .next-piece .result)
+    (n .next-piece .ensures) (l .inv .1) in
     omega arith)
     (λ c.
     let n = c .before .before .before .before .before .before .before .before in
@@ -60,7 +61,8 @@ zolfigar-day-spec =
     let l = at .loop in
     let a = at .before .before .before .before .args in
     let test = going (l .d .ended) (n .before .before .if1 .taken) in
-    let law = fewer (now (a .file)) (now (a .text)) (l .text) (l .d) (l .at) (l .inv .0) test (l .piece) _ (n .next-piece .result) (n .next-piece .ensures) (l .inv .1) in
+    let law = fewer (now (a .file)) (now (a .text)) (l .text) (l .d) (l .at) (l .inv .0) test (l .piece) _ (n .next-piece .result)
+    (n .next-piece .ensures) (l .inv .1) in
     law)
     (λ c.
     let n = c .before .before .before .before .before .before .before .before in
@@ -68,9 +70,13 @@ zolfigar-day-spec =
     let l = at .loop in
     let a = at .before .before .before .before .args in
     let test = going (l .d .ended) (n .before .before .if1 .taken) in
-    let law = piece-more (now (a .file)) (now (a .text)) (l .text) (l .d) (l .at) (l .inv .0) test (l .piece) _ (n .next-piece .result) (n .next-piece .ensures) (l .inv .1) in
+    let law = piece-more (now (a .file)) (now (a .text)) (l .text) (l .d) (l .at) (l .inv .0) test (l .piece) _ (n .next-piece .result)
+    (n .next-piece .ensures) (l .inv .1) in
     (law _ (c .before .before .before .put-piece .ensures), n .next-piece .kept .1 .1 .0 ∙ l .inv .1))
-    (λ c. let l = c .before .before .loop in let a = c .before .before .before .before .before .before .args in rw (l .inv .0 .has) (lent-length (l .inv .0 .printed) (now (a .text))))
+    (λ c.
+    let l = c .before .before .loop in
+    let a = c .before .before .before .before .before .before .args in
+    rw (l .inv .0 .has) (lent-length (l .inv .0 .printed) (now (a .text))))
     (λ c.
     let at = c .before .before in
     let l = at .loop in

@@ -10,11 +10,13 @@ use Rattle.foreign.proofs.steps.zolfigar_steps.Statement.{statement}
 use Rattle.foreign.proofs.steps.zolfigar_steps.Tie as tie
 
 -- the tickets lie within the file
-within : (c : tie.After-book) → let o = c .before .before .before in o .«open» .result .first ≤ length (now (o .before .before .before .before .args .file))
+within : (c : tie.After-book) → let o = c .before .before .before in
+    o .«open» .result .first ≤ length (now (o .before .before .before .before .args .file))
 within c =
     let o = c .before .before .before in
     let a = o .before .before .before .before .args in
-    first-within (now (a .file)) (now (a .answers)) (now (a .reports)) (o .«open» .result) (o .«open» .ensures .opened) (c .before .if1 .left)
+    first-within (now (a .file)) (now (a .answers)) (now (a .reports)) (o .«open» .result)
+    (o .«open» .ensures .opened) (c .before .if1 .left)
 
 pub zolfigar-steps-spec : {M : Type 1} → statement M
 zolfigar-steps-spec =
@@ -37,5 +39,6 @@ zolfigar-steps-spec =
     let k = r .before .before .before .before in
     let o = k .before .before .before in
     let a = o .before .before .before .before .args in
-    accepted-stepped (now (a .file)) (now (a .answers)) (now (a .reports)) (o .«open» .result) (o .«open» .ensures .opened) (k .before .if1 .left)
+    accepted-stepped (now (a .file)) (now (a .answers)) (now (a .reports)) (o .«open» .result)
+    (o .«open» .ensures .opened) (k .before .if1 .left)
     (rw (to-end (now (a .file)) (o .«open» .result .first)) at (r .run .ensures))))

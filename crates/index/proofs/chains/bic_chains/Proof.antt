@@ -52,7 +52,8 @@ bic-chains-spec =
       put .enchain .kept .0 ∙ l .loop .inv .1,
       put .enchain .kept .1 .0 ∙ l .loop .inv .2,
       enchained (l .loop .inv .3) (l .loop .inv .1) (let h = l .loop .inv .2 in omega arith)
-          (told .bic-bucket .ensures .0 ∙ ap rowBucket (sym (part-two (2 * l .loop .i) (now (l .before .before .args .rows)) (omega arith))))
+          (told .bic-bucket .ensures .0
+          ∙ ap rowBucket (sym (part-two (2 * l .loop .i) (now (l .before .before .args .rows)) (omega arith))))
           (told .bic-bucket .ensures .1) (put .enchain .ensures .0) (put .enchain .ensures .1),
     ))
     (λ c.

@@ -56,7 +56,8 @@ find-two-spec =
     (λ c κs. row-ends c)
     (λ c.
     let in-loop = c .before .before in
-    sym (found-there _ _ _ _ _ _ _ (in-loop .before .loop .inv .0) (i in-loop) (here in-loop) (sym (c .before .holds-two .ensures) ∙ c .if1 .taken)))
+    sym (found-there _ _ _ _ _ _ _ (in-loop .before .loop .inv .0) (i in-loop) (here in-loop)
+    (sym (c .before .holds-two .ensures) ∙ c .if1 .taken)))
     (λ c. search needs)
     (λ c. let in-loop = c .before .before .before in let b = below in-loop in let k = in-loop .before .loop .inv .0 .linked in omega arith)
     (λ c κs. search needs)
@@ -71,7 +72,8 @@ find-two-spec =
     let s = in-loop .before .loop .inv .0 in (
       s,
       subst (LeftBelow _ _ _ _ _ _ _ s) (sym (c .wide2 .ensures))
-          (left-at-link _ _ _ _ _ _ _ s (i in-loop) (here in-loop) (sym (c .before .before .before .holds-two .ensures) ∙ c .before .before .if1 .left)),
+          (left-at-link _ _ _ _ _ _ _ s (i in-loop) (here in-loop)
+          (sym (c .before .before .before .holds-two .ensures) ∙ c .before .before .if1 .left)),
     ))
     (λ c.
     let l = c .before in

@@ -61,7 +61,8 @@ txid-chains-spec =
       put .enchain .kept .0 ∙ l .loop .inv .1,
       put .enchain .kept .1 .0 ∙ l .loop .inv .2,
       enchained (l .loop .inv .3) (l .loop .inv .1) (let h = l .loop .inv .2 in omega arith)
-          (told .txid-bucket .ensures .0 ∙ ap rowBucket (sym (part-five (5 * l .loop .i) (now (l .before .before .args .rows)) (omega arith))))
+          (told .txid-bucket .ensures .0
+          ∙ ap rowBucket (sym (part-five (5 * l .loop .i) (now (l .before .before .args .rows)) (omega arith))))
           (told .txid-bucket .ensures .1) (put .enchain .ensures .0) (put .enchain .ensures .1),
     ))
     (λ c.

@@ -1,4 +1,5 @@
--- `lines::decimal::digits` meets its contract. The loop's invariant: the number has as many digits as left, and k - 1 more. Assumes nothing.
+-- `lines::decimal::digits` meets its contract. The loop's invariant: the number has as many digits as left, and k - 1 more.
+-- Assumes nothing.
 use mathlib.Core.Path.{_≡_}
 use Prim.Native.Nat.{_+_, _^_, _<_}
 use native.Mathlib.Omega.{arith}

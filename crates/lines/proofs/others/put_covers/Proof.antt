@@ -30,8 +30,11 @@ put-covers-spec =
     (λ c. search needs)
     (λ c.
     let k = c .before .before in
-    let l = k .before .before .before .before in
-    (search needs, rw (add-one (l .loop .p)) (filled-behind (l .loop .inv .1) (k .put-cover .ensures .0) (k .put-cover .kept .0)), search needs))
+    let l = k .before .before .before .before in (
+      search needs,
+      rw (add-one (l .loop .p)) (filled-behind (l .loop .inv .1) (k .put-cover .ensures .0) (k .put-cover .kept .0)),
+      search needs,
+    ))
     (λ c. c .before .loop .inv .1 .kept)
     (λ c.
     let l = c .before in

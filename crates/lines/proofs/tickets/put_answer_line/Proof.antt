@@ -13,7 +13,10 @@ put-answer-line-spec =
     (λ c. search needs)
     (λ c. search needs)
     (λ c. search needs)
-    (λ c κs. let a = c .before .before .before .before .before .before .args in let most = answer-line-most (a .n) (a .a) (search needs) (search needs) (search needs) in omega arith)
+    (λ c κs.
+    let a = c .before .before .before .before .before .before .args in
+    let most = answer-line-most (a .n) (a .a) (search needs) (search needs) (search needs) in
+    omega arith)
     (λ c. search needs)
     (λ c.
     let k = c .before .before in

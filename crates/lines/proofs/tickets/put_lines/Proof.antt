@@ -59,9 +59,14 @@ put-lines-spec =
     let e = ap (λ (x : Answer). x .reports) (r .answer-at .ensures) in
     let next = start-next (now (a .answers)) (l .loop .i) in
     let w = rw (r .answer-at .ensures, l .loop .inv .1) at (k .put-ticket .ensures .0) in
-    let text = ticketText (a .k + l .loop .i) (answerAt (now (a .answers)) (l .loop .i)) (now (a .reports)) (startOf (now (a .answers)) (l .loop .i)) in
-    let most = k .put-ticket .ensures .1 in
-    (search needs, omega arith, rw (add-one (l .loop .i)) (filled-behind {b = text} (l .loop .inv .2) w (k .put-ticket .kept .0)), omega arith))
+    let text = ticketText (a .k + l .loop .i) (answerAt (now (a .answers)) (l .loop .i)) (now (a .reports))
+    (startOf (now (a .answers)) (l .loop .i)) in
+    let most = k .put-ticket .ensures .1 in (
+      search needs,
+      omega arith,
+      rw (add-one (l .loop .i)) (filled-behind {b = text} (l .loop .inv .2) w (k .put-ticket .kept .0)),
+      omega arith,
+    ))
     (λ c. c .before .loop .inv .2 .kept)
     (λ c.
     let l = c .before in

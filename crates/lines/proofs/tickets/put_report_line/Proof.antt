@@ -13,7 +13,10 @@ put-report-line-spec =
     (λ c. search needs)
     (λ c. search needs)
     (λ c. search needs)
-    (λ c κs. let a = c .before .before .before .before .before .before .args in let most = report-line-most (a .r) (search needs) (search needs) (search needs) in omega arith)
+    (λ c κs.
+    let a = c .before .before .before .before .before .before .args in
+    let most = report-line-most (a .r) (search needs) (search needs) (search needs) in
+    omega arith)
     (λ c. search needs)
     (λ c.
     let k = c .before .before in

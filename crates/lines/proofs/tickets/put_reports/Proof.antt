@@ -11,7 +11,8 @@ use Rattle.lines.proofs.tickets.put_reports.Statement.{statement}
 use Rattle.lines.proofs.tickets.put_reports.Tie as tie
 
 abbrev Inv-loop : tie.InvT-loop
-Inv-loop text₀ at reports from n end₀ i₀ text end i = (i ≤ n) × Filled text₀ text at (reportsTo reports from i) end × (end ≤ at + longestLine * i)
+Inv-loop text₀ at reports from n end₀ i₀ text end i =
+    (i ≤ n) × Filled text₀ text at (reportsTo reports from i) end × (end ≤ at + longestLine * i)
 
 abbrev μ-loop : tie.MeasureT-loop
 μ-loop text₀ at reports from n end₀ i₀ text end i = n - i

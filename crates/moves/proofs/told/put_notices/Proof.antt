@@ -30,8 +30,12 @@ some a b i n e = rw e (go (eqb (b .code) 0))
 
 -- the first is to be written
 module _ (c : tie.After-report-by) where
-  told-some : 1 ≤ length (listed (noticesTold (c .before .before .before .before .before .args .told) (c .before .before .before .before .before .args .also) (c .before .before .before .before .before .args .i) (c .before .before .before .before .before .args .amount)))
-  told-some = let a = c .before .before .before .before .before .args in some (a .told) (a .also) (a .i) (a .amount) (c .before .before .if1 .left)
+  told-some : 1 ≤ length (listed
+      (noticesTold (c .before .before .before .before .before .args .told) (c .before .before .before .before .before .args .also)
+      (c .before .before .before .before .before .args .i) (c .before .before .before .before .before .args .amount)))
+  told-some =
+      let a = c .before .before .before .before .before .args in
+      some (a .told) (a .also) (a .i) (a .amount) (c .before .before .if1 .left)
 
 -- it is written
 module _ (c : tie.After-put-report) where
@@ -40,7 +44,8 @@ module _ (c : tie.After-put-report) where
 
   first-text : c .put-report .last .0
       ≡ sets (now (from .before .before .before .args .buffer)) (12 * from .before .before .before .args .n)
-      (reportsBytes (reportBy (from .before .before .before .args .told) (from .before .before .before .args .i) (from .before .before .before .args .amount) ∷ []))
+      (reportsBytes (reportBy (from .before .before .before .args .told) (from .before .before .before .args .i)
+      (from .before .before .before .args .amount) ∷ []))
   first-text =
       let a = from .before .before .before .args in
       c .put-report .ensures
@@ -52,7 +57,9 @@ put-notices-spec =
     tie.close
     (tie.spec
     -- none
-    (λ c. let a = c .before .before .before .args in rw (told-none (a .told) (a .also) (a .i) (a .amount) (c .if1 .taken)) (refl, search needs))
+    (λ c.
+    let a = c .before .before .before .args in
+    rw (told-none (a .told) (a .also) (a .i) (a .amount) (c .if1 .taken)) (refl, search needs))
     (λ c κs. search needs)
     (λ c κs. let h = told-some c in let p = c .before .before .before .before .before .pre .3 in search needs)
     (λ c. search needs)

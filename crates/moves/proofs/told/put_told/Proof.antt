@@ -21,7 +21,10 @@ put-told-spec =
     (λ c. search needs)
     (λ c κs. let t = c .before .before in let h = rw (t .told2 .given .1) at (t .before .before .before .pre) in search needs)
     (λ c. search needs)
-    (λ c κs. let t = c .before .before .before .before .before .before in let h = rw (t .told2 .given .1) at (t .before .before .before .pre) in search needs)
+    (λ c κs.
+    let t = c .before .before .before .before .before .before in
+    let h = rw (t .told2 .given .1) at (t .before .before .before .pre) in
+    search needs)
     (λ c. search needs)
     -- nobody
     (λ c. rw (c .enum-told .given .1) (refl, search needs))

@@ -20,12 +20,14 @@ take-batch-spec =
     let k = c .before .before .before .before .before .before in
     let start = k .before .before .before .before .before in
     let p = start .pre in
-    batch-lined (p .0) (length-replicate {A = ℕ} 2048 0) (length-replicate {A = ℕ} 12288 0) (k .run .ensures) (start .args .k) (now (start .args .text))
+    batch-lined (p .0) (length-replicate {A = ℕ} 2048 0) (length-replicate {A = ℕ} 12288 0) (k .run .ensures) (start .args .k)
+    (now (start .args .text))
     (p .1) (p .2))
     (λ c. search needs)
     (λ c.
     let l = c .before .before in
     let k = l .before .before .before .before .before .before .before in
     let start = k .before .before .before .before .before in
-    batch-written (start .pre .0) (length-replicate {A = ℕ} 2048 0) (length-replicate {A = ℕ} 12288 0) (k .run .ensures) (start .args .k) (l .put-lines .ensures .0)
+    batch-written (start .pre .0) (length-replicate {A = ℕ} 2048 0) (length-replicate {A = ℕ} 12288 0) (k .run .ensures) (start .args .k)
+    (l .put-lines .ensures .0)
     (l .put-lines .ensures .1)))

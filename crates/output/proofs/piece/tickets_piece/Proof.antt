@@ -21,7 +21,8 @@ within c =
 batched : (c : tie.After-take-batch)
     → let start = c .before .before .before .before .before .before .before .before in
     let d = start .args .d in
-    Batched (d .book) (drop (d .first + 108 * d .taken) (now (start .args .file))) (d .taken) (now (start .args .text)) (c .take-batch .result .book)
+    Batched (d .book) (drop (d .first + 108 * d .taken) (now (start .args .file))) (d .taken) (now (start .args .text))
+    (c .take-batch .result .book)
     (c .take-batch .result .taken) (c .take-batch .last .1 .1 .1 .0) (c .take-batch .result .length)
 batched c =
     let start = c .before .before .before .before .before .before .before .before in
@@ -37,7 +38,10 @@ tickets-piece-spec =
     (λ c. let w = within (c .before .before .before .before .before) in omega arith)
     (λ c. let w = within (c .before .before .before .before .before) in omega arith)
     (λ c. search needs)
-    (λ c κs. let p = c .before .before .before .before .before .before .before .pre in let l = p .0 .tickets (p .2) in (p .0 .sound, omega arith, p .4))
+    (λ c κs.
+    let p = c .before .before .before .before .before .before .before .pre in
+    let l = p .0 .tickets (p .2) in
+    (p .0 .sound, omega arith, p .4))
     (λ c.
     let b = c .before .before .before .before .before in
     let start = b .before .before .before .before .before .before .before .before in

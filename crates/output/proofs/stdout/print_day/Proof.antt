@@ -1,4 +1,5 @@
--- `output::stdout::print_day` is safe and ends. The loop's invariant: the day is one of the file, and the text keeps its length. Assumes nothing.
+-- `output::stdout::print_day` is safe and ends. The loop's invariant: the day is one of the file, and the text keeps its length.
+-- Assumes nothing.
 use mathlib.Core.Path.{_≡_, refl, _∙_, sym}
 use mathlib.Core.Bool.{Bool, true, false, _&&_, not}
 use Prim.Native.Nat.{ℕ}
@@ -47,7 +48,8 @@ print-day-spec =
     let at = test .before .before in
     let l = at .loop in
     rw (p .next-piece .ensures .day)
-    (piece-goes-on (now (at .before .before .before .args .file)) (l .d) (l .inv .0) (going (l .written) (l .d .ended) (test .if1 .taken)) .less))
+    (piece-goes-on (now (at .before .before .before .args .file)) (l .d) (l .inv .0)
+    (going (l .written) (l .d .ended) (test .if1 .taken)) .less))
     (λ c.
     let p = c .before .before .before .before .before in
     (p .next-piece .ensures .under, p .next-piece .kept .1 .1 .0 ∙ p .before .before .before .before .loop .inv .1))

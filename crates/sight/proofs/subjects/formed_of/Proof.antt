@@ -1,4 +1,5 @@
--- `sight::subjects::formed_of` meets its contract: each class finds what the ticket shows, and what was found is well formed. Assumes nothing.
+-- `sight::subjects::formed_of` meets its contract: each class finds what the ticket shows, and what was found is well formed.
+-- Assumes nothing.
 use mathlib.Core.Path.{_≡_, refl, sym, _∙_, ap}
 use mathlib.Core.List.{List}
 use Prim.Native.Nat.{ℕ}
@@ -85,8 +86,10 @@ formed-of-spec =
     -- kinds 1, 2 and 10
     (λ c κs.
     let told = c .before .before in
-    let s = told .before .before in
-    (naming s Sender (told .enum-told2 .given .1), known-sender (t s) (whole s) (bytes s) (first s .before .pre .2) _ (c .find-bic .ensures)))
+    let s = told .before .before in (
+      naming s Sender (told .enum-told2 .given .1),
+      known-sender (t s) (whole s) (bytes s) (first s .before .pre .2) _ (c .find-bic .ensures),
+    ))
     (λ c. search needs)
     (λ c. search needs)
     (λ c. search needs)

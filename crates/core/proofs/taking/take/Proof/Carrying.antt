@@ -51,7 +51,8 @@ module _ (c : at.After-moved3) where
   abbrev sum-3 : at.After-total-with
   sum-3 = to.sum-from-After-moved3 c
 
-  pub second-sum : (whole (coverOf (set (swept-book (swept-at judged-3) .covers) (v judged-3 .first .who) (first-3 .moved2 .result)) (v judged-3 .second .who))
+  pub second-sum : (whole
+      (coverOf (set (swept-book (swept-at judged-3) .covers) (v judged-3 .first .who) (first-3 .moved2 .result)) (v judged-3 .second .who))
       ≤ sum-3 .total-with .result)
       × (sum-3 .total-with .result + whole (c .moved3 .result) ≤ mostNumber)
   second-sum =
@@ -63,7 +64,8 @@ module _ (c : at.After-put-notices-arg) where
   abbrev judged-4 : at.After-judge
   judged-4 = to.judged-from-After-put-notices-arg c
 
-  pub notices-fit : 12 * swept-at judged-4 .before .loop2 .n + 12 * length (verdictReports (v judged-4)) ≤ length (swept-at judged-4 .before .loop2 .reports)
+  pub notices-fit : 12 * swept-at judged-4 .before .loop2 .n + 12 * length (verdictReports (v judged-4))
+      ≤ length (swept-at judged-4 .before .loop2 .reports)
   notices-fit =
       let has = room (to.room-from-After-put-notices-arg c) .report in
       let long = long-reports (loop-head (swept-at judged-4)) in
@@ -91,7 +93,8 @@ module _ (c : at.After-slice-known6) where
       (to.total-from-After-slice-known6 c .total-with2 .result) (to.told-from-After-slice-known6 c .put-notices .result)
       (to.told-from-After-slice-known6 c .put-notices .last .0)
   carried-out =
-      moves-carried-out (expired left-at) (suits judged-at) (to.first-from-After-slice-known6 c .moved2 .ensures) (loop-head left-at .loop .inv .sum)
+      moves-carried-out (expired left-at) (suits judged-at) (to.first-from-After-slice-known6 c .moved2 .ensures)
+      (loop-head left-at .loop .inv .sum)
       (to.sum-from-After-slice-known6 c .total-with .ensures) (to.second-from-After-slice-known6 c .moved3 .ensures)
       (to.total-from-After-slice-known6 c .total-with2 .ensures) (to.told-from-After-slice-known6 c .put-notices .ensures .1)
       (to.told-from-After-slice-known6 c .put-notices .ensures .0)

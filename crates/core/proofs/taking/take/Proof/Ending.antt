@@ -52,18 +52,22 @@ module _ (c : at.After-put-cut-arg) where
 
   pub few-participants : cut-roster .size ≤ 32
   few-participants =
-      cut-size (expired (left-at cut-told)) (suits cut-judged) (carried-out cut-told) (to.cuts-from-After-put-cut-arg c .enum-told4 .given .1) (sym (cut-head .loop .inv .roster))
+      cut-size (expired (left-at cut-told)) (suits cut-judged) (carried-out cut-told)
+      (to.cuts-from-After-put-cut-arg c .enum-told4 .given .1) (sym (cut-head .loop .inv .roster))
 
-  pub cut-fits : 12 * to.told-from-After-put-cut-arg c .put-notices .result + 12 * cut-roster .size ≤ length (to.told-from-After-put-cut-arg c .put-notices .last .0)
+  pub cut-fits : 12 * to.told-from-After-put-cut-arg c .put-notices .result + 12 * cut-roster .size
+      ≤ length (to.told-from-After-put-cut-arg c .put-notices .last .0)
   cut-fits =
       let has = room (to.room-from-After-put-cut-arg c) .report in
       let long = long-reports cut-head in
-      cut-room (expired (left-at cut-told)) (suits cut-judged) (carried-out cut-told) (to.cuts-from-After-put-cut-arg c .enum-told4 .given .1) (sym (cut-head .loop .inv .roster))
+      cut-room (expired (left-at cut-told)) (suits cut-judged) (carried-out cut-told)
+      (to.cuts-from-After-put-cut-arg c .enum-told4 .given .1) (sym (cut-head .loop .inv .roster))
       (omega arith)
 
   pub uncut-whole : (p : ℕ) → p < cut-roster .size → whole (coverOf (both cut-told) p) ≤ mostTotal
   uncut-whole =
-      cut-whole (expired (left-at cut-told)) (suits cut-judged) (carried-out cut-told) (to.cuts-from-After-put-cut-arg c .enum-told4 .given .1) (sym (cut-head .loop .inv .roster))
+      cut-whole (expired (left-at cut-told)) (suits cut-judged) (carried-out cut-told)
+      (to.cuts-from-After-put-cut-arg c .enum-told4 .given .1) (sym (cut-head .loop .inv .roster))
 
 module _ (c : at.At-match2-came) where
   abbrev told-at : at.After-slice-known6
@@ -100,7 +104,8 @@ module _ (c : at.At-match2-came) where
   with-order i count o =
       record { clock = book .clock; covers = both told-at; orders = set (book .orders) i o; count = count; roster = book .roster }
 
-  pub done : Done txidWords rowBucket (b done-head) (ticket done-head) (done-head .loop .n) (done-head .loop .reports) (c .match2 .b) (v j .refusal) (c .match2 .followed) (c .match2 .n)
+  pub done : Done txidWords rowBucket (b done-head) (ticket done-head) (done-head .loop .n) (done-head .loop .reports) (c .match2 .b)
+      (v j .refusal) (c .match2 .followed) (c .match2 .n)
       (c .match2 .reports) (left .before .loop2 .next) (c .match2 .txids) (c .match2 .heads) (c .match2 .links)
       (to.total-from-At-match2-came c .total-with2 .result)
   done =
@@ -118,7 +123,8 @@ module _ (c : at.At-match2-came) where
       done-as
       (order-opened w is k index (x .1 .given .1)
       (ap (newly _) (x .15 .ensures) ∙ new-order w found ours way (x .4 .ensures))
-      (x .17) (x .14 .ensures ∙ ap rowsFollowed (way-is w found ours way)) (λ s long. refl) refl (bucket-inside (txidWords (txidField (ticket done-head))))
+      (x .17) (x .14 .ensures ∙ ap rowsFollowed (way-is w found ours way)) (λ s long. refl) refl
+      (bucket-inside (txidWords (txidField (ticket done-head))))
       (x .10 .ensures .0) (x .10 .ensures .1) (x .10 .ensures .2))
       (x .16) (x .18) (x .19) (x .20) (x .21) (x .22))
       (⊎-elim

@@ -65,7 +65,8 @@ module _ (c : at.In-loop2) where
   abbrev pub number : ℕ
   number = c .before .loop2 .next
 
-  sweeping : Sweeping (begins passed) (outer passed .loop .n) (outer passed .loop .reports) now-book number (c .before .loop2 .n) (c .before .loop2 .reports)
+  sweeping : Sweeping (begins passed) (outer passed .loop .n) (outer passed .loop .reports) now-book number (c .before .loop2 .n)
+      (c .before .loop2 .reports)
   sweeping = c .before .loop2 .inv .0
 
   now-count : now-book .count ≡ b (outer passed) .count
@@ -108,7 +109,8 @@ module _ (c : at.After-expire) where
   h = outer (passed in-loop)
 
   roster-is : book .roster ≡ start h .args .t1 .roster
-  roster-is = at-roster (begins (passed in-loop)) (begins-sound (passed in-loop)) _ _ (sweeping in-loop) (below in-loop) ∙ h .loop .inv .roster
+  roster-is =
+      at-roster (begins (passed in-loop)) (begins-sound (passed in-loop)) _ _ (sweeping in-loop) (below in-loop) ∙ h .loop .inv .roster
 
   lapse-is : c .expire .result ≡ expiryIn book i
   lapse-is =
@@ -155,7 +157,8 @@ one-expired c =
           ∙ ap (lapsed (now-book l) (number l)) (lapse-is x))
           (put .put-told .ensures .1 ∙ ap (λ (y : Expiry). l .before .loop2 .n + length (listed (y .told))) (lapse-is x))
           (put .put-told .ensures .0
-          ∙ ap (λ (y : Expiry). sets (l .before .loop2 .reports) (12 * l .before .loop2 .n) (reportsBytes (listed (y .told)))) (lapse-is x)),
+          ∙ ap (λ (y : Expiry). sets (l .before .loop2 .reports) (12 * l .before .loop2 .n)
+          (reportsBytes (listed (y .told)))) (lapse-is x)),
       let h = w .1 in omega arith,
       let h = below l in omega arith,
     )
@@ -171,9 +174,13 @@ module _ (c : at.Left-loop2) where
   abbrev pub swept-book : Book
   swept-book = c .before .loop2 .b
 
-  stops : (swept-book .count ≤ c .before .loop2 .next) ⊎ (swept-book .clock - orderOf (swept-book .orders) (c .before .loop2 .next) .time < 20)
-  stops = ⊎-elim (λ x. inl (let h = x .left in omega arith)) (λ x. inr (ltb-true _ _ (sym (x .2 .ensures) ∙ x .3 .taken))) (c .loop2-test .came)
+  stops : (swept-book .count ≤ c .before .loop2 .next)
+      ⊎ (swept-book .clock - orderOf (swept-book .orders) (c .before .loop2 .next) .time < 20)
+  stops =
+      ⊎-elim (λ x. inl (let h = x .left in omega arith)) (λ x. inr (ltb-true _ _ (sym (x .2 .ensures) ∙ x .3 .taken))) (c .loop2-test .came)
 
-  pub expired : Expired (b loop-head) (ticket loop-head) (entry seen-at) (loop-head .loop .n) (loop-head .loop .reports) swept-book (c .before .loop2 .next) (c .before .loop2 .n)
+  pub expired : Expired (b loop-head) (ticket loop-head) (entry seen-at) (loop-head .loop .n) (loop-head .loop .reports) swept-book
+      (c .before .loop2 .next) (c .before .loop2 .n)
       (c .before .loop2 .reports)
-  expired = expiries-done (taken seen-at) (loop-head .loop .inv .passed) (c .before .loop2 .inv .0) (c .before .loop2 .inv .1) (c .before .loop2 .inv .2) stops
+  expired = expiries-done (taken seen-at) (loop-head .loop .inv .passed) (c .before .loop2 .inv .0) (c .before .loop2 .inv .1)
+      (c .before .loop2 .inv .2) stops

@@ -65,7 +65,8 @@ module _ (c : at.After-number-of2) where
   abbrev swept-n : at.Left-loop2
   swept-n = to.swept-from-After-number-of2 c
 
-  pub searched : Searched (b (loop-head swept-n)) (ticket (loop-head swept-n)) (entry (seen-at swept-n)) (saw (seen-at swept-n) .sender) (saw (seen-at swept-n) .order)
+  pub searched : Searched (b (loop-head swept-n)) (ticket (loop-head swept-n)) (entry (seen-at swept-n)) (saw (seen-at swept-n) .sender)
+      (saw (seen-at swept-n) .order)
       (saw (seen-at swept-n) .route) (c .before .number-of .result) (c .number-of2 .result)
   searched =
       let s = sighted (seen-at swept-n) in
@@ -92,7 +93,8 @@ module _ (c : at.After-is-bank2) where
   facts = (
     _,
     facts-are (expired swept-f) (searched (to.numbers-from-After-is-bank2 c)) (sym (loop-head swept-f .loop .inv .roster))
-        (follows (to.way-from-After-is-bank2 c)) (c .is-bank2 .ensures) (open-is (to.joined-from-After-is-bank2 c)) (loop-head swept-f .loop .inv .sum),
+        (follows (to.way-from-After-is-bank2 c)) (c .is-bank2 .ensures) (open-is (to.joined-from-After-is-bank2 c))
+        (loop-head swept-f .loop .inv .sum),
   )
 
 -- the verdict

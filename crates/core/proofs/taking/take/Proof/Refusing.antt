@@ -33,9 +33,12 @@ module _ (c : at.Then4) where
       (refused-alone (factsOf (sought (swept-book left) (entry (seen-at left)) (ticket before)))
       (λ none. eqb-false _ _ (not-true _ (c .if4 .taken)) (ap (λ (y : Verdict). y .refusal) (verdict-is j) ∙ none)))
 
-  pub late-done : Done txidWords rowBucket (b before) (ticket before) (before .loop .n) (before .loop .reports) (swept-book left) (v j .refusal) 0
-      (left .before .loop2 .n) (left .before .loop2 .reports) (left .before .loop2 .next) (before .loop .txids) (before .loop .heads) (before .loop .links)
+  pub late-done : Done txidWords rowBucket (b before) (ticket before) (before .loop .n) (before .loop .reports)
+      (swept-book left) (v j .refusal) 0
+      (left .before .loop2 .n) (left .before .loop2 .reports) (left .before .loop2 .next) (before .loop .txids)
+      (before .loop .heads) (before .loop .links)
       (before .loop .total)
   late-done =
-      did-nothing (expired left) (verdict-is j) (nothing-carried (expired left) refused-is (before .loop .inv .sum)) (before .loop .inv .index)
+      did-nothing (expired left) (verdict-is j) (nothing-carried (expired left) refused-is (before .loop .inv .sum))
+      (before .loop .inv .index)
       (ap (λ (y : Verdict). y .does) refused-is) refl

@@ -28,7 +28,8 @@ module _ (c : at.After-see) where
   seen-is =
       let s = start top in
       c .see .ensures
-      ∙ all-found (s .pre .0 .roster) (s .pre .1) (ticket top) (whole-ticket (to.room-from-After-see c)) (ticket-bytes top) (sound top) (top .loop .inv .index)
+      ∙ all-found (s .pre .0 .roster) (s .pre .1) (ticket top) (whole-ticket (to.room-from-After-see c)) (ticket-bytes top)
+      (sound top) (top .loop .inv .index)
       (top .loop .inv .roster)
 
 -- refused
@@ -45,10 +46,12 @@ module _ (c : at.After-enum-told) where
   refusal-is : (entryOf (b h .clock) (ticket h) .refusal ≡ number) × (eqb number 0 ≡ false)
   refusal-is = sight-refused (b h) (ticket h) (sym (seen-is seen) ∙ c .enum-told .given .1)
 
-  pub refused-done : Done txidWords rowBucket (b h) (ticket h) (h .loop .n) (h .loop .reports) (b h) number 0 (h .loop .n) (h .loop .reports) (h .loop .next)
+  pub refused-done : Done txidWords rowBucket (b h) (ticket h) (h .loop .n) (h .loop .reports) (b h) number 0 (h .loop .n)
+      (h .loop .reports) (h .loop .next)
       (h .loop .txids) (h .loop .heads) (h .loop .links) (h .loop .total)
   refused-done =
-      turned-down (sound h) (refusal-is .0) (refusal-is .1) (h .loop .inv .passed) (h .loop .inv .few) (h .loop .inv .index) (h .loop .inv .sum)
+      turned-down (sound h) (refusal-is .0) (refusal-is .1) (h .loop .inv .passed) (h .loop .inv .few)
+      (h .loop .inv .index) (h .loop .inv .sum)
 
 -- its answer
 module _ (c : at.After-refusal-of) where

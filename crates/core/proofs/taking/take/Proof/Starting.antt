@@ -21,6 +21,12 @@ loop-begun c =
       roster = refl;
       passed = record { none = λ i l. absurd (not-suc-le-zero l) };
       few = omega arith;
-      index = record { txids = rows .1; long = rows .0; chained = chained-fields (rows .1) (chains .2); headed = chains .0; linked = chains .1 };
+      index = record {
+        txids = rows .1;
+        long = rows .0;
+        chained = chained-fields (rows .1) (chains .2);
+        headed = chains .0;
+        linked = chains .1;
+      };
       sum = c .total-of .ensures ∙ total-sum (s .args .t1) ∙ sym (all-total (s .args .t1) (s .pre .0));
     }
