@@ -73,7 +73,7 @@ pub fn take<'a>(
 {
     let roster = b.roster;
     let size = roster.size;
-    let rows = roster.rows;
+    let route_rows = roster.rows;
     let orders = b.orders;
     let mut txids = index::txids_of(orders, b.count);
     let made = chains::txid_chains(&txids, b.count);
@@ -109,7 +109,7 @@ pub fn take<'a>(
             route_heads,
             route_links,
             routes,
-            rows,
+            route_rows,
         );
         let Sight::Read(s) = sight else {
             answer::put_answer(

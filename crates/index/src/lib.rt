@@ -34,13 +34,13 @@ pub fn bics_of(participants: [Participant; 32], size: usize) -> [u64; 64]
     bics
 }
 
-pub fn route_bics_of(routes: [Route; 64], rows: usize) -> [u64; 128]
-    requires { ⌜ (rows ≤ 64) × ((i : ℕ) → i < rows → length (rowOf routes i .bic) ≡ 11) ⌝ }
-    ensures { λ r. ⌜ (length r ≡ 128) × Indexed 2 (λ i. bicWords (rowOf routes i .bic)) rows r ⌝ }
+pub fn route_bics_of(routes: [Route; 64], count: usize) -> [u64; 128]
+    requires { ⌜ (count ≤ 64) × ((i : ℕ) → i < count → length (rowOf routes i .bic) ≡ 11) ⌝ }
+    ensures { λ r. ⌜ (length r ≡ 128) × Indexed 2 (λ i. bicWords (rowOf routes i .bic)) count r ⌝ }
 {
     let mut bics = [0u64; 128];
     let mut i = 0;
-    while i < rows {
+    while i < count {
         let route = routes[i];
         let bic = route.bic;
         row::put_bic(&mut bics, i, &bic);

@@ -128,13 +128,13 @@ pub fn formed_of(
     route_heads: &[u16],
     route_links: &[u16],
     routes: &[u64],
-    rows: usize,
+    route_rows: usize,
 ) -> Formed
     requires { ⌜
         (length (now t) ≡ ticketLength) × (kinded (kindByte (now t)) (flagByte (now t)) ≡ Kinded.As kind)
         × BicRows size (now bics) (now «bic_heads») (now «bic_links»)
         × TxidRows count (now txids) (now «txid_heads») (now «txid_links»)
-        × BicRows rows (now routes) (now «route_heads») (now «route_links»)
+        × BicRows «route_rows» (now routes) (now «route_heads») (now «route_links»)
         ⌝ }
     ensures { λ r.
         ⌜
@@ -143,7 +143,7 @@ pub fn formed_of(
         ≡ sightOf clock (now (t .entry))
         (firstRow 2 size (bicWords (senderOf (now (t .entry)))) (now (bics .entry)))
         (firstRow 5 count (txidWords (txidField (now (t .entry)))) (now (txids .entry)))
-        (firstRow 2 rows (bicWords (payeeOf (now (t .entry)))) (now (routes .entry))))
+        (firstRow 2 «route_rows» (bicWords (payeeOf (now (t .entry)))) (now (routes .entry))))
         ⌝ }
 {
     let subject = subject_of(kind);
@@ -178,7 +178,7 @@ pub fn formed_of(
                 route_heads,
                 route_links,
                 routes,
-                rows,
+                route_rows,
                 &t[layout::PAYEE..layout::TXID],
             );
             order(t, sender, found, route)

@@ -147,8 +147,8 @@ module _ {b : Book} {t : List ℕ} {e : Entry} {n₀ : ℕ} {text₀ : List ℕ}
   after-txid i =
       ap (λ (d : Book). orderOf (d .orders) i .txid) (w .sweeping .book) ∙ swept-txid start (clocked-sound (w .taken)) m (w .few) i
 
-  pub after-index : {wordsOf : List ℕ → List ℕ} {bucketOf : List ℕ → ℕ} {rows heads links : List ℕ}
-      → TxidIndex wordsOf bucketOf b rows heads links → TxidIndex wordsOf bucketOf c rows heads links
+  pub after-index : {wordsOf : List ℕ → List ℕ} {bucketOf : List ℕ → ℕ} {txids heads links : List ℕ}
+      → TxidIndex wordsOf bucketOf b txids heads links → TxidIndex wordsOf bucketOf c txids heads links
   after-index f = same-index f after-count after-txid
 
   -- all cover together stays, and is within the limit

@@ -43,7 +43,7 @@ module _ (c : tie.After-subject-of) where
   order = firstRow 5 (first .before .args .count) (txidWords (txidField t)) (now (first .before .args .txids))
 
   abbrev route : Found
-  route = firstRow 2 (first .before .args .rows) (bicWords (payeeOf t)) (now (first .before .args .routes))
+  route = firstRow 2 (first .before .args .route-rows) (bicWords (payeeOf t)) (now (first .before .args .routes))
 
   whole : length t ≡ ticketLength
   whole = first .before .pre .0
