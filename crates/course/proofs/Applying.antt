@@ -1,4 +1,4 @@
--- What applying a decision leaves: below the mark still no order waits for a bank; the covers. Assumes nothing.
+-- What applying a decision leaves: below a number still no order waits for a bank; the covers. Assumes nothing.
 use mathlib.Core.Path.{_≡_, refl, sym, _∙_}
 use mathlib.Core.Bool.{Bool, true, false, _&&_}
 use mathlib.Core.List.{List}

@@ -1,4 +1,4 @@
--- The loop over orders: what holds where the orders below a mark were looked at, one order more, and the end. Assumes nothing.
+-- The loop over orders: what holds where the orders below one were looked at, one order more, and the end. Assumes nothing.
 use mathlib.Core.Path.{_≡_, sym, _∙_, ap, ap₂, subst}
 use mathlib.Core.Bool.{Bool, true, false, cond}
 use mathlib.Core.List.{List, _++_}
@@ -25,7 +25,7 @@ use Rattle.course.specs.Expiry.{expiryIn, lapsed, Passed}
 use Rattle.course.specs.Taking.{unswept, sweptFor}
 use Rattle.course.proofs.Sweeping.{sweep-book, sweep-reports, passed-none, later-kept, rest-young, one-passed}
 
--- of book b, n₀ reports standing in the buffer text₀ before it, at the mark m
+-- of book b, n₀ reports standing in the buffer text₀ before it, with the orders below m looked at
 pub record Sweeping (b : Book) (n₀ : ℕ) (text₀ : List ℕ) (c : Book) (m n : ℕ) (text : List ℕ) : Type 0 where
   pub book : c ≡ sweepTo b m .book
   pub told : n ≡ n₀ + length (sweepTo b m .reports)
@@ -44,7 +44,7 @@ module _ (b : Book) (s : Sound b) (n₀ : ℕ) (text₀ : List ℕ) where
       }
 
   module _ {c : Book} {m n : ℕ} {text : List ℕ} (w : Sweeping b n₀ text₀ c m n text) (h : m < b .count) where
-    -- the book at the mark is sound, and its order m is the one of b
+    -- the book is sound then, and its order m is the one of b
     pub at-sound : Sound c
     at-sound = subst Sound (sym (w .book)) (swept b s m (omega arith) .sound)
 

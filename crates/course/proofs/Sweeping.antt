@@ -61,7 +61,7 @@ not-due : (b : Book) (i : ℕ) → awaits b i ≡ false
     → due (b .clock) (orderOf (b .orders) i) (isBank (b .roster) (orderOf (b .orders) i .payee)) ≡ false
 not-due b i e = rw e
 
--- below the mark nothing happens
+-- of the orders below m, which do not wait for a bank, none expires
 pub passed-none : (m : ℕ) (b : Book) → Passed m b → (i : ℕ) → i ≤ m → sweepTo b i ≡ unswept b
 passed-none m b p zero h = refl
 passed-none m b p (suc i) h =

@@ -31,7 +31,7 @@ use Rattle.turns.proofs.Index.{TxidIndex}
 use Rattle.turns.proofs.Turn.{refused-turn}
 
 -- of ticket t in book b, n₀ reports standing in the text before it; afterwards the book, the refusal, the rows followed, n reports in the
--- text, the mark, the index and all cover together
+-- text, the order m to look at next, the index and all cover together
 pub record Done (wordsOf : List ℕ → List ℕ) (bucketOf : List ℕ → ℕ) (b : Book) (t : List ℕ) (n₀ : ℕ)
     (text₀ : List ℕ) (b′ : Book) (r k n : ℕ)
     (text : List ℕ) (m : ℕ) (txids heads links : List ℕ) (all : ℕ) : Type 0 where
@@ -44,7 +44,7 @@ pub record Done (wordsOf : List ℕ → List ℕ) (bucketOf : List ℕ → ℕ) 
   pub told : n ≡ n₀ + length (stepOf b t .reports)
   pub fewTold : length (stepOf b t .reports) ≤ 544
   pub reports : text ≡ sets text₀ (12 * n₀) (reportsBytes (stepOf b t .reports))
-  -- no order below the mark waits for a bank
+  -- no order below m waits for a bank
   pub passed : Passed m b′
   pub few : m ≤ b′ .count
   pub index : TxidIndex wordsOf bucketOf b′ txids heads links

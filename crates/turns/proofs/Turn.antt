@@ -75,7 +75,7 @@ module _ {b : Book} {t : List ℕ} {e : Entry} (h : TakenUp b t e) where
   pub clocked-sound : Sound (atTime b (e .time))
   clocked-sound = subst (λ (x : Entry). Sound (atTime b (x .time))) (sym (h .is)) (turning.start-sound b (h .sound) t)
 
-  -- the loop over orders begins at the mark; in it and behind it no order comes or goes
+  -- the loop over orders begins at order m; in it and behind it no order comes or goes
   pub loop-begun : {n : ℕ} {text : List ℕ} {m : ℕ} → Passed m b → Sweeping (atTime b (e .time)) n text (atTime b (e .time)) m n text
   loop-begun {n} {text} {m} p = sweep-begun (atTime b (e .time)) clocked-sound n text m (record { none = λ i l. p .none i l })
 
@@ -83,7 +83,7 @@ module _ {b : Book} {t : List ℕ} {e : Entry} (h : TakenUp b t e) where
       → m ≤ b .count → c .count ≡ b .count
   loop-count {m = m} w few = ap (λ (d : Book). d .count) (w .book) ∙ swept (atTime b (e .time)) clocked-sound m few .count
 
--- the expiries are done: c is the book, m the mark, n reports stand in the text then, n₀ before them
+-- the expiries are done: c is the book, m the order to look at next, n reports stand in the text then, n₀ before them
 pub record Expired (b : Book) (t : List ℕ) (e : Entry) (n₀ : ℕ) (text₀ : List ℕ) (c : Book) (m n : ℕ) (text : List ℕ) : Type 0 where
   pub taken : TakenUp b t e
   pub sweeping : Sweeping (atTime b (e .time)) n₀ text₀ c m n text

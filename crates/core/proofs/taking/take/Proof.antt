@@ -47,7 +47,7 @@ use Rattle.core.proofs.Searching.{txids-lent}
 use Rattle.core.proofs.taking.take.Statement.{statement}
 use Rattle.core.proofs.taking.take.Tie as tie
 use Rattle.core.proofs.taking.take.Proof.Invariants.{Inv-loop2, μ-loop2, Inv-loop, μ-loop}
-use Rattle.core.proofs.taking.take.Proof.Starting.{loop-begun}
+use Rattle.core.proofs.taking.take.Proof.Starting.{taking-begun}
 use Rattle.core.proofs.taking.take.Proof.Loop.{
   start,
   tickets,
@@ -111,7 +111,7 @@ take-spec =
     let h = c .before .txids-of .ensures .0 in
     (omega arith, omega arith))
     (λ c κs. let s = to.start-from-After-covers c in (s .pre .0 .roster .size, rw (total-sum (s .args .t1)) (s .pre .0 .limited)))
-    (λ c. loop-begun c)
+    (λ c. taking-begun c)
     (λ c. let g = start c .good in search needs)
     (λ c. let g = start c .good in let h = c .loop .inv .going .ticketsLeft in search needs)
     (λ c. let g = start c .good in search needs)

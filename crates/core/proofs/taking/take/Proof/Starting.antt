@@ -11,8 +11,8 @@ use Rattle.core.proofs.taking.take.Tie as tie
 use Rattle.core.proofs.taking.take.Proof.Invariants.{Inv-loop2, μ-loop2, Inv-loop, μ-loop}
 use Rattle.core.proofs.taking.take.Proof.Ways as to
 
-pub loop-begun : tie.Need-loop-holds Inv-loop2 μ-loop2 Inv-loop μ-loop
-loop-begun c =
+pub taking-begun : tie.Need-loop-holds Inv-loop2 μ-loop2 Inv-loop μ-loop
+taking-begun c =
     let s = to.start-from-After-total-of c in
     let rows = to.rows-from-After-total-of c .txids-of .ensures in
     let chains = to.chains-from-After-total-of c .txid-chains .ensures in
