@@ -5,8 +5,8 @@
  * nobody writes before the call returns; where `length` is 0 the pointer may be null. Nothing is written, kept or
  * allocated, and calls from several threads don't disturb each other.
  *
- * For the checks link with libcodes.a, which `rt staticlib codes` writes, for a day with libhost.a, which `rt staticlib host`
- * writes. */
+ * For the checks link with libcodes.a, which `rt staticlib codes` writes, for a day with libforeign.a, which `rt staticlib
+ * foreign` writes. */
 #ifndef ZOLFIGAR_H
 #define ZOLFIGAR_H
 
@@ -45,7 +45,7 @@ size_t zolfigar_day(const uint8_t *file, size_t file_length, uint8_t *text, size
  * order 2, amount 8), each after those of the ticket before, numbers with the highest byte first. A ticket is taken as long as
  * there are 4 bytes for its answer and 6,528 for its reports. The answer is how many were taken, 0 of a refused day file; bytes
  * behind the last answer and the last report stay as they are. For a day's 512 tickets 2,048 bytes of answers are enough. Link
- * with libsteps.a, which `rt staticlib steps` writes. The rest is as for a whole day. */
+ * with libforeign.a too. The rest is as for a whole day. */
 size_t zolfigar_steps(const uint8_t *file, size_t file_length, uint8_t *answers, size_t answers_length, uint8_t *reports,
                       size_t reports_length);
 

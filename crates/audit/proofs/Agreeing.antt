@@ -21,7 +21,24 @@ use Rattle.rules.specs.declared.Cover.{Cover}
 use Rattle.rules.specs.declared.Book.{Book}
 use Rattle.audit.specs.History.{History, participants, Each}
 use Rattle.audit.specs.Sums.{lastCut, outgoing, incoming}
-use Rattle.audit.specs.Orders.{orderCount, orderAmount, orderTime, orderTxid, isPaidBy, isForBank, endCode, isNone, waits, waitingPart, waitingTotal, letsExpire, mustExpire, endingTickets, allEndings, tellsParties}
+use Rattle.audit.specs.Orders.{
+  orderCount,
+  orderAmount,
+  orderTime,
+  orderTxid,
+  isPaidBy,
+  isForBank,
+  endCode,
+  isNone,
+  waits,
+  waitingPart,
+  waitingTotal,
+  letsExpire,
+  mustExpire,
+  endingTickets,
+  allEndings,
+  tellsParties,
+}
 use Rattle.audit.specs.Claim.{AllCarry, codeOf, Claim}
 
 -- order i as it is seen, and as the book has it
@@ -73,7 +90,8 @@ module _ (ps : Roster) (h : History) (b : Book) (a : Agrees ps h b) where
       ∙ sum-same (λ i. waitingAmount p (orderOf (b .orders) i)) (waitingPart ps p h) (b .count) (part-in-book p k)
       ∙ ap (λ (n : ℕ). sumTo (waitingPart ps p h) n) (a .count)
 
-pub claim-follows : (h : History) (b : Book) → Agrees (participants h) h b → Each (λ e before. tellsParties (participants h) e ≡ true) h → Claim h b
+pub claim-follows : (h : History) (b : Book) → Agrees (participants h) h b
+    → Each (λ e before. tellsParties (participants h) e ≡ true) h → Claim h b
 claim-follows h b a told =
     record {
       told = told;

@@ -17,15 +17,15 @@ use Rattle.rules.specs.Decision.{decisionOf, toldBy}
 use Rattle.rules.specs.declared.finding.Finding.{Finding}
 use Rattle.rules.specs.declared.Order.{Order}
 use Rattle.rules.specs.declared.Book.{Book}
-use Rattle.rules.proofs.Moving.{onlyFor, for-who, for-others}
+use Rattle.rules.proofs.CoverMoving.{onlyFor, for-who, for-others}
 use Rattle.rules.proofs.Accepting.{fieldsOf}
 use Rattle.rules.proofs.Accepting as accepting
 use Rattle.audit.specs.History.{Event, History, isKind, isYes}
 use Rattle.audit.specs.Sums.{firstWith, settledTo, settledFrom, returnBy, returnTo}
-use Rattle.audit.proofs.Telling.{first-after}
-use Rattle.audit.proofs.Own.{Taken, takenEvent, kind-is, amount-is, sent, sender-known}
+use Rattle.audit.proofs.ReportTelling.{first-after}
+use Rattle.audit.proofs.Own.{AcceptedTicket, takenEvent, kind-is, amount-is, sent, sender-known}
 use Rattle.audit.proofs.About.{order-held}
-use Rattle.audit.proofs.Answers.{yes-flag, yes-told, no-flag}
+use Rattle.audit.proofs.YesOrNo.{yes-flag, yes-told, no-flag}
 
 pub record Balanced (ps : Roster) (e : Event) : Type 0 where
   pub settled : sumTo (λ p. settledFrom p e) (ps .size) ≡ sumTo (λ p. settledTo ps p e) (ps .size)
@@ -44,12 +44,15 @@ pub unmoved : (ps : Roster) (e : Event) → isYes e ≡ false → isKind 6 e ≡
 unmoved ps e no-yes no-return =
     record {
       settled =
-          sum-zero (λ p. settledFrom p e) (ps .size) (λ p l. rw no-yes) ∙ sym (sum-zero (λ p. settledTo ps p e) (ps .size) (λ p l. rw no-yes));
+          sum-zero (λ p. settledFrom p e) (ps .size) (λ p l. rw no-yes)
+          ∙ sym (sum-zero (λ p. settledTo ps p e) (ps .size) (λ p l. rw no-yes));
       returned =
-          sum-zero (λ p. returnBy ps p e) (ps .size) (λ p l. rw no-return) ∙ sym (sum-zero (λ p. returnTo p e) (ps .size) (λ p l. rw no-return));
+          sum-zero (λ p. returnBy ps p e) (ps .size) (λ p l. rw no-return)
+          ∙ sym (sum-zero (λ p. returnTo p e) (ps .size) (λ p l. rw no-return));
     }
 
-module _ {ps : Roster} {h : History} {w : Book} {t : List ℕ} {f : Fields} {rs₀ : List Report} (k : Taken ps h w t f rs₀) (named : namesOrder (termsOf (f .kind) .subject) ≡ true) where
+module _ {ps : Roster} {h : History} {w : Book} {t : List ℕ} {f : Fields} {rs₀ : List Report} (k : AcceptedTicket ps h w t f rs₀)
+    (named : namesOrder (termsOf (f .kind) .subject) ≡ true) where
   -- the parties of the order that a ticket is about
   pub payer-known : accepting.theOrder w f t .payer < ps .size
   payer-known =
@@ -63,16 +66,18 @@ module _ {ps : Roster} {h : History} {w : Book} {t : List ℕ} {f : Fields} {rs�
 
 module _ {ps : Roster} {h : History} {w : Book} {t : List ℕ} {time n : ℕ} {rs₀ : List Report} where
   -- a yes: from the payer to the payee
-  yes-balanced : Taken ps h w t (fieldsOf kind.Yes time n) rs₀
+  yes-balanced : AcceptedTicket ps h w t (fieldsOf kind.Yes time n) rs₀
       → Balanced ps (takenEvent t rs₀ (toldBy w (decisionOf (finding w (fieldsOf kind.Yes time n) t))))
   yes-balanced k =
       let party : accepting.senderNumber w f t ≡ o .payee = accepting.right-party w f t (k .passed .r17) refl in
       record {
         settled =
-            sum-same (λ p. settledFrom p (takenEvent t rs₀ rs)) (λ p. onlyFor (o .payer) p (o .amount)) (ps .size) (λ p l. rw (kind-is k, yes-flag k, yes-told k))
+            sum-same (λ p. settledFrom p (takenEvent t rs₀ rs)) (λ p. onlyFor (o .payer) p (o .amount)) (ps .size)
+            (λ p l. rw (kind-is k, yes-flag k, yes-told k))
             ∙ only-sum (o .payer) (o .amount) (ps .size) (payer-known k refl)
             ∙ sym
-            (sum-same (λ p. settledTo ps p (takenEvent t rs₀ rs)) (λ p. onlyFor (o .payee) p (o .amount)) (ps .size) (λ p l. rw (kind-is k, yes-flag k, yes-told k, sent k refl p l, party))
+            (sum-same (λ p. settledTo ps p (takenEvent t rs₀ rs)) (λ p. onlyFor (o .payee) p (o .amount)) (ps .size)
+            (λ p l. rw (kind-is k, yes-flag k, yes-told k, sent k refl p l, party))
             ∙ only-sum (o .payee) (o .amount) (ps .size) (payee-known k refl));
         returned =
             sum-zero (λ p. returnBy ps p (takenEvent t rs₀ rs)) (ps .size) (λ p l. rw (kind-is k))
@@ -92,7 +97,7 @@ module _ {ps : Roster} {h : History} {w : Book} {t : List ℕ} {time n : ℕ} {r
       rs = toldBy w (decisionOf x)
 
   -- a return: from the payee to the payer
-  return-balanced : Taken ps h w t (fieldsOf kind.Return time n) rs₀
+  return-balanced : AcceptedTicket ps h w t (fieldsOf kind.Return time n) rs₀
       → Balanced ps (takenEvent t rs₀ (toldBy w (decisionOf (finding w (fieldsOf kind.Return time n) t))))
   return-balanced k =
       let first : firstWith 6 (rs₀ ++ rs) ≡ rs = first-after 6 rs₀ rs (k .code) refl in
@@ -101,10 +106,12 @@ module _ {ps : Roster} {h : History} {w : Book} {t : List ℕ} {time n : ℕ} {r
             sum-zero (λ p. settledFrom p (takenEvent t rs₀ rs)) (ps .size) (λ p l. rw (kind-is k))
             ∙ sym (sum-zero (λ p. settledTo ps p (takenEvent t rs₀ rs)) (ps .size) (λ p l. rw (kind-is k)));
         returned =
-            sum-same (λ p. returnBy ps p (takenEvent t rs₀ rs)) (λ p. onlyFor (accepting.senderNumber w f t) p n) (ps .size) (λ p l. rw (kind-is k, sent k refl p l, amount-is k))
+            sum-same (λ p. returnBy ps p (takenEvent t rs₀ rs)) (λ p. onlyFor (accepting.senderNumber w f t) p n) (ps .size)
+            (λ p l. rw (kind-is k, sent k refl p l, amount-is k))
             ∙ only-sum (accepting.senderNumber w f t) n (ps .size) (sender-known k refl)
             ∙ sym
-            (sum-same (λ p. returnTo p (takenEvent t rs₀ rs)) (λ p. onlyFor (o .payer) p n) (ps .size) (λ p l. rw (kind-is k, first, amount-is k))
+            (sum-same (λ p. returnTo p (takenEvent t rs₀ rs)) (λ p. onlyFor (o .payer) p n) (ps .size)
+            (λ p l. rw (kind-is k, first, amount-is k))
             ∙ only-sum (o .payer) n (ps .size) (payer-known k refl));
       }
     where
@@ -117,12 +124,13 @@ module _ {ps : Roster} {h : History} {w : Book} {t : List ℕ} {time n : ℕ} {r
       rs : List Report
       rs = toldBy w (decisionOf (finding w f t))
 
-  no-balanced : Taken ps h w t (fieldsOf kind.No time n) rs₀
+  no-balanced : AcceptedTicket ps h w t (fieldsOf kind.No time n) rs₀
       → Balanced ps (takenEvent t rs₀ (toldBy w (decisionOf (finding w (fieldsOf kind.No time n) t))))
   no-balanced k =
-      unmoved ps (takenEvent t rs₀ (toldBy w (decisionOf (finding w (fieldsOf kind.No time n) t)))) (rw (kind-is k, no-flag k)) (rw (kind-is k))
+      unmoved ps (takenEvent t rs₀ (toldBy w (decisionOf (finding w (fieldsOf kind.No time n) t))))
+      (rw (kind-is k, no-flag k)) (rw (kind-is k))
 
-  pub own-balanced : (j : Kind) → Taken ps h w t (fieldsOf j time n) rs₀
+  pub own-balanced : (j : Kind) → AcceptedTicket ps h w t (fieldsOf j time n) rs₀
       → Balanced ps (takenEvent t rs₀ (toldBy w (decisionOf (finding w (fieldsOf j time n) t))))
   own-balanced kind.CoverIn k = unmoved ps _ (rw (kind-is k)) (rw (kind-is k))
   own-balanced kind.CoverOut k = unmoved ps _ (rw (kind-is k)) (rw (kind-is k))

@@ -9,11 +9,11 @@ use lib.ListN.{take, drop}
 use Rattle.codes.specs.Bic.{isBic}
 use Rattle.iban.specs.Iban.{isIban}
 use Rattle.codes.specs.Txid.{isTxid}
-use Rattle.ticket.specs.Reading.{reading}
-use Rattle.ticket.specs.Writing.{orderTicket, yesTicket, recallTicket, returnTicket, inquiryTicket, confirmTicket, tickTicket}
+use Rattle.ticket.specs.TicketReading.{reading}
+use Rattle.ticket.specs.TicketWriting.{orderTicket, yesTicket, recallTicket, returnTicket, inquiryTicket, confirmTicket, tickTicket}
 use Rattle.dayfile.specs.DayFile.{dayFile}
 use Rattle.dayfile.specs.Route.{followed}
-use Rattle.dayfile.specs.Writing.{fileBytes, bank, bankOpening, linked, direct}
+use Rattle.dayfile.specs.FileWriting.{fileBytes, bank, bankOpening, linked, direct}
 use Rattle.rules.specs.Book.{bookOf}
 use Rattle.rules.specs.Find.{senderIn, orderIn, routeIn, wayIn, anyOpen}
 use Rattle.rules.specs.Cover.{total}
@@ -28,8 +28,36 @@ use Rattle.rules.specs.declared.Book.{Book}
 use Rattle.rules.proofs.Names.{bicA, bicB, bicL, tx1, tx2, tx3, tx4, tx5, tx6, tx7, tx8, ibanD}
 use Rattle.audit.specs.History.{Event}
 use Rattle.audit.proofs.Testing.{claim-holds}
-use Rattle.audit.proofs.Rows.{Day, IsRight, seenOn, bookOn, inputs, Written, AllFalse, AllTrue, all-false, all-true, event, report, cover, order, bookAt, bookWith}
-use Rattle.audit.proofs.Pieces.{banks, toLinked, opening, orderedMore, settledAt, quiet, expiredAt, atFirst, settledCovers, freedCovers}
+use Rattle.audit.proofs.HistoryRows.{
+  Day,
+  IsRight,
+  seenOn,
+  bookOn,
+  inputs,
+  WrittenHistory,
+  AllFalse,
+  AllTrue,
+  all-false,
+  all-true,
+  event,
+  report,
+  cover,
+  order,
+  bookAt,
+  bookWith,
+}
+use Rattle.audit.proofs.HistoryParts.{
+  banks,
+  toLinked,
+  opening,
+  orderedMore,
+  settledAt,
+  quiet,
+  expiredAt,
+  atFirst,
+  settledCovers,
+  freedCovers,
+}
 use Rattle.audit.proofs.Days.{busyDay}
 
 -- the busy day from its 28th ticket on, after the second cut: the first bank has 380 held, the second an open debit of 50
@@ -58,7 +86,8 @@ afternoon = record {
 -- two banks and a linked system, with orders of every status; the first bank has 80 held
 abbrev overNight : Book
 overNight =
-    bookAt 100 (bookOf (fileBytes (bankOpening bicA 500 ∷ bank bicB ∷ linked bicL ∷ []) (direct bicA 0 ∷ direct bicB 1 ∷ direct bicL 2 ∷ []) []) .roster)
+    bookAt 100 (bookOf
+    (fileBytes (bankOpening bicA 500 ∷ bank bicB ∷ linked bicL ∷ []) (direct bicA 0 ∷ direct bicB 1 ∷ direct bicL 2 ∷ []) []) .roster)
     (cover 500 200 80 ∷ cover 1000 60 0 ∷ cover 0 0 0 ∷ [])
     (order tx1 0 1 400 5 (Settled None)
     ∷ order tx2 0 1 100 6 Expired
@@ -114,7 +143,7 @@ unfolding isBic isIban isTxid reading dayFile followed senderIn orderIn routeIn 
 nextDay-right = (refl, refl, refl, claim-holds (seenOn nextDay) (bookOn nextDay) refl)
 
 -- what it shows, the book to start from, the events, the covers and the orders' statuses at the end, the clauses that fail
-abbrev since : String → Book → List Event → List Cover → List Status → String → Written
+abbrev since : String → Book → List Event → List Cover → List Status → String → WrittenHistory
 since shows start events covers statuses fails =
     record { shows = shows; start = start; events = events; book = bookWith (start .roster) covers statuses; fails = fails }
 
@@ -142,7 +171,7 @@ toldAt time code amount = event (inquiryTicket time bicA tx1) 0 (report 0 code 0
 abbrev told : ℕ → ℕ → Event
 told = toldAt 30
 
-abbrev pub ofStarts : List Written
+abbrev pub ofStarts : List WrittenHistory
 ofStarts =
     since "the start's cover is not there" settled [] (cover 0 0 0 ∷ cover 0 0 0 ∷ []) (Settled None ∷ []) "cover"
     ∷ since "the start's held is not there" withHeld [] (cover 100 0 0 ∷ cover 0 0 0 ∷ []) [] "cover"
@@ -160,11 +189,12 @@ ofStarts =
     ∷ since "reserved of the start one cent off" waiting [] (cover 601 399 0 ∷ cover 0 0 0 ∷ []) (Waiting ∷ []) "reserved"
     ∷ []
 
-abbrev pub ofOrdersBefore : List Written
+abbrev pub ofOrdersBefore : List WrittenHistory
 ofOrdersBefore =
     since "an order of the start that the book no longer holds" waiting (quiet 6 ∷ []) atFirst [] "held"
     ∷ since "an order that ended before is Waiting" settled (quiet 6 ∷ []) settledCovers (Waiting ∷ []) "waiting"
-    ∷ since "an order that waits in the start has ended, and nobody was told" waiting (quiet 6 ∷ []) freedCovers (Refused ∷ []) "reserved, waiting"
+    ∷ since "an order that waits in the start has ended, and nobody was told" waiting (quiet 6 ∷ []) freedCovers
+    (Refused ∷ []) "reserved, waiting"
     ∷ since "a waiting order of the start doesn't expire after 20 seconds" waiting (quiet 25 ∷ []) atFirst (Waiting ∷ []) "expiry"
     ∷ since "a waiting order of the start expires a second early" waiting (expiredAt 24 ∷ []) freedCovers (Expired ∷ []) "expiry"
     ∷ since "a waiting order of the start for a linked system expires" (startOf toLinked atFirst Waiting)
@@ -180,18 +210,25 @@ ofOrdersBefore =
     settledCovers (Settled None ∷ []) "known"
     ∷ []
 
-abbrev pub ofEndingsBefore : List Written
+abbrev pub ofEndingsBefore : List WrittenHistory
 ofEndingsBefore =
     since "an order settled before is told to expire" settled (expiredAt 25 ∷ []) settledCovers (Settled None ∷ []) "once, alike"
-    ∷ since "an order settled before settles again" settled (settledAt 6 ∷ []) (cover 200 0 0 ∷ cover 800 0 0 ∷ []) (Settled None ∷ []) "once"
-    ∷ since "an order refused before settles" (startOf banks freedCovers Refused) (settledAt 6 ∷ []) settledCovers (Settled None ∷ []) "once, alike"
-    ∷ since "an order that expired before expires again" (startOf banks freedCovers Expired) (expiredAt 25 ∷ []) freedCovers (Expired ∷ []) "once"
+    ∷ since "an order settled before settles again" settled (settledAt 6 ∷ []) (cover 200 0 0 ∷ cover 800 0 0 ∷ [])
+    (Settled None ∷ []) "once"
+    ∷ since "an order refused before settles" (startOf banks freedCovers Refused) (settledAt 6 ∷ []) settledCovers
+    (Settled None ∷ []) "once, alike"
+    ∷ since "an order that expired before expires again" (startOf banks freedCovers Expired) (expiredAt 25 ∷ [])
+    freedCovers (Expired ∷ []) "once"
     ∷ since "an order settled before, told as expired by an inquiry" settled (told 4 400 ∷ []) settledCovers (Settled None ∷ []) "alike"
-    ∷ since "an order refused before, told as settled by an inquiry" (startOf banks freedCovers Refused) (told 2 400 ∷ []) freedCovers (Refused ∷ []) "alike"
-    ∷ since "an order that expired before, told as refused by an inquiry" (startOf banks freedCovers Expired) (told 3 400 ∷ []) freedCovers (Expired ∷ []) "alike"
-    ∷ since "an order returned before, told as refused by an inquiry" (startOf banks freedCovers Returned) (told 3 400 ∷ []) freedCovers (Returned ∷ []) "alike"
+    ∷ since "an order refused before, told as settled by an inquiry" (startOf banks freedCovers Refused) (told 2 400 ∷ [])
+    freedCovers (Refused ∷ []) "alike"
+    ∷ since "an order that expired before, told as refused by an inquiry" (startOf banks freedCovers Expired) (told 3 400 ∷ [])
+    freedCovers (Expired ∷ []) "alike"
+    ∷ since "an order returned before, told as refused by an inquiry" (startOf banks freedCovers Returned) (told 3 400 ∷ [])
+    freedCovers (Returned ∷ []) "alike"
     ∷ since "a repeat with another amount than the row's" settled (told 2 401 ∷ []) settledCovers (Settled None ∷ []) "alike"
-    ∷ since "an order that waits in the start, ended by an inquiry alone" waiting (toldAt 10 2 400 ∷ []) freedCovers (Settled None ∷ []) "once"
+    ∷ since "an order that waits in the start, ended by an inquiry alone" waiting (toldAt 10 2 400 ∷ []) freedCovers
+    (Settled None ∷ []) "once"
     ∷ since "an order settled before, told in a refused inquiry" settled
     (event (inquiryTicket 30 bicB tx1) 17 (report 0 2 0 400 ∷ []) ∷ [])
     settledCovers (Settled None ∷ []) "once"
@@ -216,12 +253,15 @@ unfolding isBic dayFile
 endings-before-false = all-false ofEndingsBefore refl
 
 -- the claim holds
-abbrev pub rightStarts : List Written
+abbrev pub rightStarts : List WrittenHistory
 rightStarts =
     since "nothing was seen yet" settled [] settledCovers (Settled None ∷ []) ""
-    ∷ since "held in the start confirmed as a credit" withHeld (event (confirmTicket 6 bicA 900) 0 [] ∷ []) (cover 100 0 0 ∷ cover 0 0 0 ∷ []) [] ""
-    ∷ since "open debit in the start confirmed in part" withDebit (event (confirmTicket 6 bicA 40) 0 [] ∷ []) (cover 70 0 0 ∷ cover 0 0 0 ∷ []) [] ""
-    ∷ since "a waiting order of the start settles in its last second" waiting (settledAt 24 ∷ told 2 400 ∷ []) settledCovers (Settled None ∷ []) ""
+    ∷ since "held in the start confirmed as a credit" withHeld (event (confirmTicket 6 bicA 900) 0 [] ∷ [])
+    (cover 100 0 0 ∷ cover 0 0 0 ∷ []) [] ""
+    ∷ since "open debit in the start confirmed in part" withDebit (event (confirmTicket 6 bicA 40) 0 [] ∷ [])
+    (cover 70 0 0 ∷ cover 0 0 0 ∷ []) [] ""
+    ∷ since "a waiting order of the start settles in its last second" waiting (settledAt 24 ∷ told 2 400 ∷ [])
+    settledCovers (Settled None ∷ []) ""
     ∷ since "a waiting order of the start expires" waiting (expiredAt 25 ∷ told 4 400 ∷ []) freedCovers (Expired ∷ []) ""
     ∷ since "an order settled before is repeated, twice" settled (told 2 400 ∷ told 2 400 ∷ []) settledCovers (Settled None ∷ []) ""
     ∷ since "an order refused before is repeated" (startOf banks freedCovers Refused) (told 3 400 ∷ []) freedCovers (Refused ∷ []) ""

@@ -29,7 +29,7 @@ use Rattle.audit.specs.Claim.{AllCarry, codeOf}
 use Rattle.audit.specs.Run.{eventOf, eventsOn, historyOf}
 use Rattle.audit.specs.Demand3.{Holds}
 use Rattle.audit.proofs.Balance.{Balanced}
-use Rattle.audit.proofs.Carrying.{Carried, carried-start, carried-inputs}
+use Rattle.audit.proofs.AlongInputs.{Carried, carried-start, carried-inputs}
 use Rattle.audit.proofs.Theorem.{holds}
 
 -- what was there at the start
@@ -143,6 +143,7 @@ on-append : (h : History) (ss ts : List Seen) → eventsOn h (ss ++ ts) ≡ even
 on-append h [] ts = refl
 on-append h (s ∷ ss) ts = on-append (eventOf s ▹ h) ss ts
 
-pub beginnings : (b : Book) (earlier later : List Input) → historyOf b (earlier ++ later) ≡ eventsOn (historyOf b earlier) (seenFrom (bookFrom b earlier) later)
+pub beginnings : (b : Book) (earlier later : List Input)
+    → historyOf b (earlier ++ later) ≡ eventsOn (historyOf b earlier) (seenFrom (bookFrom b earlier) later)
 beginnings b earlier later =
     ap (eventsOn (from b)) (seen-append b earlier later) ∙ on-append (from b) (seenFrom b earlier) (seenFrom (bookFrom b earlier) later)

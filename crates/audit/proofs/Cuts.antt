@@ -25,16 +25,16 @@ use Rattle.rules.specs.Decision.{nobody, orderKept, applied}
 use Rattle.rules.specs.declared.decision.Told.{Told}
 use Rattle.rules.specs.declared.Cover.{Cover}
 use Rattle.rules.specs.declared.Book.{Book}
-use Rattle.rules.proofs.Same.{same-or-not, below-or-not}
-use Rattle.rules.proofs.Moving.{nobody-moves}
+use Rattle.fields.proofs.Compared.{same-or-not, below-or-not}
+use Rattle.rules.proofs.CoverMoving.{nobody-moves}
 use Rattle.rules.proofs.Cutting.{Closed, cut-right, cut-each}
-use Rattle.rules.proofs.Stepping.{all-closed}
+use Rattle.rules.proofs.StepSound.{all-closed}
 use Rattle.rules.proofs.Accepting.{fieldsOf}
 use Rattle.audit.specs.History.{History, _▹_}
 use Rattle.audit.specs.Sums.{lastCutIn, lastCut}
 use Rattle.audit.proofs.Events.{OwnCover}
-use Rattle.audit.proofs.Telling.{cuts-append, fours-no-cuts, no-cuts}
-use Rattle.audit.proofs.Own.{Taken, takenEvent, OwnStepOf, kind-is, steady, orders-kept}
+use Rattle.audit.proofs.ReportTelling.{cuts-append, fours-no-cuts, no-cuts}
+use Rattle.audit.proofs.Own.{AcceptedTicket, takenEvent, OwnStepOf, kind-is, steady, orders-kept}
 
 -- what a participant is told is no ending
 one-no-ending : (i p : ℕ) (o : Opening) (c : Cover) → endingsIn i (cutReport p o c) ≡ []
@@ -57,7 +57,8 @@ other-told : (q p told : ℕ) (o : Opening) (c : Cover) → (q ≡ p → ⊥) �
 other-told q p told opening.None c differs = refl
 other-told q p told (opening.Cover n) c differs = go (ltb n (c .available)) (ltb (c .available) n)
   where
-    go : (x y : Bool) → lastCutIn p told (cond x (tellCut q 11 (c .available - n) ∷ []) (cond y (tellCut q 10 (n - c .available) ∷ []) [])) ≡ told
+    go : (x y : Bool)
+        → lastCutIn p told (cond x (tellCut q 11 (c .available - n) ∷ []) (cond y (tellCut q 10 (n - c .available) ∷ []) [])) ≡ told
     go true y = simp (ne-eqb q p differs)
     go false true = simp (ne-eqb q p differs)
     go false false = refl
@@ -80,7 +81,8 @@ module _ (r : Roster) (cs : List Cover) (p told : ℕ) where
       ∙ ⊎-elim
       (λ (e : q ≡ p). rw e (ap own (not-yet-told p (omega arith))))
       (λ (differs : q ≡ p → ⊥).
-      other-told q p (lastCutIn p told (cutReportsTo r cs q)) (participantOf r q .opening) (coverOf cs q) differs ∙ all-told q (below differs (below-or-not p q)))
+      other-told q p (lastCutIn p told (cutReportsTo r cs q)) (participantOf r q .opening) (coverOf cs q) differs
+      ∙ all-told q (below differs (below-or-not p q)))
       (same-or-not q p)
     where
       below : (q ≡ p → ⊥) → (p < q) ⊎ (q ≤ p) → p < q
@@ -104,11 +106,12 @@ marks-told p told (opening.Cover n) c z = go (ltb n (c .available)) (ltb (c .ava
     go false false = record { held = inl (z .held); debit = inl (z .debit) }
 
 module _ {ps : Roster} {h : History} {w : Book} {t : List ℕ} {time n : ℕ} {rs₀ : List Report}
-    (k : Taken ps h w t (fieldsOf kind.Cut time n) rs₀) where
+    (k : AcceptedTicket ps h w t (fieldsOf kind.Cut time n) rs₀) where
   abbrev rs : List Report
   rs = cutReportsTo (w .roster) (w .covers) (w .roster .size)
 
-  cut-cover : (p : ℕ) → p < w .roster .size → OwnCover ps h (takenEvent t rs₀ rs) p (coverOf (w .covers) p) (coverOf (cutTo (w .roster) (w .covers) (w .roster .size)) p)
+  cut-cover : (p : ℕ) → p < w .roster .size
+      → OwnCover ps h (takenEvent t rs₀ rs) p (coverOf (w .covers) p) (coverOf (cutTo (w .roster) (w .covers) (w .roster .size)) p)
   cut-cover p l =
       let o = participantOf (w .roster) p .opening in
       let c = coverOf (w .covers) p in

@@ -7,12 +7,26 @@ use Rattle.codes.specs.Bic.{isBic}
 use Rattle.iban.specs.Iban.{isIban}
 use Rattle.codes.specs.Txid.{isTxid}
 use Rattle.ticket.specs.Kind.{kindNumber}
-use Rattle.ticket.specs.Reading.{reading}
-use Rattle.ticket.specs.Writing.{ticketBytes, coverInTicket, coverOutTicket, orderTicket, yesTicket, noTicket, recallTicket, returnTicket, declineTicket, inquiryTicket, cutTicket, confirmTicket, tickTicket}
+use Rattle.ticket.specs.TicketReading.{reading}
+use Rattle.ticket.specs.TicketWriting.{
+  ticketBytes,
+  coverInTicket,
+  coverOutTicket,
+  orderTicket,
+  yesTicket,
+  noTicket,
+  recallTicket,
+  returnTicket,
+  declineTicket,
+  inquiryTicket,
+  cutTicket,
+  confirmTicket,
+  tickTicket,
+}
 use Rattle.ticket.specs.declared.kinds.Kind.the-variants.{Tick}
 use Rattle.dayfile.specs.DayFile.{dayFile}
 use Rattle.dayfile.specs.Route.{followed}
-use Rattle.dayfile.specs.Writing.{fileBytes, bank, bankOpening, linked, direct, onward}
+use Rattle.dayfile.specs.FileWriting.{fileBytes, bank, bankOpening, linked, direct, onward}
 use Rattle.rules.specs.Book.{bookOf}
 use Rattle.rules.specs.Find.{senderIn, orderIn, routeIn, wayIn, anyOpen}
 use Rattle.rules.specs.Cover.{total}
@@ -20,7 +34,7 @@ use Rattle.rules.specs.Tick.{tick}
 use Rattle.rules.specs.Step.{stepOf, handed}
 use Rattle.rules.proofs.Names.{bicA, bicB, bicC, bicD, bicE, bicL, bicZ, tx1, tx2, tx3, tx4, tx5, tx6, tx7, tx8, ibanD, twoBanks}
 use Rattle.audit.proofs.Testing.{claim-holds}
-use Rattle.audit.proofs.Rows.{Day, IsRight, seenOn, bookOn}
+use Rattle.audit.proofs.HistoryRows.{Day, IsRight, seenOn, bookOn}
 
 abbrev pub caseD : Day
 caseD = record {
@@ -70,8 +84,8 @@ abbrev tickWithFlag : List ℕ
 tickWithFlag =
     ticketBytes (record { kind = kindNumber Tick; flag = 1; time = 4294967295; amount = 0; sender = []; payee = []; txid = []; iban = [] })
 
--- All eleven kinds, and refusals 7, 11, 12, 13, 18, 19 and 21. At 26 an inquiry, at 29 a yes and at 125 a cover in of no participant come in the very
--- second of a time-out; a tick with a flag, refused by 7, is late enough for all and lets none expire.
+-- All eleven kinds, and refusals 7, 11, 12, 13, 18, 19 and 21. At 26 an inquiry, at 29 a yes and at 125 a cover in of no participant come
+-- in the very second of a time-out; a tick with a flag, refused by 7, is late enough for all and lets none expire.
 abbrev pub busyDay : Day
 busyDay = record {
   shows = "a busy day";

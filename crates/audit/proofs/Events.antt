@@ -8,7 +8,7 @@ use native.Mathlib.Omega.{arith}
 use borrow.Author.Tests.{eq-eqb, ne-eqb, le-ltb}
 use lib.Dec.{eqb}
 use Rattle.fields.specs.Text.{unpadded}
-use Rattle.ticket.specs.Layout.{timeOf, amountOf, txidOf}
+use Rattle.ticket.specs.TicketLayout.{timeOf, amountOf, txidOf}
 use Rattle.report.specs.Ending.{endingsIn}
 use Rattle.report.specs.declared.Report.{Report}
 use Rattle.report.proofs.Ending.{endings-append}
@@ -20,7 +20,7 @@ use Rattle.rules.specs.Sound.{Sound}
 use Rattle.rules.specs.declared.Order.{Order}
 use Rattle.rules.specs.declared.Cover.{Cover}
 use Rattle.rules.specs.declared.Book.{Book}
-use Rattle.rules.proofs.Same.{same-or-not, below-or-not}
+use Rattle.fields.proofs.Compared.{same-or-not, below-or-not}
 use Rattle.rules.proofs.Expiring.{expiredIf, fours, Expires}
 use Rattle.audit.specs.History.{Event, History, _▹_, isSentBy}
 use Rattle.audit.specs.Sums.{firstWith, lastCut, goesOut, comesIn}
@@ -77,7 +77,8 @@ module _ (i : ℕ) (o : Order) (rs₀ rs : List Report) where
   fate-after asks false o′ waited e (Fate.repeated a w w′ c r is carries) = Fate.repeated a w w′ c r (both-parts [] e ∙ is) carries
   fate-after asks false o′ waited e (Fate.ended w w′ r more is carries l) = Fate.ended w w′ r more (both-parts [] e ∙ is) carries l
   fate-after asks true o′ waited e (Fate.kept nil w c) =
-      Fate.ended (waited refl) w _ _ (both-parts (fours i o) e ∙ ap (λ (l : List Report). fours i o ++ l) nil) (sym c, refl, (sym c, refl, tt)) (at-most-one asks)
+      Fate.ended (waited refl) w _ _ (both-parts (fours i o) e ∙ ap (λ (l : List Report). fours i o ++ l) nil)
+      (sym c, refl, (sym c, refl, tt)) (at-most-one asks)
   fate-after asks true o′ waited e (Fate.repeated a w w′ c r is carries) =
       Fate.ended (waited refl) w′ _ _ (both-parts (fours i o) e ∙ ap (λ (l : List Report). fours i o ++ l) is)
       (sym c, refl, (sym c, refl, (carries .0 ∙ sym c, carries .1, tt)))
@@ -86,7 +87,8 @@ module _ (i : ℕ) (o : Order) (rs₀ rs : List Report) where
 
   -- the first is a 4, and the order waited, exactly if it expired
   first-four : (d : Bool) → (d ≡ true → isWaiting (o .status) ≡ true) → endingsIn i rs₀ ≡ cond d (fours i o) []
-      → (isWaiting (expiredIf d o .status) && isFirst4 (endingsIn i rs)) ≡ false → (isWaiting (o .status) && isFirst4 (endingsIn i (rs₀ ++ rs))) ≡ d
+      → (isWaiting (expiredIf d o .status) && isFirst4 (endingsIn i rs)) ≡ false
+      → (isWaiting (o .status) && isFirst4 (endingsIn i (rs₀ ++ rs))) ≡ d
   first-four true waited e q = rw (both-parts (fours i o) e, waited refl)
   first-four false waited e q = rw (both-parts [] e) q
 
@@ -110,7 +112,8 @@ module _ (ps : Roster) (h : History) (b w b′ : Book) (t : List ℕ) (n : ℕ) 
   in-w : (i : ℕ) → i < b .count → i < w .count
   in-w i l = rw (x .count) l
 
-  own-after : (i : ℕ) → i < b .count → OwnOrder (asksAbout i e h) i (expiredIf (expires i) (orderOf (b .orders) i)) (orderOf (b′ .orders) i) rs
+  own-after : (i : ℕ) → i < b .count
+      → OwnOrder (asksAbout i e h) i (expiredIf (expires i) (orderOf (b .orders) i)) (orderOf (b′ .orders) i) rs
   own-after i l = rw (x .order i l) at (own .order i (in-w i l))
 
   order-after : (i : ℕ) → i < b .count → OrderAgrees ps (e ▹ h) i (orderOf (b′ .orders) i)
@@ -118,7 +121,8 @@ module _ (ps : Roster) (h : History) (b w b′ : Book) (t : List ℕ) (n : ℕ) 
       let o = own-after i l in
       order-goes ps h i (orderOf (b .orders) i) (orderOf (b′ .orders) i) e (a .order i l) (not-opened i l)
       (same-after (expires i) (orderOf (b .orders) i) (orderOf (b′ .orders) i) (o .same))
-      (fate-after i (orderOf (b .orders) i) rs₀ rs (asksAbout i e h) (expires i) (orderOf (b′ .orders) i) (x .waited i) (x .ends i l) (o .fate))
+      (fate-after i (orderOf (b .orders) i) rs₀ rs (asksAbout i e h) (expires i) (orderOf (b′ .orders) i)
+      (x .waited i) (x .ends i l) (o .fate))
 
   -- no endings of a number that no order has
   no-endings : (i : ℕ) → b .count ≤ i → endingsIn i (rs₀ ++ rs) ≡ []
@@ -172,7 +176,8 @@ module _ (ps : Roster) (h : History) (b w b′ : Book) (t : List ℕ) (n : ℕ) 
   pub agrees-after : Agrees ps (e ▹ h) b′
   agrees-after = go (own .growth)
     where
-      rest : b′ .count ≡ orderCount (e ▹ h) → ((i : ℕ) → i < b′ .count → OrderAgrees ps (e ▹ h) i (orderOf (b′ .orders) i)) → b .count ≤ b′ .count → Agrees ps (e ▹ h) b′
+      rest : b′ .count ≡ orderCount (e ▹ h) → ((i : ℕ) → i < b′ .count → OrderAgrees ps (e ▹ h) i (orderOf (b′ .orders) i))
+          → b .count ≤ b′ .count → Agrees ps (e ▹ h) b′
       rest count order grows =
           record {
             sound = sound;

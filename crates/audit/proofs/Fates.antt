@@ -22,7 +22,8 @@ use Rattle.audit.proofs.Agreeing.{OrderAgrees}
 
 -- order i was o and is o′ after reports rs; asks: the ticket is an inquiry about it
 pub data Fate (asks : Bool) (i : ℕ) (o o′ : Order) (rs : List Report) : Type 0 where
-  kept : endingsIn i rs ≡ [] → isWaiting (o′ .status) ≡ isWaiting (o .status) → endCode (o′ .status) ≡ endCode (o .status) → Fate asks i o o′ rs
+  kept : endingsIn i rs ≡ [] → isWaiting (o′ .status) ≡ isWaiting (o .status)
+      → endCode (o′ .status) ≡ endCode (o .status) → Fate asks i o o′ rs
   repeated : asks ≡ true → isWaiting (o .status) ≡ false → isWaiting (o′ .status) ≡ false → endCode (o′ .status) ≡ endCode (o .status)
       → (r : Report) → endingsIn i rs ≡ r ∷ [] → AllCarry (endCode (o .status)) (o .amount) (r ∷ []) → Fate asks i o o′ rs
   ended : isWaiting (o .status) ≡ true → isWaiting (o′ .status) ≡ false
@@ -38,7 +39,7 @@ pub record SameOrder (o o′ : Order) : Type 0 where
   pub payee : o′ .payee ≡ o .payee
 
 -- an order that a ticket doesn't open is read off what was before
-pub of-before : {A : Type 0} (none : A) (row : Order → A) (f : Event → A) (i : ℕ) (e : Event) (h : History) → opens i e h ≡ false
+of-before : {A : Type 0} (none : A) (row : Order → A) (f : Event → A) (i : ℕ) (e : Event) (h : History) → opens i e h ≡ false
     → ofOrder none row f i (e ▹ h) ≡ ofOrder none row f i h
 of-before none row f i e h other = ap (λ (x : Bool). cond x (f e) (ofOrder none row f i h)) other
 
@@ -47,7 +48,7 @@ carry-append code amount [] ts a b = b
 carry-append code amount (r ∷ rs) ts a b = (a .0, a .1, carry-append code amount rs ts (a .2) b)
 
 -- a list of which nothing is there is empty
-pub none-there : (rs : List Report) → isNone rs ≡ true → rs ≡ []
+none-there : (rs : List Report) → isNone rs ≡ true → rs ≡ []
 none-there [] e = refl
 none-there (r ∷ rs) e = let z : _≡_ {A = ℕ} 0 1 = cc in absurd (omega arith)
 
@@ -69,7 +70,8 @@ no-tickets i (e ▹ h) q =
     let before = no-tickets i h (both .1) in
     rw (this, before)
 
-module _ (ps : Roster) (h : History) (i : ℕ) (o o′ : Order) (e : Event) (a : OrderAgrees ps h i o) (other : opens i e h ≡ false) (s : SameOrder o o′) where
+module _ (ps : Roster) (h : History) (i : ℕ) (o o′ : Order) (e : Event) (a : OrderAgrees ps h i o) (other : opens i e h ≡ false)
+    (s : SameOrder o o′) where
   -- how the endings of this event count
   counts : ℕ → ℕ
   counts n = cond (eqb (n - cond (asksAbout i e h) 1 0) 0) 0 1
@@ -126,11 +128,17 @@ module _ (ps : Roster) (h : History) (i : ℕ) (o o′ : Order) (e : Event) (a :
   order-goes (repeated asks w w′ c r is carries) =
       together
       (ap isNone (so-far (r ∷ []) is) ∙ sym w′)
-      (let t = tickets (r ∷ []) is in let n = repeat-counts asks in let b = a .once in let q = ap ends w in let q′ = ap ends w′ in omega arith)
+      (let t = tickets (r ∷ []) is in
+      let n = repeat-counts asks in
+      let b = a .once in let q = ap ends w in
+      let q′ = ap ends w′ in omega arith)
       (rw (so-far (r ∷ []) is, c) (carry-append (endCode (o .status)) (o .amount) (r ∷ []) (allEndings i h) carries (a .alike)))
   order-goes (ended w w′ r more is carries l) =
       let before : allEndings i h ≡ [] = none-there (allEndings i h) (a .waiting ∙ w) in
       together
       (ap isNone (so-far (r ∷ more) is) ∙ sym w′)
-      (let t = tickets (r ∷ more) is in let n = end-counts (length more) l in let b = a .once in let q = ap ends w in let q′ = ap ends w′ in omega arith)
+      (let t = tickets (r ∷ more) is in
+      let n = end-counts (length more) l in
+      let b = a .once in let q = ap ends w in
+      let q′ = ap ends w′ in omega arith)
       (rw (so-far (r ∷ more) is, before) (carry-append (endCode (o′ .status)) (o .amount) (r ∷ more) [] carries tt))

@@ -15,24 +15,60 @@ use lib.ListN.{length, getD-replicate}
 use Rattle.fields.specs.Text.{same}
 use Rattle.fields.specs.UpTo.{sumTo}
 use Rattle.fields.proofs.UpTo.{sum-same}
-use Rattle.ticket.specs.Layout.{timeOf, txidOf}
+use Rattle.ticket.specs.TicketLayout.{timeOf, txidOf}
 use Rattle.report.specs.Ending.{endingsIn}
 use Rattle.report.specs.declared.Report.{Report}
-use Rattle.dayfile.specs.Limits.{mostParticipants}
+use Rattle.dayfile.specs.FileLimits.{mostParticipants}
 use Rattle.dayfile.specs.declared.roster.Roster.{Roster}
 use Rattle.rules.specs.Book.{noCover, coverOf, bookOf}
 use Rattle.rules.specs.Cover.{whole}
 use Rattle.rules.specs.Inputs.{Input, Seen, seenFrom, bookFrom}
 use Rattle.rules.specs.declared.Order.{Order}
 use Rattle.rules.specs.declared.Book.{Book}
-use Rattle.rules.proofs.Stepping.{file-sound}
+use Rattle.rules.proofs.StepSound.{file-sound}
 use Rattle.audit.specs.History.{Event, History, from, _▹_, participants, Each, sumOver, isKind, isSentBy}
-use Rattle.audit.specs.Sums.{amountIf, coverIn, coverOut, cutBefore, lastCutIn, lastCut, settledTo, settledFrom, returnBy, returnTo, goesOut, comesIn, outgoing, incoming}
-use Rattle.audit.specs.Orders.{isOrder, orderCount, ofOrder, orderAmount, orderTime, isForBank, startEndings, allEndings, isNone, waits, waitingPart, waitingTotal, isFirst4, letsExpire, setsClock, mustExpire, asksAbout, ownEndings, endingTickets, tellsParties}
+use Rattle.audit.specs.Sums.{
+  amountIf,
+  coverIn,
+  coverOut,
+  cutBefore,
+  lastCutIn,
+  lastCut,
+  settledTo,
+  settledFrom,
+  returnBy,
+  returnTo,
+  goesOut,
+  comesIn,
+  outgoing,
+  incoming,
+}
+use Rattle.audit.specs.Orders.{
+  isOrder,
+  orderCount,
+  ofOrder,
+  orderAmount,
+  orderTime,
+  isForBank,
+  startEndings,
+  allEndings,
+  isNone,
+  waits,
+  waitingPart,
+  waitingTotal,
+  isFirst4,
+  letsExpire,
+  setsClock,
+  mustExpire,
+  asksAbout,
+  ownEndings,
+  endingTickets,
+  tellsParties,
+}
 use Rattle.audit.specs.Claim.{AllCarry, codeOf, ClaimOf, Claim}
 use Rattle.audit.specs.Run.{eventOf, eventsOn}
 use Rattle.audit.proofs.Nothing as alone
-use Rattle.audit.proofs.Nothing.{rosterOf, ClaimOfEvents}
+use Rattle.audit.proofs.Nothing.{rosterIn, ClaimOfEvents}
 use Rattle.audit.proofs.Theorem.{demand3}
 
 module _ (file : List ℕ) where
@@ -41,7 +77,7 @@ module _ (file : List ℕ) where
   onFresh (e ∷ es) = e ▹ onFresh es
 
   abbrev ps : Roster
-  ps = rosterOf file
+  ps = rosterIn file
 
   same-participants : (es : List Event) → participants (onFresh es) ≡ ps
   same-participants [] = refl
@@ -70,12 +106,14 @@ module _ (file : List ℕ) where
   same-sum first zeros f g each [] = zeros
   same-sum first zeros f g each (e ∷ es) = ap₂ _+_ (each e es) (same-sum first zeros f g each es)
 
-  each-alone : (P : Event → History → Type 0) (Q : Event → List Event → Type 0) → ((e : Event) (es : List Event) → P e (onFresh es) → Q e es)
+  each-alone : (P : Event → History → Type 0) (Q : Event → List Event → Type 0)
+      → ((e : Event) (es : List Event) → P e (onFresh es) → Q e es)
       → (es : List Event) → Each P (onFresh es) → alone.Each Q es
   each-alone P Q so [] c = tt
   each-alone P Q so (e ∷ es) c = (so e es (c .0), each-alone P Q so es (c .1))
 
-  alone-each : (P : Event → History → Type 0) (Q : Event → List Event → Type 0) → ((e : Event) (es : List Event) → Q e es → P e (onFresh es))
+  alone-each : (P : Event → History → Type 0) (Q : Event → List Event → Type 0)
+      → ((e : Event) (es : List Event) → Q e es → P e (onFresh es))
       → (es : List Event) → alone.Each Q es → Each P (onFresh es)
   alone-each P Q so [] c = tt
   alone-each P Q so (e ∷ es) c = (so e es (c .0), alone-each P Q so es (c .1))
@@ -93,13 +131,15 @@ module _ (file : List ℕ) where
     same-out =
         same-sum (λ b. 0) refl (goesOut ps p) (alone.goesOut ps p)
         (λ e es.
-        ap (λ (n : ℕ). coverOut ps p e + amountIf (isKind 10 e && isSentBy ps p e && eqb n 11) e + settledFrom p e + returnBy ps p e) (same-cut es))
+        ap (λ (n : ℕ). coverOut ps p e + amountIf (isKind 10 e && isSentBy ps p e && eqb n 11) e + settledFrom p e + returnBy ps p e)
+        (same-cut es))
 
     same-in : (es : List Event) → incoming ps p (onFresh es) ≡ alone.incoming ps p es
     same-in =
         same-sum (λ b. whole (coverOf (b .covers) p)) (ap whole no-cover) (comesIn ps p) (alone.comesIn ps p)
         (λ e es.
-        ap (λ (n : ℕ). coverIn ps p e + amountIf (isKind 10 e && isSentBy ps p e && eqb n 10) e + settledTo ps p e + returnTo p e) (same-cut es))
+        ap (λ (n : ℕ). coverIn ps p e + amountIf (isKind 10 e && isSentBy ps p e && eqb n 10) e + settledTo ps p e + returnTo p e)
+        (same-cut es))
 
   -- what is put together from them
   same-waits : (i : ℕ) (es : List Event) → waits i (onFresh es) ≡ alone.waits i es
@@ -119,7 +159,8 @@ module _ (file : List ℕ) where
 
   same-must : (i : ℕ) (e : Event) (es : List Event) → mustExpire ps i e (onFresh es) ≡ alone.mustExpire ps i e es
   same-must i e es =
-      ap₂ (λ (x y : Bool). setsClock e && (x && y && leb 20 (timeOf (e .ticket) - orderTime i (onFresh es)))) (same-waits i es) (same-of _ _ _ i es)
+      ap₂ (λ (x y : Bool). setsClock e && (x && y && leb 20 (timeOf (e .ticket) - orderTime i (onFresh es))))
+      (same-waits i es) (same-of _ _ _ i es)
       ∙ ap (λ (n : ℕ). setsClock e && (alone.waits i es && alone.isForBank ps i es && leb 20 (timeOf (e .ticket) - n))) (same-of _ _ _ i es)
 
   same-asks : (i : ℕ) (e : Event) (es : List Event) → asksAbout i e (onFresh es) ≡ alone.asksAbout i e es
@@ -186,16 +227,17 @@ module _ (file : List ℕ) where
         })
 
 -- the events of what was seen, oldest first, in front of those before
-abbrev pub newestFirst : List Seen → List Event → List Event
-newestFirst [] es = es
-newestFirst (s ∷ later) es = newestFirst later (eventOf s ∷ es)
+abbrev pub seenNewestFirst : List Seen → List Event → List Event
+seenNewestFirst [] es = es
+seenNewestFirst (s ∷ later) es = seenNewestFirst later (eventOf s ∷ es)
 
-on-fresh : (file : List ℕ) (ss : List Seen) (es : List Event) → eventsOn (onFresh file es) ss ≡ onFresh file (newestFirst ss es)
+on-fresh : (file : List ℕ) (ss : List Seen) (es : List Event) → eventsOn (onFresh file es) ss ≡ onFresh file (seenNewestFirst ss es)
 on-fresh file [] es = refl
 on-fresh file (s ∷ later) es = on-fresh file later (eventOf s ∷ es)
 
 pub events-demand3 : (file : List ℕ) (inputs : List Input)
-    → ClaimOfEvents file (newestFirst (seenFrom (bookOf file) inputs) []) (bookFrom (bookOf file) inputs)
+    → ClaimOfEvents file (seenNewestFirst (seenFrom (bookOf file) inputs) []) (bookFrom (bookOf file) inputs)
 events-demand3 file inputs =
-    to-events file (newestFirst (seenFrom (bookOf file) inputs) []) (bookFrom (bookOf file) inputs)
-    (subst (λ (h : History). Claim h (bookFrom (bookOf file) inputs)) (on-fresh file (seenFrom (bookOf file) inputs) []) (demand3 file inputs))
+    to-events file (seenNewestFirst (seenFrom (bookOf file) inputs) []) (bookFrom (bookOf file) inputs)
+    (subst (λ (h : History). Claim h (bookFrom (bookOf file) inputs))
+    (on-fresh file (seenFrom (bookOf file) inputs) []) (demand3 file inputs))

@@ -5,16 +5,30 @@
 use mathlib.Core.Path.{refl}
 use mathlib.Core.List.{List, [], _∷_}
 use Rattle.codes.specs.Bic.{isBic}
-use Rattle.ticket.specs.Writing.{coverInTicket, orderTicket, yesTicket, noTicket, recallTicket, returnTicket, cutTicket, tickTicket}
+use Rattle.ticket.specs.TicketWriting.{coverInTicket, orderTicket, yesTicket, noTicket, recallTicket, returnTicket, cutTicket, tickTicket}
 use Rattle.dayfile.specs.DayFile.{dayFile}
 use Rattle.rules.specs.declared.Status.the-variants.{Waiting, Refused, Expired, Returned, Settled}
 use Rattle.rules.specs.declared.Recall.the-variants.{None}
 use Rattle.rules.proofs.Names.{bicA, bicB, tx1, ibanD}
-use Rattle.audit.proofs.Rows.{Written, AllFalse, AllTrue, all-false, all-true, event, report, cover}
-use Rattle.audit.proofs.Pieces.{banks, toLinked, opening, row, lodged, ordered, orderedLinked, orderedMore, settledAt, quiet, expiredAt, settledCovers, freedCovers}
+use Rattle.audit.proofs.HistoryRows.{WrittenHistory, AllFalse, AllTrue, all-false, all-true, event, report, cover}
+use Rattle.audit.proofs.HistoryParts.{
+  banks,
+  toLinked,
+  opening,
+  row,
+  lodged,
+  ordered,
+  orderedLinked,
+  orderedMore,
+  settledAt,
+  quiet,
+  expiredAt,
+  settledCovers,
+  freedCovers,
+}
 
 -- 01 'A reviewer will try'
-abbrev pub reviewers : List Written
+abbrev pub reviewers : List WrittenHistory
 reviewers =
     row "2: accepts and moves no cover" banks (lodged ∷ ordered ∷ settledAt 24 ∷ []) freedCovers (Settled None ∷ []) "cover"
     ∷ row "2: sends report 2 always, at a time-out too" banks
@@ -26,7 +40,7 @@ reviewers =
     ∷ []
 
 -- 01 'Mistakes a clerk would make'
-abbrev pub mistakes : List Written
+abbrev pub mistakes : List WrittenHistory
 mistakes =
     row "expiring at more than 20 seconds: a yes at 20 settles" banks
     (lodged ∷ ordered ∷ settledAt 25 ∷ [])
@@ -37,7 +51,8 @@ mistakes =
     ∷ expiredAt 4294967295
     ∷ [])
     freedCovers (Expired ∷ []) "expiry"
-    ∷ row "timing out an order for a linked system" toLinked (lodged ∷ orderedLinked ∷ expiredAt 25 ∷ []) freedCovers (Expired ∷ []) "expiry"
+    ∷ row "timing out an order for a linked system" toLinked (lodged ∷ orderedLinked ∷ expiredAt 25 ∷ [])
+    freedCovers (Expired ∷ []) "expiry"
     ∷ row "letting a refusal 18 stop the clock: the second order's time-out at 26 is not seen" banks
     (lodged ∷ ordered ∷ orderedMore ∷ settledAt 7 ∷ event (yesTicket 26 bicB tx1) 18 [] ∷ [])
     (cover 100 500 0 ∷ cover 400 0 0 ∷ []) (Settled None ∷ Waiting ∷ []) "expiry"
@@ -64,7 +79,7 @@ unfolding isBic dayFile
 mistakes-false = all-false mistakes refl
 
 -- the claim holds: these are for demand 2
-abbrev pub unseen : List Written
+abbrev pub unseen : List WrittenHistory
 unseen =
     row "1: every ticket is turned back" banks
     (event (coverInTicket 0 bicA 1000) 15 [] ∷ event (tickTicket 1) 7 [] ∷ [])

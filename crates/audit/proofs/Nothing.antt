@@ -10,7 +10,7 @@ use lib.Dec.{leb, ltb, eqb}
 use lib.ListN.{length}
 use Rattle.fields.specs.Text.{same}
 use Rattle.fields.specs.UpTo.{sumTo}
-use Rattle.ticket.specs.Layout.{timeOf, amountOf, txidOf}
+use Rattle.ticket.specs.TicketLayout.{timeOf, amountOf, txidOf}
 use Rattle.report.specs.Ending.{endingsIn}
 use Rattle.report.specs.declared.Report.{Report}
 use Rattle.dayfile.specs.DayFile.{dayFile}
@@ -110,16 +110,17 @@ ownEndings i e before = length (endingsIn i (e .reports)) - cond (asksAbout i e 
 abbrev pub endingTickets : ℕ → List Event → ℕ
 endingTickets i es = sumOver (λ e before. cond (eqb (ownEndings i e before) 0) 0 1) es
 
-abbrev pub rosterOf : List ℕ → Roster
-rosterOf file = dayFile file .roster
+abbrev pub rosterIn : List ℕ → Roster
+rosterIn file = dayFile file .roster
 
 pub record ClaimOfEvents (file : List ℕ) (es : List Event) (b : Book) : Type 0 where
-  pub told : Each (λ e before. tellsParties (rosterOf file) e ≡ true) es
-  pub cover : (p : ℕ) → p < rosterOf file .size → whole (coverOf (b .covers) p) + outgoing (rosterOf file) p es ≡ incoming (rosterOf file) p es
-  pub reserved : (p : ℕ) → p < rosterOf file .size → coverOf (b .covers) p .reserved ≡ waitingTotal (rosterOf file) p es
+  pub told : Each (λ e before. tellsParties (rosterIn file) e ≡ true) es
+  pub cover : (p : ℕ) → p < rosterIn file .size
+      → whole (coverOf (b .covers) p) + outgoing (rosterIn file) p es ≡ incoming (rosterIn file) p es
+  pub reserved : (p : ℕ) → p < rosterIn file .size → coverOf (b .covers) p .reserved ≡ waitingTotal (rosterIn file) p es
   pub held : b .count ≡ orderCount es
   pub waiting : (i : ℕ) → i < orderCount es → isWaiting (orderOf (b .orders) i .status) ≡ waits i es
-  pub expiry : Each (λ e before. (i : ℕ) → letsExpire i e before ≡ mustExpire (rosterOf file) i e before) es
+  pub expiry : Each (λ e before. (i : ℕ) → letsExpire i e before ≡ mustExpire (rosterIn file) i e before) es
   pub known : Each (λ e before. (i : ℕ) → orderCount before ≤ i → endingsIn i (e .reports) ≡ []) es
   pub once : (i : ℕ) → i < orderCount es → endingTickets i es ≡ cond (waits i es) 0 1
   pub alike : (i : ℕ) → i < orderCount es → AllCarry (codeOf (allEndings i es)) (orderAmount i es) (allEndings i es)

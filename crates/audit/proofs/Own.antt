@@ -9,10 +9,10 @@ use lib.Dec.{eqb}
 use lib.ListN.{set}
 use lib.Seq.{set-getD}
 use Rattle.fields.specs.Text.{same, unpadded}
-use Rattle.ticket.specs.Layout.{kindByte, amountOf, senderOf}
+use Rattle.ticket.specs.TicketLayout.{kindByte, amountOf, senderOf}
 use Rattle.ticket.specs.Kind.{kindNumber}
 use Rattle.ticket.specs.declared.Fields.{Fields}
-use Rattle.ticket.proofs.Telling.{Tells, tells-bytes}
+use Rattle.ticket.proofs.TicketTelling.{Tells, tells-bytes}
 use Rattle.report.specs.Ending.{endingsIn}
 use Rattle.report.specs.declared.Report.{Report}
 use Rattle.dayfile.specs.Roster.{participantOf}
@@ -29,8 +29,19 @@ use Rattle.rules.specs.declared.decision.Told.{Told}
 use Rattle.rules.specs.declared.Order.{Order}
 use Rattle.rules.specs.declared.Cover.{Cover}
 use Rattle.rules.specs.declared.Book.{Book}
-use Rattle.rules.proofs.Moving.{gain, loss, onlyFor, Fitted, fitted, set-here, set-there, nobody-moves, transfer-whole, transfer-leaves}
-use Rattle.rules.proofs.Same.{same-or-not}
+use Rattle.rules.proofs.CoverMoving.{
+  gain,
+  loss,
+  onlyFor,
+  Fitted,
+  fitted,
+  set-here,
+  set-there,
+  nobody-moves,
+  transfer-whole,
+  transfer-leaves,
+}
+use Rattle.fields.proofs.Compared.{same-or-not}
 use Rattle.rules.proofs.Refusing.{NoRefusal}
 use Rattle.rules.proofs.Accepting as accepting
 use Rattle.rules.proofs.Senders.{who-sends}
@@ -40,7 +51,7 @@ use Rattle.audit.specs.Sums.{lastCut, goesOut, comesIn}
 use Rattle.audit.specs.Orders.{isOrder, orderCount, orderTxid, asksAbout, endCode}
 use Rattle.audit.proofs.Fates.{Fate}
 use Rattle.audit.proofs.Events.{OwnOrder, OwnCover, Growth, OwnStep}
-use Rattle.audit.proofs.Telling.{NoCuts, cut-after}
+use Rattle.audit.proofs.ReportTelling.{NoCuts, cut-after}
 
 -- what is known of the book after the expiries
 pub record Midway (ps : Roster) (h : History) (w : Book) : Type 0 where
@@ -71,7 +82,8 @@ order-left asks i o o′ rs same quiet =
 pub cover-goes : (ps : Roster) (h : History) (e : Event) (p : ℕ) (c c′ : Cover)
     → whole c′ + goesOut ps p e h ≡ whole c + comesIn ps p e h → lastCut p (e ▹ h) ≡ lastCut p h
     → (c′ .held ≡ 0) ⊎ (c′ .held ≡ c .held) → (c′ .debit ≡ 0) ⊎ (c′ .debit ≡ c .debit) → OwnCover ps h e p c c′
-cover-goes ps h e p c c′ adds told held debit = record { adds = adds; held = mark 11 (c .held) (c′ .held) held; debit = mark 10 (c .debit) (c′ .debit) debit }
+cover-goes ps h e p c c′ adds told held debit =
+    record { adds = adds; held = mark 11 (c .held) (c′ .held) held; debit = mark 10 (c .debit) (c′ .debit) debit }
   where
     mark : (code n n′ : ℕ) → (n′ ≡ 0) ⊎ (n′ ≡ n) → (n ≡ 0) ⊎ (lastCut p h ≡ code) → (n′ ≡ 0) ⊎ (lastCut p (e ▹ h) ≡ code)
     mark code n n′ (inl nothing) before = inl nothing
@@ -79,7 +91,7 @@ cover-goes ps h e p c c′ adds told held debit = record { adds = adds; held = m
     mark code n n′ (inr same) (inr was) = inr (told ∙ was)
 
 -- a ticket with fields f that no refusal applies to, after the expiries with reports rs₀
-pub record Taken (ps : Roster) (h : History) (w : Book) (t : List ℕ) (f : Fields) (rs₀ : List Report) : Type 0 where
+pub record AcceptedTicket (ps : Roster) (h : History) (w : Book) (t : List ℕ) (f : Fields) (rs₀ : List Report) : Type 0 where
   pub midway : Midway ps h w
   pub tells : Tells t f
   pub clock : w .clock ≡ f .time
@@ -96,7 +108,7 @@ OwnStepOf ps h w t f rs₀ =
     let d = decisionOf (finding w f t) in
     OwnStep ps h (takenEvent t rs₀ (toldBy w d)) w (applied w d) (toldBy w d)
 
-module _ {ps : Roster} {h : History} {w : Book} {t : List ℕ} {f : Fields} {rs₀ : List Report} (k : Taken ps h w t f rs₀) where
+module _ {ps : Roster} {h : History} {w : Book} {t : List ℕ} {f : Fields} {rs₀ : List Report} (k : AcceptedTicket ps h w t f rs₀) where
   pub kind-is : kindByte t ≡ kindNumber (f .kind)
   kind-is = tells-bytes t f (k .tells) .number
 
@@ -108,7 +120,8 @@ module _ {ps : Roster} {h : History} {w : Book} {t : List ℕ} {f : Fields} {rs�
       → same (participantOf ps p .bic) (senderOf t) ≡ eqb (accepting.senderNumber w f t) p
   sent named p l =
       ap (λ (r : Roster). same (participantOf r p .bic) (senderOf t)) (sym (k .midway .roster))
-      ∙ who-sends (w .roster) (k .midway .sound .roster) (senderOf t) (accepting.senderNumber w f t) (accepting.sender-found w f t (k .passed .r12) named) p
+      ∙ who-sends (w .roster) (k .midway .sound .roster) (senderOf t) (accepting.senderNumber w f t)
+      (accepting.sender-found w f t (k .passed .r12) named) p
       (rw (k .midway .roster) l)
 
   pub sender-below : namesSender (termsOf (f .kind) .subject) ≡ true → accepting.senderNumber w f t < w .roster .size
@@ -118,20 +131,24 @@ module _ {ps : Roster} {h : History} {w : Book} {t : List ℕ} {f : Fields} {rs�
   sender-known named = subst (λ (r : Roster). accepting.senderNumber w f t < r .size) (k .midway .roster) (sender-below named)
 
   -- a step that leaves every order as it is, and tells no ending
-  pub steady : (b′ : Book) (rs : List Report) → b′ .roster ≡ w .roster → b′ .count ≡ w .count → ((i : ℕ) → orderOf (b′ .orders) i ≡ orderOf (w .orders) i)
+  pub steady : (b′ : Book) (rs : List Report) → b′ .roster ≡ w .roster → b′ .count ≡ w .count
+      → ((i : ℕ) → orderOf (b′ .orders) i ≡ orderOf (w .orders) i)
       → isOrder (takenEvent t rs₀ rs) ≡ false → ((i : ℕ) → endingsIn i rs ≡ [])
-      → ((p : ℕ) → p < ps .size → OwnCover ps h (takenEvent t rs₀ rs) p (coverOf (w .covers) p) (coverOf (b′ .covers) p)) → OwnStep ps h (takenEvent t rs₀ rs) w b′ rs
+      → ((p : ℕ) → p < ps .size → OwnCover ps h (takenEvent t rs₀ rs) p (coverOf (w .covers) p) (coverOf (b′ .covers) p))
+      → OwnStep ps h (takenEvent t rs₀ rs) w b′ rs
   steady b′ rs roster count orders isnt quiet covers =
       record {
         roster = roster;
         growth = Growth.keeps isnt count;
-        order = λ i l. order-left (asksAbout i (takenEvent t rs₀ rs) h) i (orderOf (w .orders) i) (orderOf (b′ .orders) i) rs (orders i) (quiet i);
+        order = λ i l. order-left (asksAbout i (takenEvent t rs₀ rs) h) i (orderOf (w .orders) i)
+            (orderOf (b′ .orders) i) rs (orders i) (quiet i);
         none = λ i l. quiet i;
         cover = covers;
       }
 
   -- a decision that keeps the order leaves all as they are
-  pub orders-kept : (i : ℕ) → orderOf (set (w .orders) (accepting.orderNumber w f t) (orderOf (w .orders) (accepting.orderNumber w f t))) i ≡ orderOf (w .orders) i
+  pub orders-kept : (i : ℕ) → orderOf (set (w .orders) (accepting.orderNumber w f t) (orderOf (w .orders) (accepting.orderNumber w f t))) i
+      ≡ orderOf (w .orders) i
   orders-kept i = ap (λ (os : List Order). orderOf os i) (set-getD (w .orders) (accepting.orderNumber w f t) noOrder)
 
   -- no cut is told
@@ -139,10 +156,14 @@ module _ {ps : Roster} {h : History} {w : Book} {t : List ℕ} {f : Fields} {rs�
   uncut rs n p = cut-after p (lastCut p h) rs₀ rs (k .code) n
 
   -- one cover moves, and nothing is told
-  pub moved-own : (v : Transfer) → v .who < w .roster .size → Enough (v .how) (v .amount) (coverOf (w .covers) (v .who)) → isOrder (takenEvent t rs₀ []) ≡ false
-      → (moved (v .how) (v .amount) (coverOf (w .covers) (v .who)) .held ≡ 0) ⊎ (moved (v .how) (v .amount) (coverOf (w .covers) (v .who)) .held ≡ coverOf (w .covers) (v .who) .held)
-      → (moved (v .how) (v .amount) (coverOf (w .covers) (v .who)) .debit ≡ 0) ⊎ (moved (v .how) (v .amount) (coverOf (w .covers) (v .who)) .debit ≡ coverOf (w .covers) (v .who) .debit)
-      → ((p : ℕ) → p < ps .size → goesOut ps p (takenEvent t rs₀ []) h ≡ onlyFor (v .who) p (loss (v .how) (v .amount) (coverOf (w .covers) (v .who))))
+  pub moved-own : (v : Transfer) → v .who < w .roster .size → Enough (v .how) (v .amount) (coverOf (w .covers) (v .who))
+      → isOrder (takenEvent t rs₀ []) ≡ false
+      → (moved (v .how) (v .amount) (coverOf (w .covers) (v .who)) .held ≡ 0)
+      ⊎ (moved (v .how) (v .amount) (coverOf (w .covers) (v .who)) .held ≡ coverOf (w .covers) (v .who) .held)
+      → (moved (v .how) (v .amount) (coverOf (w .covers) (v .who)) .debit ≡ 0)
+      ⊎ (moved (v .how) (v .amount) (coverOf (w .covers) (v .who)) .debit ≡ coverOf (w .covers) (v .who) .debit)
+      → ((p : ℕ) → p < ps .size
+      → goesOut ps p (takenEvent t rs₀ []) h ≡ onlyFor (v .who) p (loss (v .how) (v .amount) (coverOf (w .covers) (v .who))))
       → ((p : ℕ) → p < ps .size → comesIn ps p (takenEvent t rs₀ []) h ≡ onlyFor (v .who) p (gain (v .how) (v .amount)))
       → OwnStep ps h (takenEvent t rs₀ []) w (applied w (orderKept (finding w f t) v false Told.Nobody)) []
   moved-own v who enough isnt held debit out in′ =
@@ -160,8 +181,10 @@ module _ {ps : Roster} {h : History} {w : Book} {t : List ℕ} {f : Fields} {rs�
 
       -- what is nothing or as it was of the one that moves is so of all
       mark : (g : Cover → ℕ)
-          → (g (moved (v .how) (v .amount) (coverOf (w .covers) (v .who))) ≡ 0) ⊎ (g (moved (v .how) (v .amount) (coverOf (w .covers) (v .who))) ≡ g (coverOf (w .covers) (v .who)))
-          → (p : ℕ) → (g (coverOf (transferred v (w .covers)) p) ≡ 0) ⊎ (g (coverOf (transferred v (w .covers)) p) ≡ g (coverOf (w .covers) p))
+          → (g (moved (v .how) (v .amount) (coverOf (w .covers) (v .who))) ≡ 0)
+          ⊎ (g (moved (v .how) (v .amount) (coverOf (w .covers) (v .who))) ≡ g (coverOf (w .covers) (v .who)))
+          → (p : ℕ) → (g (coverOf (transferred v (w .covers)) p) ≡ 0)
+          ⊎ (g (coverOf (transferred v (w .covers)) p) ≡ g (coverOf (w .covers) p))
       mark g (inr same) p = inr (transfer-leaves fit v who g same p)
       mark g (inl nothing) p =
           ⊎-elim

@@ -21,21 +21,25 @@ use Rattle.rules.proofs.Courses.{handed-goes}
 use Rattle.audit.specs.History.{History}
 use Rattle.audit.specs.Orders.{tellsParties}
 use Rattle.audit.proofs.Agreeing.{Agrees}
-use Rattle.audit.proofs.Telling.{first-after}
-use Rattle.audit.proofs.Own.{Taken, takenEvent, kind-is}
-use Rattle.audit.proofs.Opening.{order-payee}
-use Rattle.audit.proofs.Answers.{yes-flag, yes-told, no-flag}
+use Rattle.audit.proofs.ReportTelling.{first-after}
+use Rattle.audit.proofs.Own.{AcceptedTicket, takenEvent, kind-is}
+use Rattle.audit.proofs.OrderOpening.{order-payee}
+use Rattle.audit.proofs.YesOrNo.{yes-flag, yes-told, no-flag}
 use Rattle.audit.proofs.Balance.{payer-known}
-use Rattle.audit.proofs.Running.{the-ticket}
+use Rattle.audit.proofs.OneStep.{the-ticket}
 
 module _ {ps : Roster} {h : History} {w : Book} {t : List ℕ} {time n : ℕ} {rs₀ : List Report} where
-  own-parties : (j : Kind) → Taken ps h w t (fieldsOf j time n) rs₀
+  own-parties : (j : Kind) → AcceptedTicket ps h w t (fieldsOf j time n) rs₀
       → tellsParties ps (takenEvent t rs₀ (toldBy w (decisionOf (finding w (fieldsOf j time n) t)))) ≡ true
   own-parties kind.CoverIn k = rw (kind-is k)
   own-parties kind.CoverOut k = rw (kind-is k)
   own-parties kind.Order k =
       let o = newOrder (finding w (fieldsOf kind.Order time n) t) in
-      rw (kind-is k, first-after 1 rs₀ (tellOrder (o .payee) 1 (w .count) o ∷ []) (k .code) refl, lt-ltb (o .payee) (ps .size) (order-payee k))
+      rw (
+        kind-is k,
+        first-after 1 rs₀ (tellOrder (o .payee) 1 (w .count) o ∷ []) (k .code) refl,
+        lt-ltb (o .payee) (ps .size) (order-payee k),
+      )
   own-parties kind.Yes k =
       let o = accepting.theOrder w (fieldsOf kind.Yes time n) t in
       rw (kind-is k, yes-flag k, yes-told k, lt-ltb (o .payer) (ps .size) (payer-known k refl))

@@ -2,14 +2,14 @@
 use mathlib.Core.Path.{_≡_, refl, sym}
 use mathlib.Core.Bool.{Bool, true, false, _&&_, _||_, not, cond, and-false}
 use mathlib.Core.List.{List, [], _∷_}
-use mathlib.Core.Logic.{_⊎_, ⊎-elim}
-use Prim.Native.Nat.{ℕ, zero, suc, _+_, _≤_, _<_}
+use mathlib.Core.Logic.{⊎-elim}
+use Prim.Native.Nat.{ℕ, _+_, _≤_, _<_}
 use native.Mathlib.Omega.{arith}
 use borrow.Author.Tests.{eqb-true, eq-eqb, ltb-true, ltb-false, le-ltb}
 use lib.Dec.{ltb, eqb}
 use Rattle.fields.specs.UpTo.{allTo}
 use Rattle.fields.proofs.Tests.{and-left, and-right}
-use Rattle.fields.proofs.UpTo.{all-at}
+use Rattle.fields.proofs.UpTo.{all-at, all-to}
 use Rattle.report.specs.Ending.{isEnding, endingsIn}
 use Rattle.report.specs.declared.Report.{Report}
 use Rattle.dayfile.specs.declared.roster.Roster.{Roster}
@@ -17,14 +17,24 @@ use Rattle.rules.specs.Book.{orderOf, coverOf}
 use Rattle.rules.specs.Status.{isWaiting}
 use Rattle.rules.specs.Cover.{whole}
 use Rattle.rules.specs.declared.Book.{Book}
-use Rattle.rules.proofs.Same.{below-or-not}
+use Rattle.fields.proofs.Compared.{below-or-not}
 use Rattle.audit.specs.History.{Event, History, from, _▹_, participants, Each}
 use Rattle.audit.specs.Sums.{outgoing, incoming}
-use Rattle.audit.specs.Orders.{orderCount, orderAmount, waits, waitingTotal, letsExpire, mustExpire, endingTickets, allEndings, tellsParties}
+use Rattle.audit.specs.Orders.{
+  orderCount,
+  orderAmount,
+  waits,
+  waitingTotal,
+  letsExpire,
+  mustExpire,
+  endingTickets,
+  allEndings,
+  tellsParties,
+}
 use Rattle.audit.specs.Claim.{AllCarry, codeOf, Claim}
 
 -- two truth values are the same
-abbrev pub agree : Bool → Bool → Bool
+abbrev agree : Bool → Bool → Bool
 agree true b = b
 agree false b = not b
 
@@ -40,54 +50,55 @@ true-agree false b e = rw (← e)
 and-both : (a b : Bool) → a ≡ true → b ≡ true → (a && b) ≡ true
 and-both a b e f = rw (e, f)
 
--- a test that passes at each number below n passes up to n
-all-of : (test : ℕ → Bool) (n : ℕ) → ((i : ℕ) → i < n → test i ≡ true) → allTo test n ≡ true
-all-of test zero h = refl
-all-of test (suc n) h = and-both (allTo test n) (test n) (all-of test n (λ i l. h i (omega arith))) (h n (omega arith))
-
 module _ (ps : Roster) (h : History) (b : Book) where
-  abbrev pub coverAt : ℕ → Bool
+  abbrev coverAt : ℕ → Bool
   coverAt p = eqb (whole (coverOf (b .covers) p) + outgoing ps p h) (incoming ps p h)
 
-  abbrev pub reservedAt : ℕ → Bool
+  abbrev reservedAt : ℕ → Bool
   reservedAt p = eqb (coverOf (b .covers) p .reserved) (waitingTotal ps p h)
 
-  abbrev pub waitingAt : ℕ → Bool
+  abbrev waitingAt : ℕ → Bool
   waitingAt i = agree (isWaiting (orderOf (b .orders) i .status)) (waits i h)
 
-abbrev pub onceAt : History → ℕ → Bool
+abbrev onceAt : History → ℕ → Bool
 onceAt h i = eqb (endingTickets i h) (cond (waits i h) 0 1)
 
 -- a test of each event and what was before it
-abbrev pub eachOf : (Event → History → Bool) → History → Bool
+abbrev eachOf : (Event → History → Bool) → History → Bool
 eachOf test (from b) = true
 eachOf test (e ▹ before) = test e before && eachOf test before
 
-each-true : (test : Event → History → Bool) (P : Event → History → Type 0) → ((e : Event) (before : History) → test e before ≡ true → P e before)
+each-true : (test : Event → History → Bool) (P : Event → History → Type 0)
+    → ((e : Event) (before : History) → test e before ≡ true → P e before)
     → (h : History) → eachOf test h ≡ true → Each P h
 each-true test P tells (from b) t = tt
-each-true test P tells (e ▹ before) t =
-    (tells e before (and-left (test e before) (eachOf test before) t), each-true test P tells before (and-right (test e before) (eachOf test before) t))
+each-true test P tells (e ▹ before) t = (
+  tells e before (and-left (test e before) (eachOf test before) t),
+  each-true test P tells before (and-right (test e before) (eachOf test before) t),
+)
 
-true-each : (test : Event → History → Bool) (P : Event → History → Type 0) → ((e : Event) (before : History) → P e before → test e before ≡ true)
+true-each : (test : Event → History → Bool) (P : Event → History → Type 0)
+    → ((e : Event) (before : History) → P e before → test e before ≡ true)
     → (h : History) → Each P h → eachOf test h ≡ true
 true-each test P tells (from b) c = refl
-true-each test P tells (e ▹ before) c = and-both (test e before) (eachOf test before) (tells e before (c .0)) (true-each test P tells before (c .1))
+true-each test P tells (e ▹ before) c =
+    and-both (test e before) (eachOf test before) (tells e before (c .0)) (true-each test P tells before (c .1))
 
 -- two facts of each event
 both-each : (P Q : Event → History → Type 0) (h : History) → Each P h → Each Q h → Each (λ e before. P e before × Q e before) h
 both-each P Q (from start) a b = tt
 both-each P Q (e ▹ before) a b = ((a .0, b .0), both-each P Q before (a .1) (b .1))
 
-each-so : (P Q : Event → History → Type 0) → ((e : Event) (before : History) → P e before → Q e before) → (h : History) → Each P h → Each Q h
+each-so : (P Q : Event → History → Type 0) → ((e : Event) (before : History) → P e before → Q e before)
+    → (h : History) → Each P h → Each Q h
 each-so P Q so (from b) a = tt
 each-so P Q so (e ▹ before) a = (so e before (a .0), each-so P Q so before (a .1))
 
 -- each ending has a number below n
-abbrev pub isEndingCode : Report → Bool
+abbrev isEndingCode : Report → Bool
 isEndingCode r = isEnding (r .order) r
 
-abbrev pub endingsBelow : ℕ → List Report → Bool
+abbrev endingsBelow : ℕ → List Report → Bool
 endingsBelow n [] = true
 endingsBelow n (r ∷ rs) = (not (isEndingCode r) || ltb (r .order) n) && endingsBelow n rs
 
@@ -131,13 +142,13 @@ known-below n (r ∷ rs) k =
         absurd (omega arith)
 
 -- at an event, the orders before it and n more
-abbrev pub expiryAt : Roster → Event → History → ℕ → Bool
+abbrev expiryAt : Roster → Event → History → ℕ → Bool
 expiryAt ps e before i = agree (letsExpire i e before) (mustExpire ps i e before)
 
-abbrev pub expiryIn : Roster → ℕ → Event → History → Bool
-expiryIn ps n e before = allTo (expiryAt ps e before) (orderCount before + n)
+abbrev expiryTest : Roster → ℕ → Event → History → Bool
+expiryTest ps n e before = allTo (expiryAt ps e before) (orderCount before + n)
 
-abbrev pub knownIn : Event → History → Bool
+abbrev knownIn : Event → History → Bool
 knownIn e before = endingsBelow (orderCount before) (e .reports)
 
 -- no other order is let expire, and none must
@@ -145,20 +156,22 @@ no-other : (ps : Roster) (e : Event) (before : History) (i : ℕ) → orderCount
     → letsExpire i e before ≡ mustExpire ps i e before
 no-other ps e before i l none = simp (none, and-false, le-ltb i (orderCount before) l)
 
-expiry-tells : (ps : Roster) (n : ℕ) (e : Event) (before : History) → (expiryIn ps n e before ≡ true) × Known (orderCount before) (e .reports)
+expiry-tells : (ps : Roster) (n : ℕ) (e : Event) (before : History)
+    → (expiryTest ps n e before ≡ true) × Known (orderCount before) (e .reports)
     → (i : ℕ) → letsExpire i e before ≡ mustExpire ps i e before
 unfolding Known
 expiry-tells ps n e before (t, k) i =
     ⊎-elim
-    (λ (l : i < orderCount before + n). agree-true (letsExpire i e before) (mustExpire ps i e before) (all-at (expiryAt ps e before) (orderCount before + n) i t l))
+    (λ (l : i < orderCount before + n). agree-true (letsExpire i e before) (mustExpire ps i e before)
+    (all-at (expiryAt ps e before) (orderCount before + n) i t l))
     (λ (l : orderCount before + n ≤ i). no-other ps e before i (omega arith) (k i (omega arith)))
     (below-or-not i (orderCount before + n))
 
-abbrev pub carry : ℕ → ℕ → List Report → Bool
+abbrev carry : ℕ → ℕ → List Report → Bool
 carry code amount [] = true
 carry code amount (r ∷ rs) = eqb (r .code) code && eqb (r .amount) amount && carry code amount rs
 
-abbrev pub alikeAt : History → ℕ → Bool
+abbrev alikeAt : History → ℕ → Bool
 alikeAt h i = carry (codeOf (allEndings i h)) (orderAmount i h) (allEndings i h)
 
 carry-true : (code amount : ℕ) (rs : List Report) → carry code amount rs ≡ true → AllCarry code amount rs
@@ -186,7 +199,7 @@ clauses h b =
     ∷ allTo (reservedAt ps h b) (ps .size)
     ∷ eqb (b .count) (orderCount h)
     ∷ allTo (waitingAt ps h b) (orderCount h)
-    ∷ eachOf (expiryIn ps (orderCount h)) h
+    ∷ eachOf (expiryTest ps (orderCount h)) h
     ∷ eachOf knownIn h
     ∷ allTo (onceAt h) (orderCount h)
     ∷ allTo (alikeAt h) (orderCount h)
@@ -221,7 +234,8 @@ module _ (h : History) (b : Book) where
       let all = passing (clauses h b) t in
       let c = all .1 in
       let expiry = c .1 .1 .1 .1 .0 in
-      let known = each-true knownIn (λ e before. Known (orderCount before) (e .reports)) (λ e before. below-known (orderCount before) (e .reports)) h (c .1 .1 .1 .1 .1 .0) in
+      let known = each-true knownIn (λ e before. Known (orderCount before) (e .reports))
+      (λ e before. below-known (orderCount before) (e .reports)) h (c .1 .1 .1 .1 .1 .0) in
       record {
         told = each-true (λ e before. tellsParties ps e) (λ e before. tellsParties ps e ≡ true) (λ e before q. q) h (all .0);
         cover = λ p l. eqb-true _ _ (all-at (coverAt ps h b) (ps .size) p (c .0) l);
@@ -229,37 +243,45 @@ module _ (h : History) (b : Book) where
         held = eqb-true _ _ (c .1 .1 .0);
         waiting = λ i l. agree-true _ _ (all-at (waitingAt ps h b) (orderCount h) i (c .1 .1 .1 .0) l);
         expiry =
-            each-so (λ e before. (expiryIn ps (orderCount h) e before ≡ true) × Known (orderCount before) (e .reports))
+            each-so (λ e before. (expiryTest ps (orderCount h) e before ≡ true) × Known (orderCount before) (e .reports))
             (λ e before. (i : ℕ) → letsExpire i e before ≡ mustExpire ps i e before) (expiry-tells ps (orderCount h)) h
-            (both-each (λ e before. expiryIn ps (orderCount h) e before ≡ true) (λ e before. Known (orderCount before) (e .reports)) h
-            (each-true (expiryIn ps (orderCount h)) (λ e before. expiryIn ps (orderCount h) e before ≡ true) (λ e before q. q) h expiry) known);
+            (both-each (λ e before. expiryTest ps (orderCount h) e before ≡ true) (λ e before. Known (orderCount before) (e .reports)) h
+            (each-true (expiryTest ps (orderCount h)) (λ e before. expiryTest ps (orderCount h) e before ≡ true) (λ e before q. q) h expiry)
+            known);
         known = known;
         once = λ i l. eqb-true _ _ (all-at (onceAt h) (orderCount h) i (c .1 .1 .1 .1 .1 .1 .0) l);
-        alike = λ i l. carry-true (codeOf (allEndings i h)) (orderAmount i h) (allEndings i h) (all-at (alikeAt h) (orderCount h) i (c .1 .1 .1 .1 .1 .1 .1 .0) l);
+        alike = λ i l. carry-true (codeOf (allEndings i h)) (orderAmount i h) (allEndings i h)
+            (all-at (alikeAt h) (orderCount h) i (c .1 .1 .1 .1 .1 .1 .1 .0) l);
       }
 
   -- the claim holds: every clause passes
-  pub clauses-pass : Claim h b → allPass (clauses h b) ≡ true
+  clauses-pass : Claim h b → allPass (clauses h b) ≡ true
   unfolding Known
   clauses-pass c =
       all-passing (clauses h b) (
         true-each (λ e before. tellsParties ps e) (λ e before. tellsParties ps e ≡ true) (λ e before q. q) h (c .told),
         (
-          all-of (coverAt ps h b) (ps .size) (λ p l. eq-eqb _ _ (c .cover p l)),
+          all-to (coverAt ps h b) (ps .size) (λ p l. eq-eqb _ _ (c .cover p l)),
           (
-            all-of (reservedAt ps h b) (ps .size) (λ p l. eq-eqb _ _ (c .reserved p l)),
+            all-to (reservedAt ps h b) (ps .size) (λ p l. eq-eqb _ _ (c .reserved p l)),
             (
               eq-eqb _ _ (c .held),
               (
-                all-of (waitingAt ps h b) (orderCount h) (λ i l. true-agree _ _ (c .waiting i l)),
+                all-to (waitingAt ps h b) (orderCount h) (λ i l. true-agree _ _ (c .waiting i l)),
                 (
-                  true-each (expiryIn ps (orderCount h)) (λ e before. (i : ℕ) → letsExpire i e before ≡ mustExpire ps i e before)
-                      (λ e before t. all-of (expiryAt ps e before) (orderCount before + orderCount h) (λ i l. true-agree _ _ (t i))) h (c .expiry),
+                  true-each (expiryTest ps (orderCount h)) (λ e before. (i : ℕ) → letsExpire i e before ≡ mustExpire ps i e before)
+                      (λ e before t. all-to (expiryAt ps e before) (orderCount before + orderCount h) (λ i l. true-agree _ _ (t i))) h
+                      (c .expiry),
                   (
-                    true-each knownIn (λ e before. Known (orderCount before) (e .reports)) (λ e before. known-below (orderCount before) (e .reports)) h (c .known),
+                    true-each knownIn (λ e before. Known (orderCount before) (e .reports))
+                        (λ e before. known-below (orderCount before) (e .reports)) h (c .known),
                     (
-                      all-of (onceAt h) (orderCount h) (λ i l. eq-eqb _ _ (c .once i l)),
-                      (all-of (alikeAt h) (orderCount h) (λ i l. true-carry (codeOf (allEndings i h)) (orderAmount i h) (allEndings i h) (c .alike i l)), tt),
+                      all-to (onceAt h) (orderCount h) (λ i l. eq-eqb _ _ (c .once i l)),
+                      (
+                        all-to (alikeAt h) (orderCount h)
+                            (λ i l. true-carry (codeOf (allEndings i h)) (orderAmount i h) (allEndings i h) (c .alike i l)),
+                        tt,
+                      ),
                     ),
                   ),
                 ),

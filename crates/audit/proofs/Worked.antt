@@ -1,7 +1,7 @@
 -- The claim at work: a member's position at the end of the busy day, explained line by line from what was seen. Assumes nothing.
---     Line          a ticket that moved a participant's cover: its number, what went out and what came in
---     statementOf   the participant's lines, oldest first
---     statement-adds    they are all that went out and all that came in
+--     Line                  a ticket that moved a participant's cover: its number, what went out and what came in
+--     statementOf           the participant's lines, oldest first
+--     statement-adds        they are all that went out and all that came in
 --     position-explained    so what is there now is what was there at the start and what the lines leave
 use mathlib.Core.Path.{_≡_, refl, ap}
 use mathlib.Core.Bool.{Bool, true, false, _&&_, cond}
@@ -14,7 +14,7 @@ use Rattle.fields.proofs.Tests.{and-left, and-right}
 use Rattle.codes.specs.Bic.{isBic}
 use Rattle.iban.specs.Iban.{isIban}
 use Rattle.codes.specs.Txid.{isTxid}
-use Rattle.ticket.specs.Reading.{reading}
+use Rattle.ticket.specs.TicketReading.{reading}
 use Rattle.dayfile.specs.DayFile.{dayFile}
 use Rattle.dayfile.specs.Route.{followed}
 use Rattle.dayfile.specs.declared.roster.Roster.{Roster}
@@ -26,11 +26,11 @@ use Rattle.rules.specs.Step.{stepOf, handed}
 use Rattle.rules.specs.Inputs.{Input, seenFrom, bookFrom}
 use Rattle.rules.specs.Sound.{Sound}
 use Rattle.rules.specs.declared.Book.{Book}
-use Rattle.rules.proofs.Stepping.{file-sound}
+use Rattle.rules.proofs.StepSound.{file-sound}
 use Rattle.audit.specs.History.{History, from, _▹_}
 use Rattle.audit.specs.Sums.{goesOut, comesIn, outgoing, incoming}
 use Rattle.audit.specs.Run.{historyOf}
-use Rattle.audit.proofs.Rows.{inputs, seenOn, bookOn}
+use Rattle.audit.proofs.HistoryRows.{inputs, seenOn, bookOn}
 use Rattle.audit.proofs.Days.{busyFile, busyDay}
 use Rattle.audit.proofs.Corollaries.{startCover, start-on, adds-up}
 

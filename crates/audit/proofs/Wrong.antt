@@ -6,15 +6,40 @@
 use mathlib.Core.Path.{refl}
 use mathlib.Core.List.{List, [], _∷_}
 use Rattle.codes.specs.Bic.{isBic}
-use Rattle.ticket.specs.Writing.{coverOutTicket, orderTicket, yesTicket, inquiryTicket, recallTicket, returnTicket, cutTicket, confirmTicket, tickTicket}
+use Rattle.ticket.specs.TicketWriting.{
+  coverOutTicket,
+  orderTicket,
+  yesTicket,
+  inquiryTicket,
+  recallTicket,
+  returnTicket,
+  cutTicket,
+  confirmTicket,
+  tickTicket,
+}
 use Rattle.dayfile.specs.DayFile.{dayFile}
 use Rattle.rules.specs.declared.Status.the-variants.{Waiting, Refused, Expired, Returned, Settled}
 use Rattle.rules.specs.declared.Recall.the-variants.{None}
 use Rattle.rules.proofs.Names.{bicA, bicB, tx1, tx2, ibanD}
-use Rattle.audit.proofs.Rows.{Written, AllFalse, AllTrue, all-false, all-true, event, report, cover}
-use Rattle.audit.proofs.Pieces.{banks, toLinked, opening, row, lodged, ordered, orderedLinked, orderedMore, settledAt, quiet, expiredAt, atFirst, settledCovers, freedCovers}
+use Rattle.audit.proofs.HistoryRows.{WrittenHistory, AllFalse, AllTrue, all-false, all-true, event, report, cover}
+use Rattle.audit.proofs.HistoryParts.{
+  banks,
+  toLinked,
+  opening,
+  row,
+  lodged,
+  ordered,
+  orderedLinked,
+  orderedMore,
+  settledAt,
+  quiet,
+  expiredAt,
+  atFirst,
+  settledCovers,
+  freedCovers,
+}
 
-abbrev pub ofCover : List Written
+abbrev pub ofCover : List WrittenHistory
 ofCover =
     row "cover moved and not told" banks
     (lodged ∷ ordered ∷ event (yesTicket 24 bicB tx1) 0 [] ∷ [])
@@ -30,7 +55,7 @@ ofCover =
     ∷ []
 
 -- the reports that sums and orders go by are not there
-abbrev pub ofParties : List Written
+abbrev pub ofParties : List WrittenHistory
 ofParties =
     row "a return that tells nobody: the cover is gone" banks
     (lodged
@@ -56,14 +81,14 @@ ofParties =
     atFirst (Waiting ∷ []) "told"
     ∷ []
 
-abbrev pub ofOrders : List Written
+abbrev pub ofOrders : List WrittenHistory
 ofOrders =
     row "Waiting in the book after its ending" banks (lodged ∷ ordered ∷ settledAt 24 ∷ []) settledCovers (Waiting ∷ []) "waiting"
     ∷ row "an accepted order of which the book holds nothing" banks (lodged ∷ ordered ∷ []) atFirst [] "held"
     ∷ row "an order in the book that was not accepted" banks (lodged ∷ []) freedCovers (Refused ∷ []) "held"
     ∷ []
 
-abbrev pub ofExpiries : List Written
+abbrev pub ofExpiries : List WrittenHistory
 ofExpiries =
     row "a time-out one second early" banks (lodged ∷ ordered ∷ expiredAt 24 ∷ []) freedCovers (Expired ∷ []) "expiry"
     ∷ row "a time-out one second late" banks (lodged ∷ ordered ∷ quiet 25 ∷ expiredAt 26 ∷ []) freedCovers (Expired ∷ []) "expiry"
@@ -79,7 +104,7 @@ ofExpiries =
     freedCovers (Expired ∷ []) "expiry"
     ∷ []
 
-abbrev pub ofEndings : List Written
+abbrev pub ofEndings : List WrittenHistory
 ofEndings =
     row "told 'expired' before it is accepted" banks (lodged ∷ expiredAt 4 ∷ ordered ∷ []) freedCovers (Expired ∷ []) "expiry, known"
     ∷ row "told 'refused' before it is accepted" banks
@@ -141,7 +166,7 @@ unfolding isBic dayFile
 endings-false = all-false ofEndings refl
 
 -- the claim holds of the whole, and is false of its beginning: the rows above of an inquiry that tells 2 before the yes
-abbrev pub seenEarlier : List Written
+abbrev pub seenEarlier : List WrittenHistory
 seenEarlier =
     row "an inquiry that tells 2 before the yes, when the yes has come" banks
     (lodged ∷ ordered ∷ event (inquiryTicket 6 bicA tx1) 0 (report 0 2 0 400 ∷ []) ∷ settledAt 24 ∷ [])

@@ -18,7 +18,17 @@ use Rattle.rules.specs.Cover.{whole}
 use Rattle.rules.specs.declared.Book.{Book}
 use Rattle.audit.specs.History.{History, participants, Each}
 use Rattle.audit.specs.Sums.{outgoing, incoming}
-use Rattle.audit.specs.Orders.{orderCount, orderAmount, waits, waitingTotal, letsExpire, mustExpire, endingTickets, allEndings, tellsParties}
+use Rattle.audit.specs.Orders.{
+  orderCount,
+  orderAmount,
+  waits,
+  waitingTotal,
+  letsExpire,
+  mustExpire,
+  endingTickets,
+  allEndings,
+  tellsParties,
+}
 
 -- each report carries the code and the amount
 abbrev pub AllCarry : ℕ → ℕ → List Report → Type 0

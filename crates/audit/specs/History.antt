@@ -14,7 +14,7 @@ use mathlib.Core.Bool.{Bool, _&&_}
 use mathlib.Core.List.{List}
 use lib.Dec.{ltb, eqb}
 use Rattle.fields.specs.Text.{same}
-use Rattle.ticket.specs.Layout.{kindByte, flagByte, senderOf}
+use Rattle.ticket.specs.TicketLayout.{kindByte, flagByte, senderOf}
 use Rattle.report.specs.declared.Report.{Report}
 use Rattle.dayfile.specs.Roster.{participantOf}
 use Rattle.dayfile.specs.declared.roster.Roster.{Roster}

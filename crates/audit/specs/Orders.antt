@@ -20,7 +20,7 @@ use lib.Dec.{leb, ltb, eqb}
 use lib.ListN.{length}
 use Rattle.fields.specs.Text.{same, unpadded}
 use Rattle.fields.specs.UpTo.{sumTo}
-use Rattle.ticket.specs.Layout.{timeOf, amountOf, txidOf}
+use Rattle.ticket.specs.TicketLayout.{timeOf, amountOf, txidOf}
 use Rattle.report.specs.Ending.{endingsIn}
 use Rattle.report.specs.declared.Report.{Report}
 use Rattle.dayfile.specs.declared.roster.Roster.{Roster}
@@ -139,7 +139,7 @@ abbrev pub endingTickets : ℕ → History → ℕ
 endingTickets i h = sumOver (λ b. cond (isNone (startEndings i b)) 0 1) (λ e before. cond (eqb (ownEndings i e before) 0) 0 1) h
 
 -- the first report with a code is there, and goes to a participant
-abbrev pub toParticipant : Roster → List Report → Bool
+abbrev toParticipant : Roster → List Report → Bool
 toParticipant ps [] = false
 toParticipant ps (r ∷ rs) = ltb (r .to) (ps .size)
 

@@ -4,7 +4,7 @@
 --     historyOf    the history of inputs that are handed to a book
 -- Assumes nothing.
 use mathlib.Core.List.{List, [], _∷_}
-use Rattle.report.specs.Layout.{reportsOf}
+use Rattle.report.specs.ReportLayout.{reportsOf}
 use Rattle.rules.specs.Inputs.{Input, Seen, seenFrom}
 use Rattle.rules.specs.declared.Book.{Book}
 use Rattle.audit.specs.History.{Event, History, from, _▹_}

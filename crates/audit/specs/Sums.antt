@@ -10,7 +10,7 @@ use Prim.Native.Nat.{ℕ, _+_}
 use mathlib.Core.Bool.{Bool, false, _&&_, _||_, cond}
 use mathlib.Core.List.{List, [], _∷_}
 use lib.Dec.{eqb}
-use Rattle.ticket.specs.Layout.{amountOf}
+use Rattle.ticket.specs.TicketLayout.{amountOf}
 use Rattle.report.specs.declared.Report.{Report}
 use Rattle.dayfile.specs.declared.roster.Roster.{Roster}
 use Rattle.rules.specs.Book.{coverOf}
@@ -55,12 +55,12 @@ firstWith code [] = []
 firstWith code (r ∷ rs) = cond (eqb (r .code) code) (r ∷ []) (firstWith code rs)
 
 -- its amount
-abbrev pub amountIn : List Report → ℕ
+abbrev amountIn : List Report → ℕ
 amountIn [] = 0
 amountIn (r ∷ rs) = r .amount
 
 -- whether it goes to p
-abbrev pub goesTo : ℕ → List Report → Bool
+abbrev goesTo : ℕ → List Report → Bool
 goesTo p [] = false
 goesTo p (r ∷ rs) = eqb (r .to) p
 

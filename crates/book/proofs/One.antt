@@ -7,23 +7,23 @@ use native.Mathlib.Omega.{arith}
 use borrow.Author.Tests.{le-leb, le-ltb, lt-ltb, ne-eqb}
 use lib.Dec.{leb}
 use lib.ListN.{length, take, drop}
-use Rattle.fields.proofs.Reading.{to-end}
+use Rattle.fields.proofs.FromFront.{to-end}
 use Rattle.ticket.specs.Shape.{shapeOf}
 use Rattle.ticket.specs.declared.shapes.Shape.the-variants.{Malformed}
-use Rattle.ticket.proofs.Laws.{read-malformed}
-use Rattle.report.specs.Layout.{laid}
+use Rattle.ticket.proofs.CheckLaws.{read-malformed}
+use Rattle.report.specs.ReportLayout.{laid}
 use Rattle.report.specs.Answer.{answerAt, answersLaid, AllFittingAnswers}
 use Rattle.report.specs.declared.Report.{Report}
 use Rattle.report.specs.declared.answer.Answer.{Answer}
-use Rattle.report.proofs.Answers.{answer-reads-back}
+use Rattle.report.proofs.AnswerLaws.{answer-reads-back}
 use Rattle.rules.specs.Tick.{Step}
 use Rattle.rules.specs.Refusal.{leastBuffer}
 use Rattle.rules.specs.Step.{untouched, stepOf, stepRead, handed, Outcome, handedBack, outcome, bookAfter}
 use Rattle.rules.specs.Taken.{answerOf, answersOf, reportsIn}
 use Rattle.rules.specs.Sound.{Sound}
 use Rattle.rules.specs.declared.Book.{Book}
-use Rattle.intake.specs.Running.{ranTo, ran, Ran}
-use Rattle.intake.proofs.Printing.{ran-printable}
+use Rattle.course.specs.Running.{ranTo, ran, Ran}
+use Rattle.course.proofs.PrintedBatches.{ran-printable}
 
 -- without room for an answer no ticket is taken
 no-answer : (m : ℕ) (b : Book) (tickets : List ℕ) (reports : ℕ) → ranTo m b tickets 0 reports ≡ []
@@ -33,7 +33,8 @@ no-answer (suc m) b tickets reports = go (leb 108 (length tickets))
     go : (z : Bool)
         → cond ((z && leb 4 0) && leb leastBuffer reports)
         (stepOf b (take 108 tickets)
-        ∷ ranTo m (stepOf b (take 108 tickets) .book) (drop 108 tickets) (0 - 4) (reports - 12 * length (stepOf b (take 108 tickets) .reports))) []
+        ∷ ranTo m (stepOf b (take 108 tickets) .book) (drop 108 tickets) (0 - 4)
+        (reports - 12 * length (stepOf b (take 108 tickets) .reports))) []
         ≡ []
     go true = refl
     go false = refl
@@ -62,14 +63,16 @@ enough-handed b t buffer h = rw (le-ltb (length buffer) 6528 h)
 pub one-outcome : (b : Book) → Sound b → (t answers buffer : List ℕ) → length answers ≡ 4 → length t ≡ 108 → 6528 ≤ length buffer
     → {c : Book} {k : ℕ} {bytes text : List ℕ} → Ran b t answers buffer c k bytes text
     → (a : Answer) → a ≡ answerAt bytes 0
-    → _≡_ {A = Outcome} (record { refusal = a .refusal; reports = a .reports; rows = a .rows; book = c; buffer = text }) (outcome b t buffer)
+    → _≡_ {A = Outcome} (record { refusal = a .refusal; reports = a .reports; rows = a .rows; book = c; buffer = text })
+    (outcome b t buffer)
 one-outcome b s t answers buffer four whole enough {c} {k} {bytes} {text} r a is =
     (λ i. record {
       refusal = answer i .refusal;
       reports = answer i .reports;
       rows = answer i .rows;
       book = (r .book ∙ ap (bookAfter b) one) i;
-      buffer = (r .reports ∙ ap (λ (ss : List Step). laid (reportsIn ss) buffer) one ∙ ap (λ (rs : List Report). laid rs buffer) (append-nil (stepOf b t .reports))) i;
+      buffer = (r .reports ∙ ap (λ (ss : List Step). laid (reportsIn ss) buffer) one
+          ∙ ap (λ (rs : List Report). laid rs buffer) (append-nil (stepOf b t .reports))) i;
     })
     ∙ ap (λ (w : Step). handedBack w buffer) (sym (enough-handed b t buffer enough))
   where
@@ -77,7 +80,8 @@ one-outcome b s t answers buffer four whole enough {c} {k} {bytes} {text} r a is
     one = ap (λ (n : ℕ). ran b t n (length buffer)) four ∙ one-ran b t (length buffer) whole enough
 
     fit : AllFittingAnswers (answerOf (stepOf b t) ∷ [])
-    fit = subst (λ (ss : List Step). AllFittingAnswers (answersOf ss)) one (ran-printable b s t (length answers) (length buffer) .answers-fit)
+    fit =
+        subst (λ (ss : List Step). AllFittingAnswers (answersOf ss)) one (ran-printable b s t (length answers) (length buffer) .answers-fit)
 
     answer : a ≡ answerOf (stepOf b t)
     answer =

@@ -1,6 +1,6 @@
-pub mod Theorem
-pub mod Reading
+pub mod CodeTheorem
+pub mod ReadingOff
 pub mod Reaching
-pub mod Keeping
-pub mod Printing
-pub mod Stepping
+pub mod KeptBook
+pub mod PrintedDay
+pub mod SteppedDay

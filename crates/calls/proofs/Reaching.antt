@@ -12,7 +12,7 @@ use Rattle.rules.specs.Inputs.{Input, seen, outcomeOf}
 use Rattle.rules.specs.declared.Book.{Book}
 use Rattle.audit.specs.History.{History, _▹_}
 use Rattle.audit.specs.Run.{eventOf}
-use Rattle.audit.proofs.Carrying.{Carried, carried-step, carried-outcome}
+use Rattle.audit.proofs.AlongInputs.{Carried, carried-step, carried-outcome}
 use Rattle.calls.specs.Steps.{stepEvent}
 
 -- with a buffer that is long enough for all its reports a ticket's outcome is its step

@@ -6,15 +6,15 @@
 use Prim.Native.Nat.{ℕ, zero, suc, _*_}
 use mathlib.Core.List.{List}
 use lib.ListN.{take, drop}
-use Rattle.ticket.specs.Layout.{ticketLength}
-use Rattle.report.specs.Layout.{reportLength, reportsOf}
+use Rattle.ticket.specs.TicketLayout.{ticketLength}
+use Rattle.report.specs.ReportLayout.{reportLength, reportsOf}
 use Rattle.report.specs.Answer.{answerLength, answerAt}
 use Rattle.report.specs.declared.answer.Answer.{Answer}
 use Rattle.rules.specs.Book.{bookOf}
 use Rattle.rules.specs.Inputs.{Input}
 use Rattle.rules.specs.Sound.{Sound}
 use Rattle.rules.specs.declared.Book.{Book}
-use Rattle.intake.specs.Running.{Ran}
+use Rattle.course.specs.Running.{Ran}
 use Rattle.book.specs.Opening.{Opens}
 use Rattle.book.specs.Handing.{Hands}
 use Rattle.book.specs.declared.opening.Opened.{Opened}
@@ -24,8 +24,8 @@ use Rattle.audit.specs.Run.{eventOf}
 use Rattle.calls.specs.Calls.{seenOf}
 
 -- the event of a ticket with an answer: as many reports as it says, from the start of those that are left
-abbrev pub answered : List ℕ → Answer → List ℕ → Event
-answered ticket a reports = record { ticket = ticket; refusal = a .refusal; reports = reportsOf (a .reports) reports }
+abbrev pub answeredEvent : List ℕ → Answer → List ℕ → Event
+answeredEvent ticket a reports = record { ticket = ticket; refusal = a .refusal; reports = reportsOf (a .reports) reports }
 
 -- k tickets, answers and reports, each behind the one before
 abbrev pub readOn : ℕ → List ℕ → List ℕ → List ℕ → History → History
@@ -33,7 +33,7 @@ readOn zero tickets answers reports h = h
 readOn (suc k) tickets answers reports h =
     let a = answerAt answers 0 in
     readOn k (drop ticketLength tickets) (drop answerLength answers) (drop (reportLength * a .reports) reports)
-    (answered (take ticketLength tickets) a reports ▹ h)
+    (answeredEvent (take ticketLength tickets) a reports ▹ h)
 
 pub data Kept : History → Book → Type 0 where
   -- a day file is opened

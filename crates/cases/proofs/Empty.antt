@@ -5,10 +5,12 @@ use Prim.Native.Nat.{ℕ, _*_}
 use native.Mathlib.Omega.{arith}
 use lib.ListN.{length}
 use Rattle.fields.specs.Number.{part}
-use Rattle.index.specs.Chains.{buckets, rowBucket, Chained}
-use Rattle.index.specs.Lent.{BicRows, TxidRows}
+use Rattle.fields.specs.Chains.{Chained}
+use Rattle.index.specs.RowChains.{rowBuckets, rowBucket}
+use Rattle.index.specs.LentRows.{BicRows, TxidRows}
 
-pub no-bics : {rows heads links : List ℕ} → length heads ≡ buckets → Chained (λ i. rowBucket (part 2 (2 * i) rows)) 0 heads links
+pub no-bics : {rows heads links : List ℕ} → length heads ≡ rowBuckets
+    → Chained rowBuckets (λ i. rowBucket (part 2 (2 * i) rows)) 0 heads links
     → BicRows 0 rows heads links
 no-bics headed chained =
     record {
@@ -20,7 +22,8 @@ no-bics headed chained =
       formed = λ s l b e. cc;
     }
 
-pub no-txids : {rows heads links : List ℕ} → length heads ≡ buckets → Chained (λ i. rowBucket (part 5 (5 * i) rows)) 0 heads links
+pub no-txids : {rows heads links : List ℕ} → length heads ≡ rowBuckets
+    → Chained rowBuckets (λ i. rowBucket (part 5 (5 * i) rows)) 0 heads links
     → TxidRows 0 rows heads links
 no-txids headed chained =
     record {

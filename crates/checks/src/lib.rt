@@ -20,7 +20,24 @@ use rules::decision::Move;
 ghost use Prim.Native.Nat.{_≤_};
 ghost use mathlib.Core.Path.{_≡_};
 ghost use Rattle.rules.specs.Cover.{mostTotal};
-ghost use Rattle.rules.specs.Checks.{senderCheck, newCheck, payeeCheck, spaceCheck, heldCheck, partyCheck, standing, waitingCheck, unmarkedCheck, askedCheck, sumCheck, fundsCheck, cutCheck, confirmCheck, brings, limitCheck};
+ghost use Rattle.rules.specs.Checks.{
+  senderCheck,
+  newCheck,
+  payeeCheck,
+  spaceCheck,
+  heldCheck,
+  partyCheck,
+  standing,
+  waitingCheck,
+  unmarkedCheck,
+  askedCheck,
+  sumCheck,
+  fundsCheck,
+  cutCheck,
+  confirmCheck,
+  brings,
+  limitCheck,
+};
 
 const MOST_ORDERS: usize = 256;
 
@@ -51,7 +68,7 @@ pub fn payee_check(route: Found, way: Followed) -> Payee
     ensures { λ r. ⌜ r ≡ payeeCheck route way ⌝ }
 {
     match route {
-        Found::At(_) => Payee::Reached(routes::reached(way)),
+        Found::At(_) => Payee::Reached(dayfile::reached(way)),
         Found::Nothing => Payee::NoRoute,
     }
 }

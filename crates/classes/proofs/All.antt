@@ -9,7 +9,16 @@ use lib.ListN.{length, getD}
 use Rattle.fields.proofs.Tests.{and-left, and-right}
 use Rattle.classes.specs.Class.{isIn, allIn}
 use Rattle.classes.specs.declared.Class.{Class}
-use Rattle.classes.specs.declared.Class.the-variants.{Capital, Small, Digit, CapitalOr2To9, CapitalButOOrDigit, CapitalOrDigit, LetterOrDigit, Txid}
+use Rattle.classes.specs.declared.Class.the-variants.{
+  Capital,
+  Small,
+  Digit,
+  CapitalOr2To9,
+  CapitalButOOrDigit,
+  CapitalOrDigit,
+  LetterOrDigit,
+  Txid,
+}
 
 in-at : (class : Class) (s : List ℕ) (i : ℕ) → allIn class s ≡ true → i < length s → isIn class (getD s i 0) ≡ true
 in-at class [] i e h = absurd (not-suc-le-zero h)

@@ -1,4 +1,4 @@
-pub mod Answer
+pub mod CheckAnswer
 pub mod Bytes
 pub mod All
 pub mod Unpadding

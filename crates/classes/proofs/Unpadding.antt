@@ -10,22 +10,22 @@ use lib.Dec.{leb, eqb}
 use lib.ListN.{length, getD, take, drop, length-take, drop-of-length-le}
 use lib.Seq.{getD-drop}
 use Rattle.fields.specs.Text.{blank, valueLength, unpadded}
-use Rattle.fields.proofs.Reading.{left-from}
+use Rattle.fields.proofs.FromFront.{left-from}
 use Rattle.fields.proofs.Tests.{and-left}
 use Rattle.classes.specs.Class.{isIn, allIn}
 use Rattle.classes.specs.declared.Class.{Class}
 use Rattle.classes.proofs.All.{no-zero}
-use Rattle.classes.specs.Padding.{stands}
+use Rattle.classes.specs.PaddedBytes.{stands}
 
 -- a byte that is not zero, or that has such a byte behind it, is no padding
-pub unpadded-used : (c : ℕ) (s : List ℕ) → eqb c 0 ≡ false → unpadded (c ∷ s) ≡ c ∷ unpadded s
+unpadded-used : (c : ℕ) (s : List ℕ) → eqb c 0 ≡ false → unpadded (c ∷ s) ≡ c ∷ unpadded s
 unpadded-used c s e = ap (λ (z : Bool). take (cond (z && blank s) 0 (suc (valueLength s))) (c ∷ s)) e
 
-pub unpadded-before : (c : ℕ) (s : List ℕ) → blank s ≡ false → unpadded (c ∷ s) ≡ c ∷ unpadded s
+unpadded-before : (c : ℕ) (s : List ℕ) → blank s ≡ false → unpadded (c ∷ s) ≡ c ∷ unpadded s
 unpadded-before c s e =
     ap (λ (b : Bool). take (cond b 0 (suc (valueLength s))) (c ∷ s)) (ap (λ (b : Bool). eqb c 0 && b) e ∙ and-false (eqb c 0))
 
-pub unpadded-blank : (s : List ℕ) → blank s ≡ true → unpadded s ≡ []
+unpadded-blank : (s : List ℕ) → blank s ≡ true → unpadded s ≡ []
 unpadded-blank [] e = refl
 unpadded-blank (c ∷ s) e = ap (λ (b : Bool). take (cond b 0 (suc (valueLength s))) (c ∷ s)) e
 
@@ -68,7 +68,8 @@ pub stand-from : (class : Class) (s : List ℕ) (i : ℕ) → i < length s
     → allStand class (drop i s) ≡ (stands class (getD s i 0) (getD s (i + 1) 0) && allStand class (drop (i + 1) s))
 stand-from class s i h =
     ap (allStand class) (left-from s i h)
-    ∙ ap (λ (n : ℕ). stands class (getD s i 0) n && allStand class (drop (i + 1) s)) (getD-drop (i + 1) s 0 0 ∙ ap (λ (k : ℕ). getD s k 0) (add-zero (i + 1)))
+    ∙ ap (λ (n : ℕ). stands class (getD s i 0) n && allStand class (drop (i + 1) s))
+    (getD-drop (i + 1) s 0 0 ∙ ap (λ (k : ℕ). getD s k 0) (add-zero (i + 1)))
 
 pub stand-last : (class : Class) (s : List ℕ) (i : ℕ) → i + 1 ≡ length s → allStand class (drop i s) ≡ stands class (getD s i 0) 0
 stand-last class s i e =
@@ -93,7 +94,8 @@ value-short k s e = omega (arith, length-take (valueLength s) s, go k s e)
     go (suc k) (c ∷ s) e = step (eqb c 0 && blank s) (valueLength s) k (go k s e)
 
 -- where the first byte is zero, nothing stands before the padding, or a byte that is of no class
-pub zero-first : (class : Class) (s : List ℕ) → eqb (getD s 0 0) 0 ≡ true → (leb 1 (length (unpadded s)) && allIn class (unpadded s)) ≡ false
+pub zero-first : (class : Class) (s : List ℕ) → eqb (getD s 0 0) 0 ≡ true
+    → (leb 1 (length (unpadded s)) && allIn class (unpadded s)) ≡ false
 zero-first class s z = go (blank s) refl
   where
     go : (b : Bool) → blank s ≡ b → (leb 1 (length (unpadded s)) && allIn class (unpadded s)) ≡ false

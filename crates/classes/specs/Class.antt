@@ -13,7 +13,16 @@ use mathlib.Core.Bool.{Bool, true, _&&_, _||_, not}
 use mathlib.Core.List.{List, [], _∷_}
 use lib.Dec.{leb, eqb}
 use Rattle.classes.specs.declared.Class.{Class}
-use Rattle.classes.specs.declared.Class.the-variants.{Capital, Small, Digit, CapitalOr2To9, CapitalButOOrDigit, CapitalOrDigit, LetterOrDigit, Txid}
+use Rattle.classes.specs.declared.Class.the-variants.{
+  Capital,
+  Small,
+  Digit,
+  CapitalOr2To9,
+  CapitalButOOrDigit,
+  CapitalOrDigit,
+  LetterOrDigit,
+  Txid,
+}
 
 abbrev pub between : Char → Char → ℕ → Bool
 between low high c = leb (code low) c && leb c (code high)

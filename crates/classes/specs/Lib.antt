@@ -1,3 +1,3 @@
-pub mod Answer
+pub mod CheckAnswer
 pub mod Class
-pub mod Padding
+pub mod PaddedBytes

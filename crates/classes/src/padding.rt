@@ -7,7 +7,7 @@ ghost use Prim.Native.Nat.{_<_};
 ghost use lib.ListN.{length};
 ghost use Rattle.classes.specs.Class.{allIn};
 ghost use Rattle.fields.specs.Text.{unpadded};
-ghost use Rattle.classes.specs.Padding.{stands};
+ghost use Rattle.classes.specs.PaddedBytes.{stands};
 
 // Whether a byte with next behind it may stand in the field: one of the class, or a zero with a zero behind it.
 fn stands(class: Class, c: u8, next: u8) -> bool

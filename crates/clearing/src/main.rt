@@ -6,5 +6,5 @@ fn main() {
     // of a longer input these are enough to give its refusal
     let mut buffer = [0u8; limits::MOST_READ];
     let n = io::read_full(STDIN_FILENO, &mut buffer);
-    printing::print_day(&buffer[..n]);
+    output::print_day(&buffer[..n]);
 }

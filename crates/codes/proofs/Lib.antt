@@ -1,4 +1,4 @@
-pub mod Whole
+pub mod WholeCodes
 pub mod Padded
 pub mod Filled
 pub mod Cases

@@ -24,4 +24,5 @@ txid-padded s h = go (eqb (getD s 0 0) 0) refl
     go : (z : Bool) → eqb (getD s 0 0) 0 ≡ z
         → (not z && allIn Txid (unpadded s)) ≡ (leb 1 (length (unpadded s)) && leb (length (unpadded s)) 35 && allIn Txid (unpadded s))
     go false z = simp (le-leb 1 (length (unpadded s)) (used-first s z), short)
-    go true z = sym (ap (λ (b : Bool). leb 1 (length (unpadded s)) && b && allIn Txid (unpadded s)) short ∙ simp and-true (zero-first Txid s z))
+    go true z =
+        sym (ap (λ (b : Bool). leb 1 (length (unpadded s)) && b && allIn Txid (unpadded s)) short ∙ simp and-true (zero-first Txid s z))

@@ -9,7 +9,7 @@ ghost use mathlib.Core.Path.{_≡_};
 ghost use Prim.Native.Nat.{_≤_};
 ghost use lib.ListN.{length};
 ghost use Rattle.fields.specs.Text.{unpadded, padded};
-ghost use Rattle.classes.specs.Answer.{answer};
+ghost use Rattle.classes.specs.CheckAnswer.{answer};
 ghost use Rattle.iban.specs.Iban.{isIban};
 ghost use Rattle.codes.specs.Bic.{isBic};
 ghost use Rattle.codes.specs.Txid.{isTxid};

@@ -1,3 +1,3 @@
-pub mod Keeping
-pub mod Seeing
+pub mod LoopKeeping
+pub mod SeenEntry
 pub mod Searching

@@ -8,7 +8,7 @@ use Rattle.fields.specs.Rows.{Indexed}
 use Rattle.dayfile.specs.Roster.{participantIn, rowOf}
 use Rattle.dayfile.specs.declared.roster.Roster.{Roster}
 use Rattle.index.specs.Words.{bicWords}
-use Rattle.index.specs.Lent.{BicRows}
+use Rattle.index.specs.LentRows.{BicRows}
 use Rattle.routes.specs.Ways.{kindsOf, numbersOf}
 
 pub record Directs (r : Roster) (bics bicHeads bicLinks routes routeHeads routeLinks kinds numbers : List ℕ) : Type 0 where

@@ -2,7 +2,6 @@
 // route row leads. It doesn't change, so it is made once, lent as slices, and what a turn has to know of it is one premise (`Directs`).
 use dayfile::roster::Roster;
 use index::chains;
-ghost use Rattle.rules.specs.Sound.{Sound};
 ghost use Rattle.dayfile.specs.Guarantee.{Guaranteed};
 ghost use Rattle.core.specs.Directory.{Directs};
 
@@ -19,7 +18,10 @@ pub struct Directory {
 
 pub fn directory_of(roster: Roster) -> Directory
     requires { ⌜ Guaranteed roster ⌝ }
-    ensures { λ r. ⌜ Directs roster (r .bics) (r .«bic_heads») (r .«bic_links») (r .routes) (r .«route_heads») (r .«route_links») (r .kinds) (r .numbers) ⌝ }
+    ensures { λ r.
+        ⌜
+        Directs roster (r .bics) (r .«bic_heads») (r .«bic_links») (r .routes) (r .«route_heads») (r .«route_links») (r .kinds) (r .numbers)
+        ⌝ }
 {
     let participants = roster.participants;
     let bics = index::bics_of(participants, roster.size);

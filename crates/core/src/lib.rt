@@ -2,11 +2,12 @@
 // and not once for each.
 
 mod directory;
+mod room;
 mod taking;
 
 use rules::Book;
 ghost use Rattle.rules.specs.Sound.{Sound};
-ghost use Rattle.intake.specs.Running.{Ran};
+ghost use Rattle.course.specs.Running.{Ran};
 
 // The book afterwards, and how many tickets were taken.
 pub struct Batch {

@@ -11,13 +11,12 @@
 // own, and in a sound book that is the sum over the participants (`all-total`). Held and open debit anywhere are looked for at a cut
 // only, since that looks at every participant.
 use super::Batch;
+use super::room;
 use index::chains;
 use moves::cover;
 use moves::cut;
-use moves::find;
 use moves::sums;
 use moves::told;
-use orders::room;
 use orders::status;
 use orders::tick;
 use report::answer;
@@ -34,8 +33,8 @@ use ticket::layout;
 ghost use mathlib.Core.Path.{_≡_};
 ghost use Rattle.rules.specs.Terms.{termsOf};
 ghost use Rattle.rules.specs.Sound.{Sound};
-ghost use Rattle.intake.specs.Seeking.{seeksOpen};
-ghost use Rattle.intake.specs.Running.{Ran};
+ghost use Rattle.course.specs.Seeking.{seeksOpen};
+ghost use Rattle.course.specs.Running.{Ran};
 ghost use Rattle.core.specs.Directory.{Directs};
 
 // Whether a kind looks for held and open debit anywhere.
@@ -85,7 +84,7 @@ pub fn take<'a>(
 {
     let roster = b.roster;
     let size = roster.size;
-    let rows = roster.rows;
+    let route_rows = roster.rows;
     let orders = b.orders;
     let mut txids = index::txids_of(orders, b.count);
     let made = chains::txid_chains(&txids, b.count);
@@ -121,7 +120,7 @@ pub fn take<'a>(
             route_heads,
             route_links,
             routes,
-            rows,
+            route_rows,
         );
         let Sight::Read(s) = sight else {
             answer::put_answer(
@@ -146,7 +145,7 @@ pub fn take<'a>(
                 break;
             }
             let payee = o.payee;
-            let bank = find::is_bank(roster.participants[payee]);
+            let bank = dayfile::is_bank(roster.participants[payee]);
             let lapse = tick::expire(b.clock, next, o, bank);
             let order = lapse.order;
             b.orders[next] = order;
@@ -188,7 +187,7 @@ pub fn take<'a>(
                 amount: o.amount,
                 status,
             },
-            bank: find::is_bank(roster.participants[payee]),
+            bank: dayfile::is_bank(roster.participants[payee]),
             route,
             way,
             count: b.count,
@@ -249,11 +248,11 @@ pub fn take<'a>(
                     k,
                     &t[layout::TXID..layout::IBAN],
                 );
-                followed = routes::rows_followed(way);
+                followed = dayfile::rows_followed(way);
                 b.orders[k] = Order {
                     txid,
                     payer: p,
-                    payee: routes::reached(way),
+                    payee: dayfile::reached(way),
                     amount: s.amount,
                     time: b.clock,
                     status: Status::Waiting,

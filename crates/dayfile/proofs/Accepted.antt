@@ -8,22 +8,29 @@ use Prim.Native.Nat.{ℕ, _+_, _*_, _≤_, _<_}
 use native.Mathlib.Nat.{not-suc-le-zero}
 use native.Mathlib.Omega.{arith}
 use borrow.Author.Tests.{not-true}
-use lib.ListN.{length, length-replicate, getD-replicate}
+use lib.ListN.{length-replicate, getD-replicate}
 use Rattle.fields.specs.Number.{part}
 use Rattle.fields.specs.Text.{same}
 use Rattle.fields.proofs.Tests.{and-left, and-right}
 use Rattle.fields.proofs.UpTo.{all-at, none-at, rows-length, row-at, row-past}
-use Rattle.dayfile.specs.Rows.{participantOk, routeOk, bicAmong}
+use Rattle.dayfile.specs.FileRows.{participantOk, routeOk, bicAmong}
 use Rattle.dayfile.specs.Check.{participantRight, routeRight, participantsOk, routesOk}
 use Rattle.dayfile.specs.Roster.{participantAt, routeAt, rosterOf, emptyRoster, noParticipant, noRoute, participantOf, routeOf}
 use Rattle.dayfile.specs.DayFile.{dayFile}
 use Rattle.dayfile.specs.Guarantee.{ParticipantNumbers, RouteNumbers, RosterNumbers, Guaranteed, GuaranteedFile}
-use Rattle.dayfile.proofs.RowTelling.{participant-bic, participant-opening, participant-numbers, route-bic, route-leads, route-numbers}
-use Rattle.dayfile.proofs.Passing.{Accepted, Refused, outcome, accepted}
+use Rattle.dayfile.proofs.RowTelling.{
+  participant-bic,
+  participant-opening,
+  participant-numbers,
+  route-bic,
+  route-leads,
+  route-numbers,
+}
+use Rattle.dayfile.proofs.Passing.{Accepted, Refused, file-outcome, passing-accepted}
 use Rattle.dayfile.specs.declared.DayFile.{DayFile}
 use Rattle.dayfile.specs.declared.header.Header.{Header}
 
-pub empty-guaranteed : Guaranteed emptyRoster
+empty-guaranteed : Guaranteed emptyRoster
 empty-guaranteed =
     record {
       size = omega arith;
@@ -62,14 +69,16 @@ module _ (h : Header) (f : List ℕ) (few : h .counts .participants ≤ 32) (sho
 
   participant-ok : (p : ℕ) → p < h .counts .participants → participantOk (participant-place p) f ≡ true
   participant-ok p l =
-      and-left (participantOk (participant-place p) f) (not (bicAmong (h .offsets .participants) 24 p (part 11 (participant-place p) f) f)) (participant-right p l)
+      and-left (participantOk (participant-place p) f)
+      (not (bicAmong (h .offsets .participants) 24 p (part 11 (participant-place p) f) f)) (participant-right p l)
 
   route-right : (i : ℕ) → i < h .counts .routes → routeRight (h .counts .participants) (h .offsets .routes) f i ≡ true
   route-right i l = all-at (routeRight (h .counts .participants) (h .offsets .routes) f) (h .counts .routes) i routes l
 
   route-ok : (i : ℕ) → i < h .counts .routes → routeOk (h .counts .participants) i (route-place i) f ≡ true
   route-ok i l =
-      and-left (routeOk (h .counts .participants) i (route-place i) f) (not (bicAmong (h .offsets .routes) 16 i (part 11 (route-place i) f) f)) (route-right i l)
+      and-left (routeOk (h .counts .participants) i (route-place i) f)
+      (not (bicAmong (h .offsets .routes) 16 i (part 11 (route-place i) f) f)) (route-right i l)
 
   -- no earlier row of a section has the BIC
   distinct-from : (from width q : ℕ) (ok : Bool) → (ok && not (bicAmong from width q (part 11 (from + width * q) f) f)) ≡ true
@@ -78,7 +87,7 @@ module _ (h : Header) (f : List ℕ) (few : h .counts .participants ≤ 32) (sho
       none-at (λ j. same (part 11 (from + width * j) f) (part 11 (from + width * q) f)) q p
       (not-true _ (and-right ok (not (bicAmong from width q (part 11 (from + width * q) f) f)) e)) l
 
-  pub roster-guaranteed : Guaranteed (rosterOf h f)
+  roster-guaranteed : Guaranteed (rosterOf h f)
   roster-guaranteed =
       record {
         size = few;
@@ -101,17 +110,19 @@ module _ (h : Header) (f : List ℕ) (few : h .counts .participants ≤ 32) (sho
         routeUnused = λ i b l. row-past 64 noRoute (λ j. routeAt (route-place j) f) (h .counts .routes) i _ b l;
       }
 
-  pub roster-numbers : h .offsets .participants ≡ 12 → h .offsets .routes ≡ 12 + 24 * h .counts .participants → RosterNumbers f (rosterOf h f)
+  roster-numbers : h .offsets .participants ≡ 12 → h .offsets .routes ≡ 12 + 24 * h .counts .participants → RosterNumbers f (rosterOf h f)
   roster-numbers first behind =
       record {
         participant =
             λ p l.
             rw (participant-is p l)
-            (subst (λ (at : ℕ). ParticipantNumbers (at + 24 * p) f (participantAt (participant-place p) f)) first (participant-numbers (participant-place p) f (participant-ok p l)));
+            (subst (λ (at : ℕ). ParticipantNumbers (at + 24 * p) f (participantAt (participant-place p) f)) first
+            (participant-numbers (participant-place p) f (participant-ok p l)));
         route =
             λ i l.
             rw (route-is i l)
-            (subst (λ (at : ℕ). RouteNumbers (at + 16 * i) f (routeAt (route-place i) f)) behind (route-numbers (h .counts .participants) i (route-place i) f (route-ok i l)));
+            (subst (λ (at : ℕ). RouteNumbers (at + 16 * i) f (routeAt (route-place i) f)) behind
+            (route-numbers (h .counts .participants) i (route-place i) f (route-ok i l)));
       }
 
 -- what the roster of any file guarantees, refused ones included
@@ -122,22 +133,24 @@ guaranteed f =
     let h = a .header in
     rw (a .file) (roster-guaranteed h f (a .range .participants) (a .range .routes) (a .participants) (a .routes)))
     (λ (r : Refused f). rw (r .file) empty-guaranteed)
-    (outcome f)
+    (file-outcome f)
 
 -- its enums have the numbers that stand in the file
-pub numbers : (f : List ℕ) → RosterNumbers f (dayFile f .roster)
-numbers f =
+pub roster-has-numbers : (f : List ℕ) → RosterNumbers f (dayFile f .roster)
+roster-has-numbers f =
     ⊎-elim
     (λ (a : Accepted f).
     let h = a .header in
-    rw (a .file) (roster-numbers h f (a .range .participants) (a .range .routes) (a .participants) (a .routes) (a .place .participants) (a .place .routes)))
-    (λ (r : Refused f). rw (r .file) (record { participant = λ p l. absurd (not-suc-le-zero l); route = λ i l. absurd (not-suc-le-zero l) }))
-    (outcome f)
+    rw (a .file) (roster-numbers h f (a .range .participants) (a .range .routes) (a .participants) (a .routes)
+    (a .place .participants) (a .place .routes)))
+    (λ (r : Refused f).
+    rw (r .file) (record { participant = λ p l. absurd (not-suc-le-zero l); route = λ i l. absurd (not-suc-le-zero l) }))
+    (file-outcome f)
 
 -- what an accepted file guarantees
 pub file-guaranteed : (f : List ℕ) → dayFile f .refusal ≡ 0 → GuaranteedFile f
 file-guaranteed f z =
-    let a = accepted f z in
+    let a = passing-accepted f z in
     let p = a .place in
     record {
       roster = guaranteed f;
@@ -153,8 +166,4 @@ with-tickets f k h =
     ⊎-elim
     (λ (a : Accepted f). ap (λ (d : DayFile). d .refusal) (a .file))
     (λ (r : Refused f). absurd (let none = ap (λ (d : DayFile). d .tickets) (r .file) in omega arith))
-    (outcome f)
-
--- its tickets lie within it
-pub tickets-within : (f : List ℕ) (k : ℕ) → k < dayFile f .tickets → dayFile f .first + 108 * k + 108 ≤ length f
-tickets-within f k h = let g = file-guaranteed f (with-tickets f k h) in omega arith
+    (file-outcome f)

@@ -38,7 +38,13 @@ module _ (r : Roster) (g : Guaranteed r) where
 
       go : (t : Target) → routeOf r row .target ≡ t → LeadsWithin (r .size) row (routeOf r row .target)
           → ((k : ℕ) → k < row → Arrives r (followed (targetIn (r .routes)) k)) → Arrives r (followed (targetIn (r .routes)) row)
-      go (To p) e within on = record { participant = p; rows = 1; known = rw e at within; one = omega arith; is = follows-to (targetIn (r .routes)) row few p e }
+      go (To p) e within on = record {
+        participant = p;
+        rows = 1;
+        known = rw e at within;
+        one = omega arith;
+        is = follows-to (targetIn (r .routes)) row few p e;
+      }
       go (Row k) e within on =
           let below : k < row = rw e at within in
           let a = on k below in
@@ -50,10 +56,10 @@ module _ (r : Roster) (g : Guaranteed r) where
             is = follows-row (targetIn (r .routes)) row few k e below ∙ ap oneMore (a .is);
           }
 
-  pub arrives : (row : ℕ) → row < r .rows → Arrives r (followed (targetIn (r .routes)) row)
+  arrives : (row : ℕ) → row < r .rows → Arrives r (followed (targetIn (r .routes)) row)
   arrives row l = to (suc row) row (omega arith) l
 
-  pub from-found : (f : Found) → isFound f ≡ true → numberOf f < r .rows → Arrives r (followedFrom r f)
+  from-found : (f : Found) → isFound f ≡ true → numberOf f < r .rows → Arrives r (followedFrom r f)
   from-found (found.At row) e l = arrives row l
   from-found found.Nothing e l = let z : _≡_ {A = ℕ} 0 1 = cc in absurd (omega arith)
 

@@ -26,7 +26,8 @@ enough : (n m : ℕ) (target : ℕ → Target) (row : ℕ) → row < n → row <
 enough zero m target row h k = absurd (not-suc-le-zero h)
 enough (suc n) zero target row h k = absurd (not-suc-le-zero k)
 enough (suc n) (suc m) target row h k =
-    leads-same (λ j. followTo n target j) (λ j. followTo m target j) row (target row) (λ j l. enough n m target j (omega arith) (omega arith))
+    leads-same (λ j. followTo n target j) (λ j. followTo m target j) row (target row)
+    (λ j l. enough n m target j (omega arith) (omega arith))
 
 module _ (target : ℕ → Target) (row : ℕ) where
   pub followed-out : 64 ≤ row → followed target row ≡ Nowhere

@@ -3,6 +3,6 @@ pub mod Passing
 pub mod RowTelling
 pub mod Accepted
 pub mod Arriving
-pub mod Written
-pub mod Laid
+pub mod RowsReadBack
+pub mod FilePlaces
 pub mod ReadBack

@@ -10,7 +10,7 @@ use lib.Dec.{leb, eqb}
 use lib.ListN.{length}
 use Rattle.fields.proofs.Tests.{and-left, and-right, passed}
 use Rattle.dayfile.specs.Header.{headed}
-use Rattle.dayfile.specs.Check.{InRange, ranged, placed, participantsOk, routesOk, enrolled}
+use Rattle.dayfile.specs.Check.{CountsInRange, ranged, placed, participantsOk, routesOk, enrolled}
 use Rattle.dayfile.specs.DayFile.{dayFile, fileHeaded, fileRanged, filePlaced, fileEnrolled, fileRouted, refusedFile, acceptedFile}
 use Rattle.dayfile.specs.declared.DayFile.{DayFile}
 use Rattle.dayfile.specs.declared.header.Header.{Header}
@@ -24,8 +24,8 @@ use Rattle.dayfile.specs.declared.check.Enrolled.the-variants as partici
 use Rattle.dayfile.specs.declared.check.Routed.the-variants as routes-are
 
 -- 2 passed: the counts are in range
-pub in-range : (h : Header) → ranged h ≡ Within → InRange (h .counts)
-in-range h e =
+pub counts-in-range : (h : Header) → ranged h ≡ Within → CountsInRange (h .counts)
+counts-in-range h e =
     record {
       least = leb-true 1 p (and-left a b ab);
       participants = leb-true p 32 (and-right a b ab);
@@ -116,10 +116,12 @@ module _ (f : List ℕ) (h : Header) (head : headed f ≡ As h) where
   pub file-ranged : ranged h ≡ Within → dayFile f ≡ filePlaced h f (placed h (length f))
   file-ranged range = file-headed ∙ ap (fileRanged h f) range
 
-  pub file-placed : ranged h ≡ Within → placed h (length f) ≡ Right → dayFile f ≡ fileEnrolled h f (enrolled (h .offsets .participants) (h .counts .participants) f)
+  pub file-placed : ranged h ≡ Within → placed h (length f) ≡ Right
+      → dayFile f ≡ fileEnrolled h f (enrolled (h .offsets .participants) (h .counts .participants) f)
   file-placed range place = file-ranged range ∙ ap (filePlaced h f) place
 
-  pub file-accepted : ranged h ≡ Within → placed h (length f) ≡ Right → participantsOk (h .offsets .participants) (h .counts .participants) f ≡ true
+  pub file-accepted : ranged h ≡ Within → placed h (length f) ≡ Right
+      → participantsOk (h .offsets .participants) (h .counts .participants) f ≡ true
       → routesOk (h .counts .participants) (h .offsets .routes) (h .counts .routes) f ≡ true → dayFile f ≡ acceptedFile h f
   file-accepted range place participants routes =
       file-placed range place
@@ -130,7 +132,7 @@ module _ (f : List ℕ) (h : Header) (head : headed f ≡ As h) where
 pub record Accepted (f : List ℕ) : Type 0 where
   pub header : Header
   pub head : headed f ≡ As header
-  pub range : InRange (header .counts)
+  pub range : CountsInRange (header .counts)
   pub place : InPlace header (length f)
   pub participants : participantsOk (header .offsets .participants) (header .counts .participants) f ≡ true
   pub routes : routesOk (header .counts .participants) (header .offsets .routes) (header .counts .routes) f ≡ true
@@ -145,8 +147,8 @@ pub record Refused (f : List ℕ) : Type 0 where
 refused-by : (f : List ℕ) (n : ℕ) → 1 ≤ n → dayFile f ≡ refusedFile n → Accepted f ⊎ Refused f
 refused-by f n h e = inr (record { number = n; some = h; file = e })
 
-pub outcome : (f : List ℕ) → Accepted f ⊎ Refused f
-outcome f = from-head (headed f) refl
+pub file-outcome : (f : List ℕ) → Accepted f ⊎ Refused f
+file-outcome f = from-head (headed f) refl
   where
     from-routes : (h : Header) → headed f ≡ As h → ranged h ≡ Within → placed h (length f) ≡ Right
         → (p : Bool) → participantsOk (h .offsets .participants) (h .counts .participants) f ≡ p
@@ -156,7 +158,7 @@ outcome f = from-head (headed f) refl
         (record {
           header = h;
           head = e₁;
-          range = in-range h e₂;
+          range = counts-in-range h e₂;
           place = in-place h (length f) e₃;
           participants = e₄;
           routes = e₅;
@@ -164,9 +166,11 @@ outcome f = from-head (headed f) refl
         })
     from-routes h e₁ e₂ e₃ true e₄ false e₅ =
         refused-by f 5 (omega arith)
-        (file-placed f h e₁ e₂ e₃ ∙ ap (λ (b : Bool). fileEnrolled h f (cond b participants-are.Right participants-are.Wrong)) e₄ ∙ ap (λ (b : Bool). fileRouted h f (cond b routes-are.Right routes-are.Wrong)) e₅)
+        (file-placed f h e₁ e₂ e₃ ∙ ap (λ (b : Bool). fileEnrolled h f (cond b participants-are.Right participants-are.Wrong)) e₄
+        ∙ ap (λ (b : Bool). fileRouted h f (cond b routes-are.Right routes-are.Wrong)) e₅)
     from-routes h e₁ e₂ e₃ false e₄ r e₅ =
-        refused-by f 4 (omega arith) (file-placed f h e₁ e₂ e₃ ∙ ap (λ (b : Bool). fileEnrolled h f (cond b participants-are.Right participants-are.Wrong)) e₄)
+        refused-by f 4 (omega arith)
+        (file-placed f h e₁ e₂ e₃ ∙ ap (λ (b : Bool). fileEnrolled h f (cond b participants-are.Right participants-are.Wrong)) e₄)
 
     from-place : (h : Header) → headed f ≡ As h → ranged h ≡ Within → (p : Placed) → placed h (length f) ≡ p → Accepted f ⊎ Refused f
     from-place h e₁ e₂ Right e₃ = from-routes h e₁ e₂ e₃ _ refl _ refl
@@ -180,6 +184,7 @@ outcome f = from-head (headed f) refl
     from-head (As h) e = from-range h e (ranged h) refl
     from-head Short e = refused-by f 1 (omega arith) (file-is-headed f ∙ ap (fileHeaded f) e)
 
-pub accepted : (f : List ℕ) → dayFile f .refusal ≡ 0 → Accepted f
-accepted f z =
-    ⊎-elim (λ (a : Accepted f). a) (λ (r : Refused f). absurd (let e = r .some in let w = ap (λ (d : DayFile). d .refusal) (r .file) in omega arith)) (outcome f)
+pub passing-accepted : (f : List ℕ) → dayFile f .refusal ≡ 0 → Accepted f
+passing-accepted f z =
+    ⊎-elim (λ (a : Accepted f). a)
+    (λ (r : Refused f). absurd (let e = r .some in let w = ap (λ (d : DayFile). d .refusal) (r .file) in omega arith)) (file-outcome f)

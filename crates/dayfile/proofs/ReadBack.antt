@@ -11,17 +11,27 @@ use Rattle.codes.specs.Bic.{isBic}
 use Rattle.fields.specs.Number.{part, bytesOf}
 use Rattle.fields.specs.Text.{text, same}
 use Rattle.fields.proofs.UpTo.{all-to, none-to, row-at}
-use Rattle.fields.proofs.Holding.{Holds, held-first, held-whole, held-behind, held-in, held-at, held-part, held-number}
+use Rattle.fields.proofs.Holding.{HoldsAt, held-first, held-whole, held-behind, held-in, held-at, held-part, held-number}
 use Rattle.dayfile.specs.Header.{sectionsAt, headed}
 use Rattle.dayfile.specs.Check.{routesPlace, ticketsPlace, ranged, placed, participantRight, routeRight, participantsOk, routesOk}
-use Rattle.dayfile.specs.Rows.{bicAmong}
-use Rattle.dayfile.specs.Roster.{targetNumber, noParticipant, noRoute, participantAt, routeAt, participantIn, rowOf, participantOf, routeOf}
+use Rattle.dayfile.specs.FileRows.{bicAmong}
+use Rattle.dayfile.specs.Roster.{
+  targetNumber,
+  noParticipant,
+  noRoute,
+  participantAt,
+  routeAt,
+  participantIn,
+  rowOf,
+  participantOf,
+  routeOf,
+}
 use Rattle.dayfile.specs.DayFile.{dayFile, acceptedFile, ticketAt}
 use Rattle.dayfile.specs.Guarantee.{LeadsWithin}
-use Rattle.dayfile.specs.Writing.{headerFor, sectionsBytes, headerBytes, countsOf, fileBytes, WellFormedDay, bank, direct}
+use Rattle.dayfile.specs.FileWriting.{headerFor, sectionsBytes, headerBytes, countsOf, fileBytes, WellFormedDay, bank, direct}
 use Rattle.dayfile.proofs.Passing.{file-accepted}
-use Rattle.dayfile.proofs.Laid.{file-length, participant-held, route-held, ticket-held}
-use Rattle.dayfile.proofs.Written.{participant-back, participant-written, route-back, route-written}
+use Rattle.dayfile.proofs.FilePlaces.{file-length, participant-held, route-held, ticket-held}
+use Rattle.dayfile.proofs.RowsReadBack.{participant-back, participant-written, route-back, route-written}
 use Rattle.dayfile.specs.declared.DayFile.{DayFile}
 use Rattle.dayfile.specs.declared.header.Sections.{Sections}
 use Rattle.dayfile.specs.declared.header.Header.{Header}
@@ -44,14 +54,15 @@ pub record ReadBack (ps : List Participant) (rs : List Route) (ts : List (List �
   pub ticket : (k : ℕ) → k < length ts → ticketAt (fileBytes ps rs ts) k ≡ getD ts k []
 
 -- three numbers of two bytes
-sections-back : (f : List ℕ) (at : ℕ) (n : Sections) → Holds f at (sectionsBytes n)
+sections-back : (f : List ℕ) (at : ℕ) (n : Sections) → HoldsAt f at (sectionsBytes n)
     → n .participants < 65536 → n .routes < 65536 → n .tickets < 65536 → sectionsAt at f ≡ n
 sections-back f at n h p r t =
     simp (
       held-number 2 at (n .participants) (held-at (held-in h (held-first _ _)) (omega arith)) p,
       held-number 2 (at + 2) (n .routes) (held-at (held-in h (held-behind (bytesOf 2 (n .participants)) (held-first _ _))) (omega arith)) r,
       held-number 2 (at + 4) (n .tickets)
-          (held-at (held-in h (held-behind (bytesOf 2 (n .participants)) (held-behind (bytesOf 2 (n .routes)) (held-whole _)))) (omega arith)) t,
+          (held-at (held-in h (held-behind (bytesOf 2 (n .participants)) (held-behind (bytesOf 2 (n .routes)) (held-whole _))))
+          (omega arith)) t,
     )
 
 target-small : (size own : ℕ) (t : Target) → LeadsWithin size own t → size ≤ 65536 → own ≤ 65536 → targetNumber t < 65536
@@ -70,11 +81,13 @@ module _ (ps : List Participant) (rs : List Route) (ts : List (List ℕ)) (w : W
 
   -- the row reads back
   participant-is : (p : ℕ) → p < length ps → participantAt (12 + 24 * p) file ≡ participantIn ps p
-  participant-is p l = participant-back file (12 + 24 * p) (participantIn ps p) (participant-held ps rs ts w p l) (w .bic p l) (w .opening p l)
+  participant-is p l =
+      participant-back file (12 + 24 * p) (participantIn ps p) (participant-held ps rs ts w p l) (w .bic p l) (w .opening p l)
 
   route-small : (i : ℕ) → i < length rs → targetNumber (rowOf rs i .target) < 65536
   route-small i l =
-      target-small (length ps) i (rowOf rs i .target) (w .leads i l) (let m = w .participants in omega arith) (let m = w .routes in omega arith)
+      target-small (length ps) i (rowOf rs i .target) (w .leads i l) (let m = w .participants in omega arith)
+      (let m = w .routes in omega arith)
 
   route-is : (i : ℕ) → i < length rs → routeAt (routesPlace counts + 16 * i) file ≡ rowOf rs i
   route-is i l =
@@ -88,7 +101,9 @@ module _ (ps : List Participant) (rs : List Route) (ts : List (List ℕ)) (w : W
       other : (p : ℕ) → p < length ps → bicAmong 12 24 p (part 11 (12 + 24 * p) file) file ≡ false
       other p l =
           none-to (λ j. same (part 11 (12 + 24 * j) file) (part 11 (12 + 24 * p) file)) p
-          (λ j b. rw (ap (λ (q : Participant). q .bic) (participant-is j (omega arith)), ap (λ (q : Participant). q .bic) (participant-is p l)) (w .distinct j p b l))
+          (λ j b.
+          rw (ap (λ (q : Participant). q .bic) (participant-is j (omega arith)), ap (λ (q : Participant). q .bic) (participant-is p l))
+          (w .distinct j p b l))
 
       right : (p : ℕ) → p < length ps → participantRight 12 file p ≡ true
       right p l =
@@ -106,12 +121,14 @@ module _ (ps : List Participant) (rs : List Route) (ts : List (List ℕ)) (w : W
       other : (i : ℕ) → i < length rs → bicAmong (routesPlace counts) 16 i (part 11 (at i) file) file ≡ false
       other i l =
           none-to (λ j. same (part 11 (at j) file) (part 11 (at i) file)) i
-          (λ j b. rw (ap (λ (r : Route). r .bic) (route-is j (omega arith)), ap (λ (r : Route). r .bic) (route-is i l)) (w .routeDistinct j i b l))
+          (λ j b. rw (ap (λ (r : Route). r .bic) (route-is j (omega arith)), ap (λ (r : Route). r .bic) (route-is i l))
+          (w .routeDistinct j i b l))
 
       right : (i : ℕ) → i < length rs → routeRight (length ps) (routesPlace counts) file i ≡ true
       right i l =
           ap₂ (λ (a b : Bool). a && not b)
-          (route-written file (at i) (length ps) i (rowOf rs i) (route-held ps rs ts w i l) (w .routeBic i l) (w .leads i l) (route-small i l))
+          (route-written file (at i) (length ps) i (rowOf rs i) (route-held ps rs ts w i l) (w .routeBic i l)
+          (w .leads i l) (route-small i l))
           (other i l)
 
   -- 1 to 3

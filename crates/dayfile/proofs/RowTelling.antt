@@ -11,9 +11,20 @@ use Rattle.codes.specs.Bic.{isBic}
 use Rattle.fields.specs.Number.{part, numberAt}
 use Rattle.fields.specs.Text.{blank}
 use Rattle.fields.proofs.Tests.{and-left, and-right}
-use Rattle.dayfile.specs.Limits.{mostOpening}
-use Rattle.dayfile.specs.Rows.{participantOk, boundOf, routeOk}
-use Rattle.dayfile.specs.Roster.{partyNumber, wishNumber, openingNumber, targetKind, targetNumber, kindOf, openingOf, targetOf, participantAt, routeAt}
+use Rattle.dayfile.specs.FileLimits.{mostOpening}
+use Rattle.dayfile.specs.FileRows.{participantOk, boundOf, routeOk}
+use Rattle.dayfile.specs.Roster.{
+  partyNumber,
+  wishNumber,
+  openingNumber,
+  targetKind,
+  targetNumber,
+  kindOf,
+  openingOf,
+  targetOf,
+  participantAt,
+  routeAt,
+}
 use Rattle.dayfile.specs.Guarantee.{OpeningWithin, LeadsWithin, ParticipantNumbers, RouteNumbers}
 use Rattle.dayfile.specs.declared.roster.Opening.the-variants.{None, Cover}
 use Rattle.dayfile.specs.declared.roster.Target.the-variants.{To, Row}
@@ -84,9 +95,12 @@ module _ (at : ℕ) (f : List ℕ) (ok : participantOk at f ≡ true) where
   unfolding bic kind wish most wished
   participant-numbers =
       record {
-        kind = party-number (getD f (at + 11) 0) (leb-true (getD f (at + 11) 0) 1 (and-right bic kind (and-left (bic && kind) wish (and-left (bic && kind && wish) most to-most))));
-        wish = wish-number (getD f (at + 20) 0) _ (leb-true (getD f (at + 20) 0) 1 (and-right (bic && kind) wish (and-left (bic && kind && wish) most to-most)));
-        opening = opening-number (getD f (at + 20) 0) (numberAt 8 (at + 12) f) (and-right (bic && kind && wish && most) wished (and-left (bic && kind && wish && most && wished) (blank (part 3 (at + 21) f)) ok));
+        kind = party-number (getD f (at + 11) 0) (leb-true (getD f (at + 11) 0) 1
+            (and-right bic kind (and-left (bic && kind) wish (and-left (bic && kind && wish) most to-most))));
+        wish = wish-number (getD f (at + 20) 0) _
+            (leb-true (getD f (at + 20) 0) 1 (and-right (bic && kind) wish (and-left (bic && kind && wish) most to-most)));
+        opening = opening-number (getD f (at + 20) 0) (numberAt 8 (at + 12) f) (and-right (bic && kind && wish && most) wished
+            (and-left (bic && kind && wish && most && wished) (blank (part 3 (at + 21) f)) ok));
       }
 
 -- what a route row that is right by itself tells
@@ -97,7 +111,8 @@ module _ (size own at : ℕ) (f : List ℕ) (ok : routeOk size own at f ≡ true
   bounded : (isBic (part 11 at f) && leb (getD f (at + 11) 0) 1 && ltb k (boundOf (getD f (at + 11) 0) size own)) ≡ true
   unfolding k
   bounded =
-      and-left (isBic (part 11 at f) && leb (getD f (at + 11) 0) 1 && ltb k (boundOf (getD f (at + 11) 0) size own)) (blank (part 2 (at + 14) f)) ok
+      and-left (isBic (part 11 at f) && leb (getD f (at + 11) 0) 1 && ltb k (boundOf (getD f (at + 11) 0) size own))
+      (blank (part 2 (at + 14) f)) ok
 
   pub route-bic : isBic (part 11 at f) ≡ true
   route-bic =

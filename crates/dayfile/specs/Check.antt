@@ -7,7 +7,7 @@
 --     enrolled         4, by that
 --     routesOk         the first n route rows of a section are right
 --     routed           5, by that
---     InRange          what 2 leaves
+--     CountsInRange    what 2 leaves
 -- Assumes nothing.
 use Prim.Native.Nat.{ℕ, _+_, _*_, _≤_}
 use mathlib.Core.Bool.{Bool, _&&_, not, cond}
@@ -15,9 +15,9 @@ use mathlib.Core.List.{List}
 use lib.Dec.{leb, eqb}
 use Rattle.fields.specs.Number.{part}
 use Rattle.fields.specs.UpTo.{allTo}
-use Rattle.ticket.specs.Layout.{ticketLength}
-use Rattle.dayfile.specs.Limits.{mostParticipants, mostRoutes, mostTickets, headerLength, participantLength, routeLength}
-use Rattle.dayfile.specs.Rows.{participantOk, routeOk, bicAmong}
+use Rattle.ticket.specs.TicketLayout.{ticketLength}
+use Rattle.dayfile.specs.FileLimits.{mostParticipants, mostRoutes, mostTickets, headerLength, participantLength, routeLength}
+use Rattle.dayfile.specs.FileRows.{participantOk, routeOk, bicAmong}
 use Rattle.dayfile.specs.declared.header.Sections.{Sections}
 use Rattle.dayfile.specs.declared.header.Header.{Header}
 use Rattle.dayfile.specs.declared.check.Ranged.{Ranged}
@@ -29,7 +29,7 @@ use Rattle.dayfile.specs.declared.check.Enrolled.the-variants as partici
 use Rattle.dayfile.specs.declared.check.Routed.{Routed}
 use Rattle.dayfile.specs.declared.check.Routed.the-variants as routes-are
 
-pub record InRange (n : Sections) : Type 0 where
+pub record CountsInRange (n : Sections) : Type 0 where
   pub least : 1 ≤ n .participants
   pub participants : n .participants ≤ mostParticipants
   pub routes : n .routes ≤ mostRoutes

@@ -7,11 +7,11 @@ use Prim.Native.Nat.{ℕ, _+_, _*_}
 use mathlib.Core.List.{List}
 use lib.ListN.{length}
 use Rattle.fields.specs.Number.{part}
-use Rattle.ticket.specs.Layout.{ticketLength}
+use Rattle.ticket.specs.TicketLayout.{ticketLength}
 use Rattle.dayfile.specs.Header.{headed}
 use Rattle.dayfile.specs.Check.{ranged, placed, enrolled, routed}
 use Rattle.dayfile.specs.Roster.{rosterOf, emptyRoster}
-use Rattle.dayfile.specs.Refusal.{headedRefusal, rangedRefusal, placedRefusal, enrolledRefusal, routedRefusal}
+use Rattle.dayfile.specs.FileRefusal.{headedRefusal, rangedRefusal, placedRefusal, enrolledRefusal, routedRefusal}
 use Rattle.dayfile.specs.declared.DayFile.{DayFile}
 use Rattle.dayfile.specs.declared.header.Header.{Header}
 use Rattle.dayfile.specs.declared.header.Headed.{Headed}

@@ -15,9 +15,27 @@ use lib.ListN.{length, getD}
 use Rattle.codes.specs.Bic.{isBic}
 use Rattle.fields.specs.Number.{numberAt}
 use Rattle.fields.specs.Text.{same}
-use Rattle.ticket.specs.Layout.{ticketLength}
-use Rattle.dayfile.specs.Limits.{mostParticipants, mostRoutes, mostTickets, mostOpening, headerLength, participantLength, routeLength}
-use Rattle.dayfile.specs.Roster.{partyNumber, wishNumber, openingNumber, targetKind, targetNumber, noParticipant, noRoute, participantOf, routeOf}
+use Rattle.ticket.specs.TicketLayout.{ticketLength}
+use Rattle.dayfile.specs.FileLimits.{
+  mostParticipants,
+  mostRoutes,
+  mostTickets,
+  mostOpening,
+  headerLength,
+  participantLength,
+  routeLength,
+}
+use Rattle.dayfile.specs.Roster.{
+  partyNumber,
+  wishNumber,
+  openingNumber,
+  targetKind,
+  targetNumber,
+  noParticipant,
+  noRoute,
+  participantOf,
+  routeOf,
+}
 use Rattle.dayfile.specs.DayFile.{dayFile}
 use Rattle.dayfile.specs.declared.roster.Opening.{Opening}
 use Rattle.dayfile.specs.declared.roster.Opening.the-variants.{None, Cover}

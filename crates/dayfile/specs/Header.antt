@@ -5,7 +5,7 @@ use mathlib.Core.List.{List}
 use lib.Dec.{ltb}
 use lib.ListN.{length}
 use Rattle.fields.specs.Number.{numberAt}
-use Rattle.dayfile.specs.Limits.{headerLength}
+use Rattle.dayfile.specs.FileLimits.{headerLength}
 use Rattle.dayfile.specs.declared.header.Sections.{Sections}
 use Rattle.dayfile.specs.declared.header.Header.{Header}
 use Rattle.dayfile.specs.declared.header.Headed.{Headed}

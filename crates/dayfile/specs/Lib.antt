@@ -1,10 +1,10 @@
-pub mod Limits
+pub mod FileLimits
 pub mod Header
-pub mod Rows
+pub mod FileRows
 pub mod Check
 pub mod Roster
 pub mod Route
-pub mod Refusal
+pub mod FileRefusal
 pub mod DayFile
 pub mod Guarantee
-pub mod Writing
+pub mod FileWriting

@@ -19,7 +19,7 @@ use lib.Dec.{eqb}
 use lib.ListN.{getD, replicate}
 use Rattle.fields.specs.Number.{part, numberAt}
 use Rattle.fields.specs.UpTo.{rowsTo}
-use Rattle.dayfile.specs.Limits.{mostParticipants, mostRoutes, participantLength, routeLength}
+use Rattle.dayfile.specs.FileLimits.{mostParticipants, mostRoutes, participantLength, routeLength}
 use Rattle.dayfile.specs.declared.header.Header.{Header}
 use Rattle.dayfile.specs.declared.roster.PartyKind.{PartyKind}
 use Rattle.dayfile.specs.declared.roster.PartyKind.the-variants.{Bank, Linked}
@@ -91,11 +91,11 @@ participantsTo start n f = rowsTo mostParticipants noParticipant (λ i. particip
 abbrev pub routesTo : ℕ → ℕ → List ℕ → List Route
 routesTo start n f = rowsTo mostRoutes noRoute (λ i. routeAt (start + routeLength * i) f) n
 
-pub record RowsWithin (h : Header) (length : ℕ) : Type 0 where
+pub record RowsWithin (h : Header) (bytes : ℕ) : Type 0 where
   pub few : h .counts .participants ≤ mostParticipants
-  pub participants : h .offsets .participants + participantLength * h .counts .participants ≤ length
+  pub participants : h .offsets .participants + participantLength * h .counts .participants ≤ bytes
   pub short : h .counts .routes ≤ mostRoutes
-  pub routes : h .offsets .routes + routeLength * h .counts .routes ≤ length
+  pub routes : h .offsets .routes + routeLength * h .counts .routes ≤ bytes
 
 abbrev pub rosterOf : Header → List ℕ → Roster
 rosterOf h f =

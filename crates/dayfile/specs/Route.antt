@@ -17,7 +17,7 @@ use Rattle.fields.specs.Text.{same}
 use Rattle.fields.specs.Search.{firstTo}
 use Rattle.fields.specs.declared.search.Found.{Found}
 use Rattle.fields.specs.declared.search.Found.the-variants as found
-use Rattle.dayfile.specs.Limits.{mostRoutes}
+use Rattle.dayfile.specs.FileLimits.{mostRoutes}
 use Rattle.dayfile.specs.Roster.{rowOf}
 use Rattle.dayfile.specs.declared.roster.Target.{Target}
 use Rattle.dayfile.specs.declared.roster.Target.the-variants.{To, Row}

@@ -1,5 +1,7 @@
 // The participants and the routes of a day, by value.
 use super::limits;
+ghost use mathlib.Core.Path.{_≡_};
+ghost use Rattle.dayfile.specs.Roster.{bankKind};
 
 pub enum PartyKind {
     Bank,
@@ -16,6 +18,16 @@ pub struct Participant {
     pub bic: [u8; 11],
     pub kind: PartyKind,
     pub opening: Opening,
+}
+
+pub fn is_bank(p: Participant) -> bool
+    ensures { λ r. ⌜ r ≡ bankKind (p .kind) ⌝ }
+{
+    let kind = p.kind;
+    match kind {
+        PartyKind::Bank => true,
+        PartyKind::Linked => false,
+    }
 }
 
 // Where a route row leads: to a participant, or on to an earlier row.

@@ -9,11 +9,11 @@ use Rattle.dayfile.specs.declared.DayFile.{DayFile}
 use Rattle.dayfile.specs.declared.header.Sections.{Sections}
 use Rattle.dayread.specs.declared.Outcome.{Outcome}
 
-abbrev pub none : Sections
-none = record { participants = 0; routes = 0; tickets = 0 }
+abbrev noSections : Sections
+noSections = record { participants = 0; routes = 0; tickets = 0 }
 
 abbrev pub refusedHeader : ℕ → Outcome
-refusedHeader n = record { refusal = n; header = record { counts = none; offsets = none } }
+refusedHeader n = record { refusal = n; header = record { counts = noSections; offsets = noSections } }
 
 abbrev pub fileOf : List ℕ → Outcome → DayFile
 fileOf f c =

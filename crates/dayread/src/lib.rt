@@ -10,11 +10,9 @@ use dayfile::check::Routed;
 use dayfile::header::Headed;
 use dayfile::header::Header;
 use dayfile::header::Sections;
-use ticket::layout;
 ghost use mathlib.Core.Path.{_≡_};
-ghost use Prim.Native.Nat.{_<_};
 ghost use lib.ListN.{length};
-ghost use Rattle.dayfile.specs.DayFile.{dayFile, ticketAt};
+ghost use Rattle.dayfile.specs.DayFile.{dayFile};
 ghost use Rattle.dayfile.specs.Roster.{RowsWithin};
 ghost use Rattle.dayfile.specs.Guarantee.{RosterNumbers};
 ghost use Rattle.dayread.specs.Outcome.{refusedHeader, fileOf};
@@ -83,13 +81,4 @@ pub fn read_day_file(f: &[u8]) -> DayFile
         tickets: n.tickets,
         first: at.tickets,
     }
-}
-
-// Ticket k of a file, as the file's own bytes, where first is the place that the file gives for the first.
-pub fn ticket(f: &[u8], first: usize, k: usize) -> &[u8]
-    requires { ⌜ (first ≡ dayFile (now f) .first) × (k < dayFile (now f) .tickets) ⌝ }
-    ensures { λ r. ⌜ now r ≡ ticketAt (now (f .entry)) k ⌝ }
-{
-    let at = first + layout::LENGTH * k;
-    &f[at..at + layout::LENGTH]
 }

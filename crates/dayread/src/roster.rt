@@ -12,8 +12,20 @@ ghost use mathlib.Core.Path.{_≡_};
 ghost use Prim.Native.Nat.{_+_, _*_, _≤_};
 ghost use lib.ListN.{length};
 ghost use Rattle.fields.specs.Number.{part};
-ghost use Rattle.dayfile.specs.Limits.{mostParticipants, mostRoutes, participantLength, routeLength};
-ghost use Rattle.dayfile.specs.Roster.{kindOf, openingOf, targetOf, participantAt, routeAt, participantsTo, routesTo, RowsWithin, rosterOf, noParticipant, noRoute};
+ghost use Rattle.dayfile.specs.FileLimits.{mostParticipants, mostRoutes, participantLength, routeLength};
+ghost use Rattle.dayfile.specs.Roster.{
+  kindOf,
+  openingOf,
+  targetOf,
+  participantAt,
+  routeAt,
+  participantsTo,
+  routesTo,
+  RowsWithin,
+  rosterOf,
+  noParticipant,
+  noRoute,
+};
 
 fn bic_at(f: &[u8], at: usize) -> [u8; 11]
     requires { ⌜ at + 11 ≤ length (now f) ⌝ }

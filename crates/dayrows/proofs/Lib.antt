@@ -1,1 +1,1 @@
-pub mod Chaining
+pub mod BicChains

@@ -1,1 +1,1 @@
-pub mod Chains
+pub mod BicChains

@@ -6,8 +6,8 @@ ghost use Prim.Native.Nat.{_+_, _*_, _≤_, _<_};
 ghost use lib.ListN.{length, getD, set};
 ghost use Rattle.fields.specs.Number.{part};
 ghost use Rattle.fields.specs.Text.{same};
-ghost use Rattle.dayfile.specs.Rows.{bicAmong};
-ghost use Rattle.dayrows.specs.Chains.{buckets, bicBucket, Searchable, bicRepeats};
+ghost use Rattle.dayfile.specs.FileRows.{bicAmong};
+ghost use Rattle.dayrows.specs.BicChains.{bicBuckets, bicBucket, BicSearchable, bicRepeats};
 
 fn same_bic(f: &[u8], a: usize, b: usize) -> bool
     requires { ⌜ (a + 11 ≤ length (now f)) × (b + 11 ≤ length (now f)) ⌝ }
@@ -30,7 +30,7 @@ fn number(n: u8) -> usize
 
 fn bic_bucket(bic: &[u8]) -> usize
     requires { ⌜ length (now bic) ≡ 11 ⌝ }
-    ensures { λ r. ⌜ (r ≡ bicBucket (now (bic .entry))) × (r < buckets) ⌝ }
+    ensures { λ r. ⌜ (r ≡ bicBucket (now (bic .entry))) × (r < bicBuckets) ⌝ }
 {
     let sum = wide(fields::u32_at(bic, 0))
         + wide(fields::u32_at(bic, 4))
@@ -62,7 +62,7 @@ fn bic_chained(
     links: &[u8],
     bucket: usize,
 ) -> bool
-    requires { ⌜ Searchable start width n own bucket (now f) (now heads) (now links) ⌝ }
+    requires { ⌜ BicSearchable start width n own bucket (now f) (now heads) (now links) ⌝ }
     ensures { λ r. ⌜ r ≡ bicAmong start width n (part 11 own (now (f .entry))) (now (f .entry)) ⌝ }
 {
     let mut found = false;

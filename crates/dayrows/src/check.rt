@@ -11,8 +11,8 @@ use ticket::layout;
 ghost use mathlib.Core.Path.{_≡_};
 ghost use Prim.Native.Nat.{_+_, _*_, _≤_};
 ghost use lib.ListN.{length};
-ghost use Rattle.dayfile.specs.Limits.{mostParticipants, mostRoutes, participantLength, routeLength};
-ghost use Rattle.dayfile.specs.Check.{InRange, ranged, placed, enrolled, routed};
+ghost use Rattle.dayfile.specs.FileLimits.{mostParticipants, mostRoutes, participantLength, routeLength};
+ghost use Rattle.dayfile.specs.Check.{CountsInRange, ranged, placed, enrolled, routed};
 
 pub fn check_counts(h: Header) -> Ranged
     ensures { λ r. ⌜ r ≡ ranged h ⌝ }
@@ -29,9 +29,9 @@ pub fn check_counts(h: Header) -> Ranged
     }
 }
 
-pub fn check_places(h: Header, length: usize) -> Placed
-    requires { ⌜ InRange (h .counts) ⌝ }
-    ensures { λ r. ⌜ r ≡ placed h length ⌝ }
+pub fn check_places(h: Header, bytes: usize) -> Placed
+    requires { ⌜ CountsInRange (h .counts) ⌝ }
+    ensures { λ r. ⌜ r ≡ placed h bytes ⌝ }
 {
     let n = h.counts;
     let at = h.offsets;
@@ -41,7 +41,7 @@ pub fn check_places(h: Header, length: usize) -> Placed
     if (at.participants == limits::HEADER_LENGTH)
         & (at.routes == routes)
         & (at.tickets == tickets)
-        & (length == end)
+        & (bytes == end)
     {
         Placed::Right
     } else {

@@ -3,8 +3,8 @@ use dayfile::limits;
 ghost use mathlib.Core.Path.{_≡_};
 ghost use Prim.Native.Nat.{_+_, _≤_};
 ghost use lib.ListN.{length};
-ghost use Rattle.dayfile.specs.Limits.{participantLength, routeLength};
-ghost use Rattle.dayfile.specs.Rows.{participantOk, boundOf, routeOk};
+ghost use Rattle.dayfile.specs.FileLimits.{participantLength, routeLength};
+ghost use Rattle.dayfile.specs.FileRows.{participantOk, boundOf, routeOk};
 
 pub fn participant_ok(f: &[u8], at: usize) -> bool
     requires { ⌜ at + participantLength ≤ length (now f) ⌝ }

@@ -42,7 +42,7 @@ fn print_next() -> bool {
     if !fill(&mut buffer, n) {
         return false;
     }
-    print_name(&name[0..named]) && printing::print_day(&buffer[0..n])
+    print_name(&name[0..named]) && output::print_day(&buffer[0..n])
 }
 
 // A proved loop has to end, and nothing says that the input does: so it counts its turns down, from a number that no run uses up.

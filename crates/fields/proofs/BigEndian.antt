@@ -2,7 +2,24 @@
 use mathlib.Core.Path.{_≡_, refl, sym, _∙_, ap, ap₂}
 use mathlib.Core.List.{List, [], _∷_, _++_}
 use Prim.Native.Nat.{ℕ, zero, suc, _+_, _*_, _/_, _%_, _^_, _≤_, _<_}
-use native.Mathlib.Nat.{zero-add, suc-add, add-mul, mul-assoc, mul-comm, add-assoc, zero-mul, one-mul, mul-pos, pow-succ', div-div-eq-div-mul, mod-mod-of-dvd, dvd-mul-left, mod-lt, mod-one, mod-eq-of-lt}
+use native.Mathlib.Nat.{
+  zero-add,
+  suc-add,
+  add-mul,
+  mul-assoc,
+  mul-comm,
+  add-assoc,
+  zero-mul,
+  one-mul,
+  mul-pos,
+  pow-succ',
+  div-div-eq-div-mul,
+  mod-mod-of-dvd,
+  dvd-mul-left,
+  mod-lt,
+  mod-one,
+  mod-eq-of-lt,
+}
 use native.Mathlib.Omega.{arith}
 use lib.Arith.{mod-mul, digits-div}
 use lib.Dec.{lit<}
@@ -17,13 +34,14 @@ number-append [] b = simp (zero-mul, zero-add)
 number-append (x ∷ a) b = simp (number-append a b, length-append a b, pow-add, add-mul, mul-assoc, add-assoc)
 
 -- v bytes and w behind them are two numbers
-pub numberAt-join : (v w at : ℕ) (s : List ℕ) → at + v + w ≤ length s → numberAt (v + w) at s ≡ numberAt v at s * 256 ^ w + numberAt w (at + v) s
+pub numberAt-join : (v w at : ℕ) (s : List ℕ) → at + v + w ≤ length s
+    → numberAt (v + w) at s ≡ numberAt v at s * 256 ^ w + numberAt w (at + v) s
 numberAt-join v w at s h =
     ap number (part-join v w at s)
     ∙ number-append (part v at s) (part w (at + v) s)
     ∙ ap (λ (k : ℕ). numberAt v at s * 256 ^ k + numberAt w (at + v) s) (length-part w (at + v) s h)
 
-pub numberAt-one : (at : ℕ) (s : List ℕ) → at < length s → numberAt 1 at s ≡ getD s at 0
+numberAt-one : (at : ℕ) (s : List ℕ) → at < length s → numberAt 1 at s ≡ getD s at 0
 numberAt-one at s h = ap number (part-one at s h) ∙ omega arith
 
 pub pos : (w : ℕ) → 0 < 256 ^ w
@@ -40,7 +58,8 @@ bytesOf-append zero w n = ap (λ (k : ℕ). bytesOf k n) (zero-add w)
 bytesOf-append (suc v) w n =
     ap (λ (k : ℕ). bytesOf k n) (suc-add v w)
     ∙ ap₂ _∷_
-    (ap (λ (k : ℕ). k % 256) (ap (λ (k : ℕ). n / k) (pow-add 256 v w ∙ mul-comm (256 ^ v) (256 ^ w)) ∙ sym (div-div-eq-div-mul n (256 ^ w) (256 ^ v))))
+    (ap (λ (k : ℕ). k % 256)
+    (ap (λ (k : ℕ). n / k) (pow-add 256 v w ∙ mul-comm (256 ^ v) (256 ^ w)) ∙ sym (div-div-eq-div-mul n (256 ^ w) (256 ^ v))))
     (bytesOf-append v w n)
 
 bytesOf-mod : (w m n : ℕ) → 0 < m → bytesOf w (n % (m * 256 ^ w)) ≡ bytesOf w n
@@ -53,7 +72,7 @@ bytesOf-mod (suc w) m n h =
     ∙ mod-mod-of-dvd 256 (n / 256 ^ w) (dvd-mul-left 256 m))
     (bytesOf-mod w (m * 256) n (mul-pos h (lit< tt)))
 
-pub bytesOf-join : (v w n : ℕ) → bytesOf (v + w) n ≡ bytesOf v (n / 256 ^ w) ++ bytesOf w (n % 256 ^ w)
+bytesOf-join : (v w n : ℕ) → bytesOf (v + w) n ≡ bytesOf v (n / 256 ^ w) ++ bytesOf w (n % 256 ^ w)
 bytesOf-join v w n =
     bytesOf-append v w n
     ∙ ap (λ (t : List ℕ). bytesOf v (n / 256 ^ w) ++ t)

@@ -19,7 +19,8 @@ pub found-at : (test : ℕ → Bool) (n : ℕ) → isFound (firstTo test n) ≡ 
 found-at test zero e = let z : _≡_ {A = ℕ} 0 1 = cc in absurd (omega arith)
 found-at test (suc n) e = go (firstTo test n) refl (test n) refl (found-at test n)
   where
-    go : (f : Found) → firstTo test n ≡ f → (b : Bool) → test n ≡ b → (isFound (firstTo test n) ≡ true → FoundAt test n (numberOf (firstTo test n)))
+    go : (f : Found) → firstTo test n ≡ f → (b : Bool) → test n ≡ b
+        → (isFound (firstTo test n) ≡ true → FoundAt test n (numberOf (firstTo test n)))
         → FoundAt test (suc n) (numberOf (foundOr (firstTo test n) n (test n)))
     go (At i) f b t on =
         let r = on (ap isFound f) in
@@ -31,7 +32,8 @@ pub not-found : (test : ℕ → Bool) (n : ℕ) → isFound (firstTo test n) ≡
 not-found test zero e i h = absurd (not-suc-le-zero h)
 not-found test (suc n) e i h = go (firstTo test n) refl (test n) refl (not-found test n)
   where
-    go : (f : Found) → firstTo test n ≡ f → (b : Bool) → test n ≡ b → (isFound (firstTo test n) ≡ false → (j : ℕ) → j < n → test j ≡ false) → test i ≡ false
+    go : (f : Found) → firstTo test n ≡ f → (b : Bool) → test n ≡ b
+        → (isFound (firstTo test n) ≡ false → (j : ℕ) → j < n → test j ≡ false) → test i ≡ false
     go (At j) f b t on = let e′ : _≡_ {A = Bool} true false = rw f at e in cc
     go Nothing f true t on = let e′ : _≡_ {A = Bool} true false = rw (f, t) at e in cc
     go Nothing f false t on =

@@ -26,10 +26,10 @@ module _ (rows : List ℕ) (width j : ℕ) (x : List ℕ) (as-wide : length x �
   within : width * j + length x ≤ length rows
   within = omega arith
 
-  pub row-written : part width (width * j) (sets rows (width * j) x) ≡ x
+  row-written : part width (width * j) (sets rows (width * j) x) ≡ x
   row-written = ap (λ (w : ℕ). part w (width * j) (sets rows (width * j) x)) (sym as-wide) ∙ sets-part x rows (width * j) within
 
-  pub row-other : (i : ℕ) → (i ≡ j → ⊥) → part width (width * i) (sets rows (width * j) x) ≡ part width (width * i) rows
+  row-other : (i : ℕ) → (i ≡ j → ⊥) → part width (width * i) (sets rows (width * j) x) ≡ part width (width * i) rows
   row-other i differs = go (ltb i j) refl
     where
       go : (b : Bool) → ltb i j ≡ b → part width (width * i) (sets rows (width * j) x) ≡ part width (width * i) rows
@@ -41,7 +41,7 @@ module _ (rows : List ℕ) (width j : ℕ) (x : List ℕ) (as-wide : length x �
           (eq-or-lt-of-le (ltb-false i j e))
 
   -- each of the first m rows is row j, or one that held its field
-  pub put-indexed-at : (field : ℕ → List ℕ) (m : ℕ) → field j ≡ x
+  put-indexed-at : (field : ℕ → List ℕ) (m : ℕ) → field j ≡ x
       → ((i : ℕ) → i < m → (i ≡ j → ⊥) → part width (width * i) rows ≡ field i) → Indexed width field m (sets rows (width * j) x)
   put-indexed-at field m new old = record { row = λ i l. go i l (eqb i j) refl }
     where

@@ -1,4 +1,4 @@
-pub mod Reading
+pub mod FromFront
 pub mod Tests
 pub mod Stores
 pub mod BigEndian
@@ -7,7 +7,9 @@ pub mod Padding
 pub mod Same
 pub mod UpTo
 pub mod Finding
-pub mod Rows
+pub mod CaseRows
 pub mod Holding
 pub mod Laid
 pub mod Indexing
+pub mod Compared
+pub mod Chaining

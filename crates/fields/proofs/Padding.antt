@@ -26,7 +26,7 @@ length-snoc (x ∷ s) c =
     ∙ step (eqb c 0) (eqb x 0) (blank s) (valueLength s) (valueLength (s ++ (c ∷ []))) (length s) (length-snoc s c)
 
 -- one byte more
-pub length-more : (s : List ℕ) (i : ℕ) → i < length s
+length-more : (s : List ℕ) (i : ℕ) → i < length s
     → valueLength (take (i + 1) s) ≡ cond (eqb (getD s i 0) 0) (valueLength (take i s)) (i + 1)
 length-more s i h =
     ap valueLength (ap (λ (k : ℕ). take k s) (add-one i) ∙ take-suc s i 0 h)
@@ -43,8 +43,8 @@ length-back s n p h =
     ∙ ap (cond (eqb (getD s (n - 1) 0) 0) (valueLength (take (n - 1) s))) n-is
 
 -- a field whose last byte is not zero is its value
-pub whole : (s : List ℕ) (i : ℕ) → i + 1 ≡ length s → eqb (getD s i 0) 0 ≡ false → unpadded s ≡ s
-whole s i e h = take-all (valueLength s) s (le-of-eq (sym long))
+pub unpadded-whole : (s : List ℕ) (i : ℕ) → i + 1 ≡ length s → eqb (getD s i 0) 0 ≡ false → unpadded s ≡ s
+unpadded-whole s i e h = take-all (valueLength s) s (le-of-eq (sym long))
   where
     long : valueLength s ≡ length s
     long =
@@ -53,7 +53,7 @@ whole s i e h = take-all (valueLength s) s (le-of-eq (sym long))
         ∙ ap (λ (b : Bool). cond b (valueLength (take i s)) (i + 1)) h
         ∙ e
 
-pub length-value : (s : List ℕ) → valueLength s ≤ length s
+length-value : (s : List ℕ) → valueLength s ≤ length s
 length-value [] = omega arith
 length-value (x ∷ s) = go (eqb x 0 && blank s) (length-value s)
   where

@@ -7,7 +7,7 @@ use borrow.Author.Tests.{eqb-true, eq-eqb}
 use lib.Dec.{eqb}
 use lib.ListN.{length, getD, drop}
 use Rattle.fields.specs.Text.{same}
-use Rattle.fields.proofs.Reading.{left-from}
+use Rattle.fields.proofs.FromFront.{left-from}
 use Rattle.fields.proofs.Tests.{and-left, and-right}
 
 pub same-true : (s t : List ℕ) → same s t ≡ true → s ≡ t

@@ -6,9 +6,23 @@ use native.Mathlib.Nat.{add-zero, zero-add, add-suc, suc-add, add-assoc}
 use native.Mathlib.Numerals.{add-one}
 use native.Mathlib.Omega.{arith}
 use lib.ListN.{length, getD, set, take, drop, length-drop, length-append}
-use lib.Seq.{set-at, append-snoc, take-suc, sets, sets-eq, take-at, drop-at, take-nil, take-take, take-add, drop-drop, drop-cons, length-take-le}
+use lib.Seq.{
+  set-at,
+  append-snoc,
+  take-suc,
+  sets,
+  sets-eq,
+  take-at,
+  drop-at,
+  take-nil,
+  take-take,
+  take-add,
+  drop-drop,
+  drop-cons,
+  length-take-le,
+}
 use Rattle.fields.specs.Number.{part}
-use Rattle.fields.proofs.Reading.{left-from}
+use Rattle.fields.proofs.FromFront.{left-from}
 
 pub sets-append : (l : List ℕ) (i : ℕ) (a b : List ℕ) → sets l i (a ++ b) ≡ sets (sets l i a) (i + length a) b
 sets-append l i [] b = ap (λ (k : ℕ). sets l k b) (sym (add-zero i))
@@ -31,13 +45,15 @@ module _ (vs l : List ℕ) (i : ℕ) (h : i + length vs ≤ length l) where
   front : length (take i l) ≡ i
   front = length-take-le i l (omega arith)
 
-  pub sets-before : take i (sets l i vs) ≡ take i l
-  sets-before = ap (take i) (sets-eq vs l i h ∙ append-assoc (take i l) vs (drop (i + length vs) l)) ∙ take-at (take i l) (vs ++ drop (i + length vs) l) i front
+  sets-before : take i (sets l i vs) ≡ take i l
+  sets-before = ap (take i) (sets-eq vs l i h ∙ append-assoc (take i l) vs (drop (i + length vs) l))
+      ∙ take-at (take i l) (vs ++ drop (i + length vs) l) i front
 
-  pub sets-after : drop (i + length vs) (sets l i vs) ≡ drop (i + length vs) l
+  sets-after : drop (i + length vs) (sets l i vs) ≡ drop (i + length vs) l
   sets-after =
       ap (drop (i + length vs)) (sets-eq vs l i h)
-      ∙ drop-at (take i l ++ vs) (drop (i + length vs) l) (i + length vs) (length-append (take i l) vs ∙ ap (λ (k : ℕ). k + length vs) front)
+      ∙ drop-at (take i l ++ vs) (drop (i + length vs) l) (i + length vs)
+      (length-append (take i l) vs ∙ ap (λ (k : ℕ). k + length vs) front)
 
   pub sets-part : part (length vs) i (sets l i vs) ≡ vs
   sets-part =
@@ -46,7 +62,7 @@ module _ (vs l : List ℕ) (i : ℕ) (h : i + length vs ≤ length l) where
       ∙ take-at vs (drop (i + length vs) l) (length vs) refl
 
 -- a part of a part
-pub drop-take : (m n : ℕ) (s : List ℕ) → drop m (take (m + n) s) ≡ take n (drop m s)
+drop-take : (m n : ℕ) (s : List ℕ) → drop m (take (m + n) s) ≡ take n (drop m s)
 drop-take zero n s = ap (λ (k : ℕ). take k s) (zero-add n)
 drop-take (suc m) n [] = ap (drop (suc m)) (take-nil (suc m + n)) ∙ sym (take-nil n)
 drop-take (suc m) n (x ∷ s) = ap (λ (k : ℕ). drop (suc m) (take k (x ∷ s))) (suc-add m n) ∙ drop-take m n s

@@ -1,6 +1,6 @@
 -- What a test up to n tells of each number below it, what a table up to n holds, and sums up to n. Assumes nothing.
-use mathlib.Core.Path.{_≡_, refl, _∙_, ap, ap₂}
-use mathlib.Core.Bool.{Bool, true, false}
+use mathlib.Core.Path.{_≡_, refl, sym, _∙_, ap, ap₂}
+use mathlib.Core.Bool.{Bool, true, false, _&&_, _||_, not}
 use mathlib.Core.Logic.{_⊎_, ⊎-elim}
 use Prim.Native.Nat.{ℕ, zero, suc, _+_, _≤_, _<_}
 use native.Mathlib.Nat.{not-suc-le-zero, eq-or-lt-of-le, le-of-suc-le-suc}
@@ -39,6 +39,18 @@ all-to test (suc n) h = simp (all-to test n (λ i l. h i (omega arith)), h n (om
 pub none-to : (test : ℕ → Bool) (n : ℕ) → ((i : ℕ) → i < n → test i ≡ false) → anyTo test n ≡ false
 none-to test zero h = refl
 none-to test (suc n) h = simp (none-to test n (λ i l. h i (omega arith)), h n (omega arith))
+
+-- each passes one test, and none another
+pub all-apart : (p q : ℕ → Bool) (n : ℕ) → allTo (λ i. p i && not (q i)) n ≡ (allTo p n && not (anyTo q n))
+all-apart p q zero = refl
+all-apart p q (suc n) = ap (λ (b : Bool). b && (p n && not (q n))) (all-apart p q n) ∙ go (allTo p n) (anyTo q n) (p n) (q n)
+  where
+    go : (a b c d : Bool) → (a && not b && (c && not d)) ≡ (a && c && not (b || d))
+    go false b c d = refl
+    go true true true d = refl
+    go true true false d = refl
+    go true false true d = refl
+    go true false false d = refl
 
 module _ {A : Type 0} (size : ℕ) (none : A) (row : ℕ → A) where
   pub rows-length : (n : ℕ) → length (rowsTo size none row n) ≡ size
@@ -96,6 +108,17 @@ sum-prefix f i (suc n) h =
     ⊎-elim
     (λ (q : i ≡ suc n). rw q (omega arith))
     (λ (l : i < suc n). let a = sum-prefix f i n (omega arith) in omega arith)
+    (eq-or-lt-of-le h)
+
+-- terms that are zero add nothing
+pub sum-beyond : (f : ℕ → ℕ) (m n : ℕ) → m ≤ n → ((i : ℕ) → m ≤ i → i < n → f i ≡ 0) → sumTo f n ≡ sumTo f m
+sum-beyond f m zero h z = ap (sumTo f) (sym (le-zero h))
+sum-beyond f m (suc n) h z =
+    ⊎-elim
+    (λ (q : m ≡ suc n). ap (sumTo f) (sym q))
+    (λ (l : m < suc n).
+    let e = sum-beyond f m n (omega arith) (λ i a b. z i a (omega arith)) in
+    let k = z n (omega arith) (omega arith) in omega arith)
     (eq-or-lt-of-le h)
 
 -- the sum of two is the two sums

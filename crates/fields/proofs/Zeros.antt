@@ -13,7 +13,7 @@ use Rattle.fields.specs.Text.{blank}
 use Rattle.fields.proofs.Stores.{part-join, part-one}
 use Rattle.fields.proofs.BigEndian.{pos}
 
-not-zero : (n : ℕ) → 0 < n → eqb n 0 ≡ false
+pub not-zero : (n : ℕ) → 0 < n → eqb n 0 ≡ false
 not-zero n h = ne-eqb n 0 (λ e. omega arith)
 
 sum-is-zero : (a b : ℕ) → eqb (a + b) 0 ≡ (eqb a 0 && eqb b 0)

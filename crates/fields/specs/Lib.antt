@@ -3,3 +3,4 @@ pub mod Text
 pub mod UpTo
 pub mod Search
 pub mod Rows
+pub mod Chains

@@ -59,14 +59,6 @@ pub fn zero_u16_at(s: &[u8], at: usize) -> bool
     u16_at(s, at) == 0
 }
 
-// Whether three bytes are.
-pub fn zero_u24_at(s: &[u8], at: usize) -> bool
-    requires { ⌜ at + 3 ≤ length (now s) ⌝ }
-    ensures { λ r. ⌜ r ≡ blank (part 3 at (now (s .entry))) ⌝ }
-{
-    u24_at(s, at) == 0
-}
-
 // Whether eight bytes are: one load and one comparison.
 pub fn zero_u64_at(s: &[u8], at: usize) -> bool
     requires { ⌜ at + 8 ≤ length (now s) ⌝ }
@@ -83,7 +75,7 @@ pub fn put_u16(s: &mut [u8], at: usize, n: u16)
     s[at + 1] = (n % 256) as u8;
 }
 
-pub fn put_u32(s: &mut [u8], at: usize, n: u32)
+fn put_u32(s: &mut [u8], at: usize, n: u32)
     requires { ⌜ at + 4 ≤ length (now s) ⌝ }
     ensures { λ _. ⌜ now (s .exit) ≡ sets (now (s .entry)) at (bytesOf 4 n) ⌝ }
 {

@@ -18,7 +18,7 @@ pub fn blank(s: &[u8]) -> bool
 }
 
 // How many bytes of s stand before its trailing zeros: 0 where all are zero.
-pub fn used(s: &[u8]) -> usize
+fn used(s: &[u8]) -> usize
     ensures { λ r. ⌜ (r ≡ valueLength (now (s .entry))) × (r ≤ length (now (s .entry))) ⌝ }
 {
     let mut n = s.len();

@@ -1,4 +1,4 @@
-// The verdict of each ticket's own step, and of a refused ticket. Each function equals a definition of `verdict`, in Step.antt. Of a
+// The verdict of each ticket's own step, and of a refused ticket. Each function equals a definition of `verdict`, in OwnStep.antt. Of a
 // refused ticket all but the refusal is nothing (`refused-alone`), so it may be carried out or skipped.
 use rules::Recall;
 use rules::Status;
@@ -10,7 +10,25 @@ use rules::verdict::Notice;
 use rules::verdict::Verdict;
 ghost use mathlib.Core.Path.{_≡_};
 ghost use mathlib.Core.Bool.{cond};
-ghost use Rattle.verdict.specs.Step.{notice, none, refusedVerdict, nothing, coverMoved, opened, settled, turnedDown, marked, recalled, declined, returned, answerTold, markTold, answerAlso, answered, cutVerdict};
+ghost use Rattle.verdict.specs.OwnStep.{
+  notice,
+  noNotice,
+  refusedVerdict,
+  nothing,
+  coverMoved,
+  opened,
+  settled,
+  turnedDown,
+  marked,
+  recalled,
+  declined,
+  returned,
+  answerTold,
+  markTold,
+  answerAlso,
+  answered,
+  cutVerdict,
+};
 
 // All but the refusal is nothing.
 pub fn refused(n: u8) -> Verdict
@@ -82,7 +100,7 @@ pub fn opened(i: usize, payer: usize, payee: usize, n: u64) -> Verdict
 }
 
 fn payee_told(a: About, bank: bool) -> Notice
-    ensures { λ r. ⌜ r ≡ cond bank (notice (a .payee) 2) none ⌝ }
+    ensures { λ r. ⌜ r ≡ cond bank (notice (a .payee) 2) noNotice ⌝ }
 {
     if bank {
         return Notice {

@@ -5,7 +5,7 @@ use book::handing::Handed;
 use libc::STDIN_FILENO;
 use report::Report;
 use rules::Book;
-ghost use Prim.Native.Nat.{ℕ, _+_, _*_, _≤_, _<_};
+ghost use Prim.Native.Nat.{ℕ, _*_, _≤_, _<_};
 ghost use mathlib.Core.Path.{_≡_};
 ghost use lib.ListN.{length, getD};
 ghost use Rattle.rules.specs.Step.{outcome};

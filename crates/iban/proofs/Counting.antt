@@ -10,28 +10,28 @@ use borrow.Author.Tests.{eqb-true, ltb-true, ltb-false, lt-leb}
 use lib.Dec.{ltb, eqb}
 use Rattle.fields.proofs.UpTo.{all-at}
 use Rattle.fields.proofs.Tests.{and-left, and-right}
-use Rattle.classes.specs.Answer.{answer}
+use Rattle.classes.specs.CheckAnswer.{answer}
 use Rattle.classes.specs.Class.{isIn}
 use Rattle.iban.specs.Iban.{value}
 use Rattle.classes.specs.declared.Class.the-variants.{LetterOrDigit}
-use Rattle.iban.proofs.Number.{behind, behind-digit, behind-letter}
+use Rattle.iban.proofs.SpeltNumber.{behind, behind-digit, behind-letter}
 use Rattle.iban.specs.Spelling.{worth, scale, pairWorth, pairScale}
 
 -- a flag is at most 1, and times a number at most that number
-pub answer-most : (b : Bool) {r : ℕ} → r ≡ answer b → r ≤ 1
-answer-most true e = omega arith
-answer-most false e = omega arith
+pub flag-most : (b : Bool) {r : ℕ} → r ≡ answer b → r ≤ 1
+flag-most true e = omega arith
+flag-most false e = omega arith
 
 pub answer-times : (b : Bool) {r : ℕ} (n m : ℕ) → r ≡ answer b → n ≤ m → r * n ≤ m
 answer-times true n m e h = rw (e, one-mul) h
 answer-times false n m e h = rw (e, zero-mul) (omega arith)
 
 -- so two bytes are four digits at most
-pub worth-most : (c : ℕ) → worth c ≤ 40
+worth-most : (c : ℕ) → worth c ≤ 40
 worth-most c = omega (arith, answer-times (ltb 57 c) (c % 32 / 16 * 16 + 9) 25 refl (omega arith))
 
-pub scale-most : (c : ℕ) → scale c ≤ 100
-scale-most c = omega (arith, answer-most (not (eqb c 0)) refl, answer-most (ltb 57 c) refl)
+scale-most : (c : ℕ) → scale c ≤ 100
+scale-most c = omega (arith, flag-most (not (eqb c 0)) refl, flag-most (ltb 57 c) refl)
 
 pub pair-worth-most : (a b : ℕ) → pairWorth a b ≤ 4040
 pair-worth-most a b = omega (arith, mul-le-mul (worth-most a) (scale-most b), worth-most b)

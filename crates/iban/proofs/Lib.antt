@@ -1,9 +1,9 @@
-pub mod Number
+pub mod SpeltNumber
 pub mod Counting
 pub mod Spelt
-pub mod Carrying
-pub mod Shape
-pub mod Moved
-pub mod Whole
+pub mod BytePairs
+pub mod IbanShape
+pub mod Rearranged
+pub mod WholeIban
 pub mod Unpadded
 pub mod Cases

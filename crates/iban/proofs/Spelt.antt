@@ -12,7 +12,7 @@ use Rattle.fields.specs.Text.{blank, valueLength, unpadded}
 use Rattle.fields.proofs.Tests.{and-left, and-right}
 use Rattle.classes.specs.Class.{isIn, allIn}
 use Rattle.classes.specs.declared.Class.the-variants.{LetterOrDigit}
-use Rattle.iban.proofs.Number.{behind, behind-append, nothing-behind}
+use Rattle.iban.proofs.SpeltNumber.{behind, behind-append, nothing-behind}
 use Rattle.iban.specs.Spelling.{worth, scale, pairWorth, pairScale, spelt}
 use Rattle.iban.proofs.Counting.{one-behind}
 

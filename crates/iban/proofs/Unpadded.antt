@@ -9,14 +9,14 @@ use lib.Dec.{eqb}
 use lib.ListN.{length}
 use Rattle.fields.specs.Text.{unpadded, padded}
 use Rattle.fields.proofs.Tests.{and-right}
-use Rattle.fields.proofs.Padding.{whole, unpadded-padded, length-padded}
+use Rattle.fields.proofs.Padding.{unpadded-whole, unpadded-padded, length-padded}
 use Rattle.classes.specs.Class.{allIn}
 use Rattle.classes.specs.declared.Class.the-variants.{LetterOrDigit}
 use Rattle.classes.proofs.All.{none-zero}
 use Rattle.iban.specs.Iban.{isIban}
 use Rattle.iban.specs.Spelling.{speltMoved, ibanFront}
-use Rattle.iban.proofs.Moved.{iban-tested}
-use Rattle.iban.proofs.Whole.{iban-whole}
+use Rattle.iban.proofs.Rearranged.{iban-tested}
+use Rattle.iban.proofs.WholeIban.{iban-whole}
 
 -- padding comes behind the front
 front-padded : (s : List ℕ) → 5 ≤ length s → ibanFront (padded 34 s) ≡ ibanFront s
@@ -39,7 +39,8 @@ module _ (s : List ℕ) (least : 5 ≤ length s) (most : length s ≤ 34) where
       ∙ ap isIban e
 
   spelt-value : allIn LetterOrDigit s ≡ true → unpadded (padded 34 s) ≡ s
-  spelt-value e = unpadded-padded 34 s ∙ whole s (length s - 1) (omega arith) (none-zero LetterOrDigit s (length s - 1) e (omega arith))
+  spelt-value e =
+      unpadded-padded 34 s ∙ unpadded-whole s (length s - 1) (omega arith) (none-zero LetterOrDigit s (length s - 1) e (omega arith))
 
   iban-spelt : isIban s ≡ true → allIn LetterOrDigit s ≡ true
   iban-spelt e = and-right (ibanFront s && number) _ (tested (unpadded-padded 34 s ∙ iban-whole s e) ∙ e)

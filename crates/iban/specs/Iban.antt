@@ -3,9 +3,9 @@
 --     digitsOf     that number written in decimal, one digit or two
 --     digits       the digits of all characters, one after the other
 --     readDecimal  digits read as one number, the last counting ones
---     remainder    what the number that characters spell leaves on division by 97
---     moved        the first four characters put at the end
---     ibanShape    all that is asked of an IBAN but its number
+--     remainder     what the number that characters spell leaves on division by 97
+--     rearranged    the first four characters put at the end
+--     ibanShape     all that is asked of an IBAN but its number
 -- Assumes nothing.
 use Prim.Native.Nat.{ℕ, _+_, _-_, _*_, _/_, _%_, _^_}
 use Prim.Native.Char.{code}
@@ -34,8 +34,8 @@ readDecimal (d ∷ ds) = d * 10 ^ length ds + readDecimal ds
 abbrev pub remainder : List ℕ → ℕ
 remainder s = readDecimal (digits s) % 97
 
-abbrev pub moved : List ℕ → List ℕ
-moved s = drop 4 s ++ take 4 s
+abbrev pub rearranged : List ℕ → List ℕ
+rearranged s = drop 4 s ++ take 4 s
 
 -- 01: two A-Z, two digits, 1 to 30 letters or digits (5 to 34 in all)
 abbrev pub ibanShape : List ℕ → Bool
@@ -48,4 +48,4 @@ ibanShape s =
 
 -- ISO 13616: move the first four to the end, read letters of either case as 10 to 35; the number leaves 1 on division by 97
 unfoldable pub isIban : List ℕ → Bool
-isIban s = ibanShape s && eqb (remainder (moved s)) 1
+isIban s = ibanShape s && eqb (remainder (rearranged s)) 1

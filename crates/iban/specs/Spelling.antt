@@ -17,7 +17,7 @@ use lib.Dec.{ltb, eqb}
 use lib.ListN.{getD, take, drop}
 use Rattle.classes.specs.Class.{isIn}
 use Rattle.classes.specs.declared.Class.the-variants.{Capital, Digit}
-use Rattle.classes.specs.Answer.{answer}
+use Rattle.classes.specs.CheckAnswer.{answer}
 
 abbrev pub letter : ℕ → ℕ
 letter c = answer (ltb (code "9") c)

@@ -12,12 +12,21 @@ use Rattle.fields.specs.Text.{blank, valueLength, unpadded}
 use Rattle.fields.proofs.Tests.{and-left, and-right}
 use Rattle.classes.specs.Class.{isIn, allIn}
 use Rattle.classes.specs.declared.Class.{Class}
-use Rattle.classes.specs.declared.Class.the-variants.{Capital, Small, Digit, CapitalOr2To9, CapitalButOOrDigit, CapitalOrDigit, LetterOrDigit, Txid}
+use Rattle.classes.specs.declared.Class.the-variants.{
+  Capital,
+  Small,
+  Digit,
+  CapitalOr2To9,
+  CapitalButOOrDigit,
+  CapitalOrDigit,
+  LetterOrDigit,
+  Txid,
+}
 use Rattle.codes.specs.Bic.{isBic}
 use Rattle.codes.specs.Txid.{isTxid}
-use Rattle.codes.proofs.Whole.{bic-length}
+use Rattle.codes.proofs.WholeCodes.{bic-length}
 use Rattle.index.specs.Words.{Bytes}
-use Rattle.index.proofs.Chaining.{never}
+use Rattle.fields.proofs.Tests.{never}
 use Rattle.index.proofs.Comparing.{rest-bytes}
 
 -- no class has a number that is no byte
@@ -73,7 +82,8 @@ joined-bytes (x ∷ a) b h k = more-bytes (h .below 0) (joined-bytes a b (rest-b
 class-bytes : (class : Class) (s : List ℕ) → allIn class s ≡ true → Bytes s
 class-bytes class [] e = no-bytes
 class-bytes class (c ∷ s) e =
-    more-bytes (class-byte class c (and-left (isIn class c) (allIn class s) e)) (class-bytes class s (and-right (isIn class c) (allIn class s) e))
+    more-bytes (class-byte class c (and-left (isIn class c) (allIn class s) e))
+    (class-bytes class s (and-right (isIn class c) (allIn class s) e))
 
 blank-bytes : (s : List ℕ) → blank s ≡ true → Bytes s
 blank-bytes [] e = no-bytes
@@ -101,10 +111,12 @@ bic-bytes s e =
     let at-eighth = isIn CapitalButOOrDigit (getD s 7 0) in
     let to-eighth = and-left (at-first && at-seventh && at-eighth) (allIn CapitalOrDigit (drop 8 s)) e in
     let to-seventh = and-left (at-first && at-seventh) at-eighth to-eighth in
-    let six = class-bytes Capital (take 6 s) (and-right (eqb (length s) 11) (allIn Capital (take 6 s)) (and-left at-first at-seventh to-seventh)) in
+    let six = class-bytes Capital (take 6 s)
+    (and-right (eqb (length s) 11) (allIn Capital (take 6 s)) (and-left at-first at-seventh to-seventh)) in
     let seventh = class-byte CapitalOr2To9 (getD s 6 0) (and-right at-first at-seventh to-seventh) in
     let eighth = class-byte CapitalButOOrDigit (getD s 7 0) (and-right (at-first && at-seventh) at-eighth to-eighth) in
-    let three = class-bytes CapitalOrDigit (drop 8 s) (and-right (at-first && at-seventh && at-eighth) (allIn CapitalOrDigit (drop 8 s)) e) in
+    let three = class-bytes CapitalOrDigit (drop 8 s)
+    (and-right (at-first && at-seventh && at-eighth) (allIn CapitalOrDigit (drop 8 s)) e) in
     let behind : drop 6 s ≡ getD s 6 0 ∷ getD s 7 0 ∷ drop 8 s =
     drop-cons s 6 0 (omega arith) ∙ ap (λ (t : List ℕ). getD s 6 0 ∷ t) (drop-cons s 7 0 (omega arith)) in
     subst Bytes (ap (λ (t : List ℕ). take 6 s ++ t) (sym behind) ∙ take-append-drop 6 s)
@@ -112,4 +124,5 @@ bic-bytes s e =
 
 pub txid-bytes : (s : List ℕ) → isTxid (unpadded s) ≡ true → Bytes s
 unfolding isTxid
-txid-bytes s e = padded-bytes s (class-bytes Txid (unpadded s) (and-right (leb 1 (length (unpadded s)) && leb (length (unpadded s)) 35) _ e))
+txid-bytes s e =
+    padded-bytes s (class-bytes Txid (unpadded s) (and-right (leb 1 (length (unpadded s)) && leb (length (unpadded s)) 35) _ e))

@@ -15,7 +15,7 @@ use Rattle.fields.specs.Text.{same}
 use Rattle.fields.proofs.Same.{same-true, same-refl}
 use Rattle.fields.proofs.Stores.{length-part}
 use Rattle.index.specs.Words.{Bytes, word, bicWords, txidWords}
-use Rattle.index.proofs.Chaining.{never}
+use Rattle.fields.proofs.Tests.{never}
 
 -- what a function is told of a slice of bytes
 pub slice-bytes : (s : List ℕ) → ((i : ℕ) → Fits w8 (getD s i 0)) → Bytes s
@@ -70,7 +70,8 @@ module _ (a b : List ℕ) (n : ℕ) (long-a : length a ≡ n) (long-b : length b
   word-by-word v at fits z behind =
       same-split v (drop at a) (drop at b) (length-drop at a ∙ ap (λ (k : ℕ). k - at) (long-a ∙ sym long-b) ∙ sym (length-drop at b))
       ∙ ap₂ _&&_
-      (word-same (part v at a) (part v at b) (length-part v at a (omega arith) ∙ sym (length-part v at b (omega arith))) (part-bytes bytes-a v at)
+      (word-same (part v at a) (part v at b) (length-part v at a (omega arith) ∙ sym (length-part v at b (omega arith)))
+      (part-bytes bytes-a v at)
       (part-bytes bytes-b v at))
       (ap₂ same (drop-drop v at a) (drop-drop v at b) ∙ behind)
 

@@ -1,6 +1,6 @@
-pub mod Chaining
+pub mod RowChains
 pub mod Coded
 pub mod Comparing
-pub mod Filling
-pub mod Lending
+pub mod RowsFilling
+pub mod LentRows
 pub mod LittleEndian

@@ -46,14 +46,17 @@ module _ (at : ℕ) (s : List ℕ) where
   -- whether the elements at a place are those of a list, one by one
   pub two-held : at + 2 ≤ length s → (a b : ℕ) → (eqb (getD s at 0) a && eqb (getD s (at + 1) 0) b) ≡ same (part 2 at s) (a ∷ b ∷ [])
   two-held h a b =
-      sym (ap (λ (p : List ℕ). same p (a ∷ b ∷ [])) (part-two h) ∙ ap (λ (z : Bool). eqb (getD s at 0) a && z) (and-true (eqb (getD s (at + 1) 0) b)))
+      sym (ap (λ (p : List ℕ). same p (a ∷ b ∷ [])) (part-two h)
+      ∙ ap (λ (z : Bool). eqb (getD s at 0) a && z) (and-true (eqb (getD s (at + 1) 0) b)))
 
   pub five-held : at + 5 ≤ length s → (a b c d e : ℕ)
-      → (eqb (getD s at 0) a && (eqb (getD s (at + 1) 0) b && (eqb (getD s (at + 2) 0) c && (eqb (getD s (at + 3) 0) d && eqb (getD s (at + 4) 0) e))))
+      → (eqb (getD s at 0) a
+      && (eqb (getD s (at + 1) 0) b && (eqb (getD s (at + 2) 0) c && (eqb (getD s (at + 3) 0) d && eqb (getD s (at + 4) 0) e))))
       ≡ same (part 5 at s) (a ∷ b ∷ c ∷ d ∷ e ∷ [])
   five-held h a b c d e =
       sym (ap (λ (p : List ℕ). same p (a ∷ b ∷ c ∷ d ∷ e ∷ [])) (part-five h)
-      ∙ ap (λ (z : Bool). eqb (getD s at 0) a && (eqb (getD s (at + 1) 0) b && (eqb (getD s (at + 2) 0) c && (eqb (getD s (at + 3) 0) d && z))))
+      ∙ ap (λ (z : Bool). eqb (getD s at 0) a
+      && (eqb (getD s (at + 1) 0) b && (eqb (getD s (at + 2) 0) c && (eqb (getD s (at + 3) 0) d && z))))
       (and-true (eqb (getD s (at + 4) 0) e)))
 
   -- five stores, one behind the other

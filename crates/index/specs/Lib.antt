@@ -1,3 +1,3 @@
-pub mod Chains
-pub mod Lent
+pub mod RowChains
+pub mod LentRows
 pub mod Words

@@ -9,7 +9,8 @@ ghost use Prim.Native.Nat.{_+_, _*_, _≤_, _<_};
 ghost use lib.ListN.{length, getD, set};
 ghost use Rattle.fields.specs.Number.{part};
 ghost use Rattle.fields.specs.Rows.{firstRow};
-ghost use Rattle.index.specs.Chains.{buckets, rowBucket, Chained, Searchable};
+ghost use Rattle.fields.specs.Chains.{Chained};
+ghost use Rattle.index.specs.RowChains.{rowBuckets, rowBucket, RowSearchable};
 
 pub struct Chains {
     pub heads: [u16; 509],
@@ -18,14 +19,14 @@ pub struct Chains {
 
 // The bucket of a BIC's words.
 pub fn bic_bucket(a: u64, b: u64) -> usize
-    ensures { λ r. ⌜ (r ≡ rowBucket (a ∷ b ∷ [])) × (r < buckets) ⌝ }
+    ensures { λ r. ⌜ (r ≡ rowBucket (a ∷ b ∷ [])) × (r < rowBuckets) ⌝ }
 {
     (num::wrapping_add_u64(a, b) % 509) as usize
 }
 
 // The bucket of a TxId's words.
 pub fn txid_bucket(a: u64, b: u64, c: u64, d: u64, e: u64) -> usize
-    ensures { λ r. ⌜ (r ≡ rowBucket (a ∷ b ∷ c ∷ d ∷ e ∷ [])) × (r < buckets) ⌝ }
+    ensures { λ r. ⌜ (r ≡ rowBucket (a ∷ b ∷ c ∷ d ∷ e ∷ [])) × (r < rowBuckets) ⌝ }
 {
     let two = num::wrapping_add_u64(a, b);
     let three = num::wrapping_add_u64(two, c);
@@ -51,8 +52,8 @@ pub fn bic_chains(rows: &[u64], n: usize) -> Chains
     requires { ⌜ (n ≤ 256) × (2 * n ≤ length (now rows)) ⌝ }
     ensures { λ r.
         ⌜
-        (length (r .heads) ≡ buckets) × (length (r .links) ≡ 256)
-        × Chained (λ i. rowBucket (part 2 (2 * i) (now (rows .entry)))) n (r .heads) (r .links)
+        (length (r .heads) ≡ rowBuckets) × (length (r .links) ≡ 256)
+        × Chained rowBuckets (λ i. rowBucket (part 2 (2 * i) (now (rows .entry)))) n (r .heads) (r .links)
         ⌝ }
 {
     let mut heads = [0u16; 509];
@@ -72,8 +73,8 @@ pub fn txid_chains(rows: &[u64], n: usize) -> Chains
     requires { ⌜ (n ≤ 256) × (5 * n ≤ length (now rows)) ⌝ }
     ensures { λ r.
         ⌜
-        (length (r .heads) ≡ buckets) × (length (r .links) ≡ 256)
-        × Chained (λ i. rowBucket (part 5 (5 * i) (now (rows .entry)))) n (r .heads) (r .links)
+        (length (r .heads) ≡ rowBuckets) × (length (r .links) ≡ 256)
+        × Chained rowBuckets (λ i. rowBucket (part 5 (5 * i) (now (rows .entry)))) n (r .heads) (r .links)
         ⌝ }
 {
     let mut heads = [0u16; 509];
@@ -104,7 +105,7 @@ pub fn find_two(
     a: u64,
     b: u64,
 ) -> Found
-    requires { ⌜ Searchable 2 n bucket (now heads) (now links) (now rows) (a ∷ b ∷ []) ⌝ }
+    requires { ⌜ RowSearchable 2 n bucket (now heads) (now links) (now rows) (a ∷ b ∷ []) ⌝ }
     ensures { λ r. ⌜ r ≡ firstRow 2 n (a ∷ b ∷ []) (now (rows .entry)) ⌝ }
 {
     let mut at = wide(heads[bucket]);
@@ -131,7 +132,7 @@ pub fn find_five(
     d: u64,
     e: u64,
 ) -> Found
-    requires { ⌜ Searchable 5 n bucket (now heads) (now links) (now rows) (a ∷ b ∷ c ∷ d ∷ e ∷ []) ⌝ }
+    requires { ⌜ RowSearchable 5 n bucket (now heads) (now links) (now rows) (a ∷ b ∷ c ∷ d ∷ e ∷ []) ⌝ }
     ensures { λ r. ⌜ r ≡ firstRow 5 n (a ∷ b ∷ c ∷ d ∷ e ∷ []) (now (rows .entry)) ⌝ }
 {
     let mut at = wide(heads[bucket]);

@@ -19,8 +19,8 @@ ghost use lib.Seq.{sets};
 ghost use Rattle.fields.specs.Rows.{firstRow, Indexed};
 ghost use Rattle.dayfile.specs.Roster.{participantIn, rowOf};
 ghost use Rattle.rules.specs.Book.{orderOf};
-ghost use Rattle.index.specs.Chains.{buckets, rowBucket};
-ghost use Rattle.index.specs.Lent.{BicRows, TxidRows};
+ghost use Rattle.index.specs.RowChains.{rowBuckets, rowBucket};
+ghost use Rattle.index.specs.LentRows.{BicRows, TxidRows};
 ghost use Rattle.index.specs.Words.{bicWords, txidWords};
 
 pub fn bics_of(participants: [Participant; 32], size: usize) -> [u64; 64]
@@ -38,13 +38,13 @@ pub fn bics_of(participants: [Participant; 32], size: usize) -> [u64; 64]
     bics
 }
 
-pub fn route_bics_of(routes: [Route; 64], rows: usize) -> [u64; 128]
-    requires { ⌜ (rows ≤ 64) × ((i : ℕ) → i < rows → length (rowOf routes i .bic) ≡ 11) ⌝ }
-    ensures { λ r. ⌜ (length r ≡ 128) × Indexed 2 (λ i. bicWords (rowOf routes i .bic)) rows r ⌝ }
+pub fn route_bics_of(routes: [Route; 64], count: usize) -> [u64; 128]
+    requires { ⌜ (count ≤ 64) × ((i : ℕ) → i < count → length (rowOf routes i .bic) ≡ 11) ⌝ }
+    ensures { λ r. ⌜ (length r ≡ 128) × Indexed 2 (λ i. bicWords (rowOf routes i .bic)) count r ⌝ }
 {
     let mut bics = [0u64; 128];
     let mut i = 0;
-    while i < rows {
+    while i < count {
         let route = routes[i];
         let bic = route.bic;
         row::put_bic(&mut bics, i, &bic);
@@ -105,7 +105,8 @@ pub fn find_txid(heads: &[u16], links: &[u16], rows: &[u64], n: usize, txid: &[u
 // The TxId of a new order i, in its bucket's chain.
 pub fn put_txid(heads: &mut [u16], links: &mut [u16], rows: &mut [u64], i: usize, txid: &[u8])
     requires { ⌜
-        (length (now heads) ≡ buckets) × (i < length (now links)) × (i < 65535) × (5 * i + 5 ≤ length (now rows)) × (length (now txid) ≡ 35)
+        (length (now heads) ≡ rowBuckets) × (i < length (now links)) × (i < 65535) × (5 * i + 5 ≤ length (now rows))
+        × (length (now txid) ≡ 35)
         ⌝ }
     ensures { λ _.
         ⌜

@@ -21,7 +21,19 @@ use rules::verdict::Verdict;
 ghost use Prim.Native.Nat.{_≤_};
 ghost use mathlib.Core.Path.{_≡_};
 ghost use Rattle.rules.specs.Cover.{mostTotal};
-ghost use Rattle.verdict.specs.Judgement.{coverInVerdict, coverOutVerdict, orderVerdict, yesVerdict, noVerdict, recallVerdict, returnVerdict, declineVerdict, inquiryVerdict, cutsVerdict, confirmVerdict};
+ghost use Rattle.verdict.specs.Judgement.{
+  coverInVerdict,
+  coverOutVerdict,
+  orderVerdict,
+  yesVerdict,
+  noVerdict,
+  recallVerdict,
+  returnVerdict,
+  declineVerdict,
+  inquiryVerdict,
+  cutsVerdict,
+  confirmVerdict,
+};
 
 // Cover in: available rises.
 pub fn cover_in(sender: Found, total: u64, n: u64) -> Verdict

@@ -3,9 +3,10 @@ use mathlib.Core.Path.{refl}
 use mathlib.Core.List.{List, [], _∷_, _++_}
 use Prim.Native.Nat.{ℕ}
 use Rattle.fields.specs.Text.{text}
-use Rattle.fields.proofs.Rows.{Row, AllMet, all-met}
+use Rattle.fields.proofs.CaseRows.{Row, AllMet, all-met}
 use Rattle.rules.specs.declared.Cover.{Cover}
-use Rattle.lines.specs.Lines.{shown, spaced, linesTo, coversTo, refusalLine}
+use Rattle.rules.specs.Program.{decimal, numbers, refusalLine}
+use Rattle.lines.specs.Lines.{linesTo, coversTo}
 
 -- of 400, about order 0
 abbrev told : ℕ → ℕ → List ℕ
@@ -28,12 +29,17 @@ cases =
       given = 18 ∷ 0 ∷ 2 ∷ 0 ∷ 0 ∷ 0 ∷ 1 ∷ 0 ∷ [];
       due = text "T 2 18 2 0\nR 0 4 0 400\nR 1 4 0 400\nT 3 0 1 0\nR 0 4 0 400\n";
     }
-    ∷ record { shows = "D: covers"; rule = λ _. coversTo (has 600 ∷ has 400 ∷ has 7 ∷ []) 2; given = []; due = text "C 0 600 0 0\nC 1 400 0 0\n" }
+    ∷ record {
+      shows = "D: covers";
+      rule = λ _. coversTo (has 600 ∷ has 400 ∷ has 7 ∷ []) 2;
+      given = [];
+      due = text "C 0 600 0 0\nC 1 400 0 0\n";
+    }
     ∷ record { shows = "refused"; rule = λ _. refusalLine 5; given = []; due = text "F 5\n" }
-    ∷ record { shows = "zero"; rule = λ _. shown 0; given = []; due = text "0" }
-    ∷ record { shows = "the greatest"; rule = λ _. shown 18446744073709551615; given = []; due = text "18446744073709551615" }
+    ∷ record { shows = "zero"; rule = λ _. decimal 0; given = []; due = text "0" }
+    ∷ record { shows = "the greatest"; rule = λ _. decimal 18446744073709551615; given = []; due = text "18446744073709551615" }
     ∷ []
 
 pub cases-met : AllMet cases
-unfolding shown spaced
+unfolding decimal numbers
 cases-met = all-met cases refl

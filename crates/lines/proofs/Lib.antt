@@ -1,8 +1,8 @@
 pub mod Cases
 pub mod Digits
-pub mod Writing
-pub mod Filling
+pub mod WritingParts
+pub mod DigitsFilling
 pub mod Numbers
 pub mod Longest
 pub mod Starts
-pub mod Program
+pub mod ProgramText

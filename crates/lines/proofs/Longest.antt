@@ -7,37 +7,39 @@ use lib.ListN.{length, length-append}
 use Rattle.report.specs.declared.Report.{Report}
 use Rattle.report.specs.declared.answer.Answer.{Answer}
 use Rattle.rules.specs.declared.Cover.{Cover}
-use Rattle.lines.specs.Lines.{shown, spaced, answerLine, reportLine, coverLine, refusalLine}
-use Rattle.lines.proofs.Digits.{shown-most, shown-byte, shown-two-bytes, spaced-none, spaced-more}
+use Rattle.rules.specs.Program.{decimal, numbers, refusalLine}
+use Rattle.lines.specs.Lines.{answerLine, reportLine, coverLine}
+use Rattle.lines.proofs.Digits.{decimal-most, decimal-byte, decimal-two-bytes, numbers-none, numbers-more}
 
-length-spaced : (n : ℕ) (ns : List ℕ) → length (spaced (n ∷ ns)) ≡ 1 + length (shown n) + length (spaced ns)
-length-spaced n ns = ap length (spaced-more n ns) ∙ length-append (32 ∷ shown n) (spaced ns) ∙ omega arith
+length-numbers : (n : ℕ) (ns : List ℕ) → length (numbers (n ∷ ns)) ≡ 1 + length (decimal n) + length (numbers ns)
+length-numbers n ns = ap length (numbers-more n ns) ∙ length-append (32 ∷ decimal n) (numbers ns) ∙ omega arith
 
-spaced-one : (a : ℕ) → length (spaced (a ∷ [])) ≡ 2 + length (shown a)
-spaced-one a = let e = length-spaced a [] in let l = ap length spaced-none in omega arith
+numbers-one : (a : ℕ) → length (numbers (a ∷ [])) ≡ 2 + length (decimal a)
+numbers-one a = let e = length-numbers a [] in let l = ap length numbers-none in omega arith
 
-spaced-four : (a b c d : ℕ) → length (spaced (a ∷ b ∷ c ∷ d ∷ [])) ≡ 5 + length (shown a) + length (shown b) + length (shown c) + length (shown d)
-spaced-four a b c d =
-    let e = length-spaced a (b ∷ c ∷ d ∷ []) in
-    let f = length-spaced b (c ∷ d ∷ []) in
-    let g = length-spaced c (d ∷ []) in
-    let h = spaced-one d in
+numbers-four : (a b c d : ℕ)
+    → length (numbers (a ∷ b ∷ c ∷ d ∷ [])) ≡ 5 + length (decimal a) + length (decimal b) + length (decimal c) + length (decimal d)
+numbers-four a b c d =
+    let e = length-numbers a (b ∷ c ∷ d ∷ []) in
+    let f = length-numbers b (c ∷ d ∷ []) in
+    let g = length-numbers c (d ∷ []) in
+    let h = numbers-one d in
     omega arith
 
-pub answer-most : (n : ℕ) (a : Answer) → a .refusal < 256 → a .reports < 65536 → a .rows < 256 → length (answerLine n a) ≤ 37
-answer-most n a h k l =
-    let e = spaced-four n (a .refusal) (a .reports) (a .rows) in
-    omega (arith, shown-most n, shown-byte (a .refusal) h, shown-two-bytes (a .reports) k, shown-byte (a .rows) l)
+pub answer-line-most : (n : ℕ) (a : Answer) → a .refusal < 256 → a .reports < 65536 → a .rows < 256 → length (answerLine n a) ≤ 37
+answer-line-most n a h k l =
+    let e = numbers-four n (a .refusal) (a .reports) (a .rows) in
+    omega (arith, decimal-most n, decimal-byte (a .refusal) h, decimal-two-bytes (a .reports) k, decimal-byte (a .rows) l)
 
-pub report-most : (r : Report) → r .to < 256 → r .code < 256 → r .order < 65536 → length (reportLine r) ≤ 37
-report-most r h k l =
-    let e = spaced-four (r .to) (r .code) (r .order) (r .amount) in
-    omega (arith, shown-byte (r .to) h, shown-byte (r .code) k, shown-two-bytes (r .order) l, shown-most (r .amount))
+pub report-line-most : (r : Report) → r .to < 256 → r .code < 256 → r .order < 65536 → length (reportLine r) ≤ 37
+report-line-most r h k l =
+    let e = numbers-four (r .to) (r .code) (r .order) (r .amount) in
+    omega (arith, decimal-byte (r .to) h, decimal-byte (r .code) k, decimal-two-bytes (r .order) l, decimal-most (r .amount))
 
-pub cover-most : (p : ℕ) (c : Cover) → length (coverLine p c) ≤ 86
-cover-most p c =
-    let e = spaced-four p (c .available) (c .reserved) (c .held) in
-    omega (arith, shown-most p, shown-most (c .available), shown-most (c .reserved), shown-most (c .held))
+pub cover-line-most : (p : ℕ) (c : Cover) → length (coverLine p c) ≤ 86
+cover-line-most p c =
+    let e = numbers-four p (c .available) (c .reserved) (c .held) in
+    omega (arith, decimal-most p, decimal-most (c .available), decimal-most (c .reserved), decimal-most (c .held))
 
-pub refusal-most : (n : ℕ) → n < 256 → length (refusalLine n) ≤ 6
-refusal-most n h = let e = spaced-one n in omega (arith, shown-byte n h)
+pub refusal-line-most : (n : ℕ) → n < 256 → length (refusalLine n) ≤ 6
+refusal-line-most n h = let e = numbers-one n in omega (arith, decimal-byte n h)

@@ -1,41 +1,34 @@
 -- The program's text, read off the buffers that answers and reports are laid down in.
---     shown         a number in decimal: `decimal` under a name that stays shut, for what it unfolds to is long
---     spaced        numbers, each behind a space, and the end of the line: `numbers`, likewise
---     answerLine    the line of a ticket with its number
---     reportLine    the line of a report
---     reportsTo     the lines of the first n reports from a number on
---     startOf       how many reports the first i answers count: the number of the report that ticket i's begin with
---     ticketText    the line of ticket i, and those of its reports
---     linesTo       the lines of the first i tickets, numbered from k on
---     coverLine     the line of a participant with its number
---     coversTo      the lines of the first n participants
---     refusalLine   the line of a refused day file
---     mostLine      the longest line of a ticket or a report; mostCover, mostRefusal: of a participant, of a refused day file
---     Lined         the lines of tickets can be written: their answers and reports stand in the buffers, and the text has room
+--     answerLine            the line of a ticket with its number
+--     reportLine            the line of a report
+--     reportsTo             the lines of the first n reports from a number on
+--     startOf               how many reports the first i answers count: the number of the report that ticket i's begin with
+--     ticketText            the line of ticket i, and those of its reports
+--     linesTo               the lines of the first i tickets, numbered from k on
+--     coverLine             the line of a participant with its number
+--     coversTo              the lines of the first n participants
+--     longestLine           the longest line of a ticket or a report
+--     longestCoverLine      of a participant
+--     longestRefusalLine    of a refused day file
+--     Lined                 the lines of tickets can be written: their answers and reports stand in the buffers, and the text has room
 -- Assumes nothing.
 use Prim.Native.Nat.{ℕ, zero, suc, _+_, _*_, _^_, _≤_, _<_}
 use mathlib.Core.List.{List, [], _∷_, _++_}
 use lib.ListN.{length}
 use Rattle.fields.specs.Text.{text}
-use Rattle.report.specs.Layout.{reportLength, reportAt}
+use Rattle.report.specs.ReportLayout.{reportLength, reportAt}
 use Rattle.report.specs.Answer.{answerLength, answerAt}
 use Rattle.report.specs.declared.Report.{Report}
 use Rattle.report.specs.declared.answer.Answer.{Answer}
 use Rattle.rules.specs.Book.{coverOf}
-use Rattle.rules.specs.Program.{decimal, numbers}
+use Rattle.rules.specs.Program.{numbers}
 use Rattle.rules.specs.declared.Cover.{Cover}
 
-unfoldable pub shown : ℕ → List ℕ
-shown n = decimal n
-
-unfoldable pub spaced : List ℕ → List ℕ
-spaced ns = numbers ns
-
 abbrev pub answerLine : ℕ → Answer → List ℕ
-answerLine n a = text "T" ++ spaced (n ∷ a .refusal ∷ a .reports ∷ a .rows ∷ [])
+answerLine n a = text "T" ++ numbers (n ∷ a .refusal ∷ a .reports ∷ a .rows ∷ [])
 
 abbrev pub reportLine : Report → List ℕ
-reportLine r = text "R" ++ spaced (r .to ∷ r .code ∷ r .order ∷ r .amount ∷ [])
+reportLine r = text "R" ++ numbers (r .to ∷ r .code ∷ r .order ∷ r .amount ∷ [])
 
 abbrev pub reportsTo : List ℕ → ℕ → ℕ → List ℕ
 reportsTo reports from zero = []
@@ -54,27 +47,24 @@ linesTo k zero answers reports = []
 linesTo k (suc i) answers reports = linesTo k i answers reports ++ ticketText (k + i) (answerAt answers i) reports (startOf answers i)
 
 abbrev pub coverLine : ℕ → Cover → List ℕ
-coverLine p c = text "C" ++ spaced (p ∷ c .available ∷ c .reserved ∷ c .held ∷ [])
+coverLine p c = text "C" ++ numbers (p ∷ c .available ∷ c .reserved ∷ c .held ∷ [])
 
 abbrev pub coversTo : List Cover → ℕ → List ℕ
 coversTo cs zero = []
 coversTo cs (suc p) = coversTo cs p ++ coverLine p (coverOf cs p)
 
-abbrev pub refusalLine : ℕ → List ℕ
-refusalLine n = text "F" ++ spaced (n ∷ [])
-
 -- a letter, the end of the line, and a space before each number: 20 digits for a number of 64 bits, 5 for 16, 3 for 8
-abbrev pub mostLine : ℕ
-mostLine = 37
+abbrev pub longestLine : ℕ
+longestLine = 37
 
-abbrev pub mostCover : ℕ
-mostCover = 86
+abbrev pub longestCoverLine : ℕ
+longestCoverLine = 86
 
-abbrev pub mostRefusal : ℕ
-mostRefusal = 6
+abbrev pub longestRefusalLine : ℕ
+longestRefusalLine = 6
 
 pub record Lined (k taken : ℕ) (answers reports text : List ℕ) : Type 0 where
   pub answered : answerLength * taken ≤ length answers
   pub reported : reportLength * startOf answers taken ≤ length reports
   pub numbered : k + taken < 256 ^ 8
-  pub room : mostLine * (taken + startOf answers taken) ≤ length text
+  pub room : longestLine * (taken + startOf answers taken) ≤ length text

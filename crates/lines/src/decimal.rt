@@ -4,11 +4,11 @@ ghost use mathlib.Core.Path.{_≡_};
 ghost use Prim.Native.Nat.{_+_, _≤_};
 ghost use lib.ListN.{length};
 ghost use Rattle.lines.specs.Written.{Written};
-ghost use Rattle.lines.specs.Lines.{shown};
+ghost use Rattle.rules.specs.Program.{decimal};
 
 // How many digits a number has.
 fn digits(n: u64) -> usize
-    ensures { λ r. ⌜ r ≡ length (shown n) ⌝ }
+    ensures { λ r. ⌜ r ≡ length (decimal n) ⌝ }
 {
     let mut left = n;
     let mut k = 1;
@@ -21,8 +21,8 @@ fn digits(n: u64) -> usize
 
 // The last digit first.
 fn put_digits(text: &mut [u8], at: usize, n: u64) -> usize
-    requires { ⌜ at + length (shown n) ≤ length (now text) ⌝ }
-    ensures { λ r. ⌜ Written (now (text .entry)) (now (text .exit)) at (shown n) r ⌝ }
+    requires { ⌜ at + length (decimal n) ≤ length (now text) ⌝ }
+    ensures { λ r. ⌜ Written (now (text .entry)) (now (text .exit)) at (decimal n) r ⌝ }
 {
     let end = at + digits(n);
     let mut left = n;
@@ -38,8 +38,8 @@ fn put_digits(text: &mut [u8], at: usize, n: u64) -> usize
 
 // Most numbers of a line have one digit. Without the loops this is short enough for the compiler to put it into its callers.
 pub fn put_decimal(text: &mut [u8], at: usize, n: u64) -> usize
-    requires { ⌜ at + length (shown n) ≤ length (now text) ⌝ }
-    ensures { λ r. ⌜ Written (now (text .entry)) (now (text .exit)) at (shown n) r ⌝ }
+    requires { ⌜ at + length (decimal n) ≤ length (now text) ⌝ }
+    ensures { λ r. ⌜ Written (now (text .entry)) (now (text .exit)) at (decimal n) r ⌝ }
 {
     if n < 10 {
         text[at] = b'0' + n as u8;

@@ -4,12 +4,12 @@ ghost use Prim.Native.Nat.{_+_, _≤_};
 ghost use mathlib.Core.List.{_∷_};
 ghost use lib.ListN.{length};
 ghost use Rattle.lines.specs.Written.{Written};
-ghost use Rattle.lines.specs.Lines.{shown, spaced};
+ghost use Rattle.rules.specs.Program.{decimal, numbers};
 
 // The number behind a space.
 fn put_number(text: &mut [u8], at: usize, n: u64) -> usize
-    requires { ⌜ at + length (32 ∷ shown n) ≤ length (now text) ⌝ }
-    ensures { λ r. ⌜ Written (now (text .entry)) (now (text .exit)) at (32 ∷ shown n) r ⌝ }
+    requires { ⌜ at + length (32 ∷ decimal n) ≤ length (now text) ⌝ }
+    ensures { λ r. ⌜ Written (now (text .entry)) (now (text .exit)) at (32 ∷ decimal n) r ⌝ }
 {
     text[at] = b' ';
     decimal::put_decimal(text, at + 1, n)
@@ -17,8 +17,8 @@ fn put_number(text: &mut [u8], at: usize, n: u64) -> usize
 
 // Each number behind a space, and the end of the line.
 fn put_numbers(text: &mut [u8], at: usize, ns: &[u64]) -> usize
-    requires { ⌜ at + length (spaced (now ns)) ≤ length (now text) ⌝ }
-    ensures { λ r. ⌜ Written (now (text .entry)) (now (text .exit)) at (spaced (now (ns .entry))) r ⌝ }
+    requires { ⌜ at + length (numbers (now ns)) ≤ length (now text) ⌝ }
+    ensures { λ r. ⌜ Written (now (text .entry)) (now (text .exit)) at (numbers (now (ns .entry))) r ⌝ }
 {
     let mut end = at;
     let mut i = 0;
@@ -31,8 +31,8 @@ fn put_numbers(text: &mut [u8], at: usize, ns: &[u64]) -> usize
 }
 
 pub fn put_line(text: &mut [u8], at: usize, letter: u8, ns: &[u64]) -> usize
-    requires { ⌜ at + length (letter ∷ spaced (now ns)) ≤ length (now text) ⌝ }
-    ensures { λ r. ⌜ Written (now (text .entry)) (now (text .exit)) at (letter ∷ spaced (now (ns .entry))) r ⌝ }
+    requires { ⌜ at + length (letter ∷ numbers (now ns)) ≤ length (now text) ⌝ }
+    ensures { λ r. ⌜ Written (now (text .entry)) (now (text .exit)) at (letter ∷ numbers (now (ns .entry))) r ⌝ }
 {
     text[at] = letter;
     put_numbers(text, at + 1, ns)

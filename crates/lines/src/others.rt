@@ -4,18 +4,19 @@ use rules::Cover;
 ghost use Prim.Native.Nat.{_+_, _*_, _≤_};
 ghost use lib.ListN.{length};
 ghost use Rattle.lines.specs.Written.{Written};
-ghost use Rattle.lines.specs.Lines.{coverLine, coversTo, refusalLine, mostCover, mostRefusal};
+ghost use Rattle.rules.specs.Program.{refusalLine};
+ghost use Rattle.lines.specs.Lines.{coverLine, coversTo, longestCoverLine, longestRefusalLine};
 
 fn put_cover(text: &mut [u8], at: usize, p: usize, c: Cover) -> usize
-    requires { ⌜ at + mostCover ≤ length (now text) ⌝ }
-    ensures { λ r. ⌜ Written (now (text .entry)) (now (text .exit)) at (coverLine p c) r × (r ≤ at + mostCover) ⌝ }
+    requires { ⌜ at + longestCoverLine ≤ length (now text) ⌝ }
+    ensures { λ r. ⌜ Written (now (text .entry)) (now (text .exit)) at (coverLine p c) r × (r ≤ at + longestCoverLine) ⌝ }
 {
     let ns = [p as u64, c.available, c.reserved, c.held];
     line::put_line(text, at, b'C', &ns)
 }
 
 pub fn put_covers(covers: [Cover; 32], size: usize, text: &mut [u8]) -> usize
-    requires { ⌜ (size ≤ 32) × (mostCover * size ≤ length (now text)) ⌝ }
+    requires { ⌜ (size ≤ 32) × (longestCoverLine * size ≤ length (now text)) ⌝ }
     ensures { λ r. ⌜ Written (now (text .entry)) (now (text .exit)) 0 (coversTo covers size) r × (r ≤ length (now (text .entry))) ⌝ }
 {
     let mut at = 0;
@@ -28,7 +29,7 @@ pub fn put_covers(covers: [Cover; 32], size: usize, text: &mut [u8]) -> usize
 }
 
 pub fn put_refusal(refusal: u8, text: &mut [u8]) -> usize
-    requires { ⌜ mostRefusal ≤ length (now text) ⌝ }
+    requires { ⌜ longestRefusalLine ≤ length (now text) ⌝ }
     ensures { λ r. ⌜ Written (now (text .entry)) (now (text .exit)) 0 (refusalLine refusal) r × (r ≤ length (now (text .entry))) ⌝ }
 {
     let ns = [refusal as u64];

@@ -12,9 +12,9 @@ use Rattle.dayfile.specs.Roster.{participantOf}
 use Rattle.dayfile.specs.declared.roster.Opening.{Opening}
 use Rattle.dayfile.specs.declared.roster.Opening.the-variants as opening
 use Rattle.dayfile.specs.declared.roster.Roster.{Roster}
-use Rattle.report.specs.Layout.{reportsBytes}
+use Rattle.report.specs.ReportLayout.{reportsBytes}
 use Rattle.report.specs.declared.Report.{Report}
-use Rattle.report.proofs.Laws.{put-further}
+use Rattle.report.proofs.ReportLaws.{put-further}
 use Rattle.rules.specs.Book.{coverOf}
 use Rattle.rules.specs.Cut.{cutReport, cutReportsTo}
 use Rattle.rules.specs.Tell.{tellCut}
@@ -48,7 +48,8 @@ module _ (r : Roster) (cs : List Cover) where
   pub count-on : (p n m : ℕ) → m ≡ n + length (cutReportsTo r cs p) → m + length (own p) ≡ n + length (cutReportsTo r cs (p + 1))
   count-on p n m e = rw add-one (omega (arith, length-append (cutReportsTo r cs p) (own p)))
 
-  pub reports-on : (p n m : ℕ) (s t : List ℕ) → m ≡ n + length (cutReportsTo r cs p) → t ≡ sets s (12 * n) (reportsBytes (cutReportsTo r cs p))
+  pub reports-on : (p n m : ℕ) (s t : List ℕ) → m ≡ n + length (cutReportsTo r cs p)
+      → t ≡ sets s (12 * n) (reportsBytes (cutReportsTo r cs p))
       → sets t (12 * m) (reportsBytes (own p)) ≡ sets s (12 * n) (reportsBytes (cutReportsTo r cs (p + 1)))
   reports-on p n m s t e f =
       ap₂ (λ (b : List ℕ) (k : ℕ). sets b (12 * k) (reportsBytes (own p))) f e

@@ -4,7 +4,7 @@ use rules::decision::Move;
 ghost use mathlib.Core.Path.{_≡_};
 ghost use Prim.Native.Nat.{_≤_};
 ghost use Rattle.rules.specs.Cover.{moved, whole};
-ghost use Rattle.intake.specs.Room.{mostNumber, Room};
+ghost use Rattle.course.specs.Room.{mostNumber, Room};
 
 fn cover(available: u64, reserved: u64, held: u64, debit: u64) -> Cover
     ensures { λ r. ⌜ r ≡ record { available = available; reserved = reserved; held = held; debit = debit } ⌝ }

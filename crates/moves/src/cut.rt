@@ -9,7 +9,7 @@ ghost use mathlib.Core.Path.{_≡_};
 ghost use Prim.Native.Nat.{ℕ, _+_, _*_, _≤_, _<_};
 ghost use lib.ListN.{length};
 ghost use lib.Seq.{sets};
-ghost use Rattle.report.specs.Layout.{reportLength, reportsBytes};
+ghost use Rattle.report.specs.ReportLayout.{reportLength, reportsBytes};
 ghost use Rattle.rules.specs.Book.{coverOf};
 ghost use Rattle.rules.specs.Cover.{whole, mostTotal};
 ghost use Rattle.rules.specs.Tell.{listed};

@@ -8,7 +8,7 @@ ghost use Rattle.fields.specs.UpTo.{anyTo};
 ghost use Rattle.rules.specs.Book.{coverOf};
 ghost use Rattle.rules.specs.Cover.{whole, totalOf, mostTotal};
 ghost use Rattle.rules.specs.Find.{isOpen};
-ghost use Rattle.intake.specs.Room.{mostNumber};
+ghost use Rattle.course.specs.Room.{mostNumber};
 
 pub fn total_of(covers: [Cover; 32], size: usize) -> u64
     requires { ⌜ (size ≤ 32) × (totalOf size covers ≤ mostTotal) ⌝ }

@@ -7,13 +7,16 @@ ghost use mathlib.Core.Path.{_≡_};
 ghost use Prim.Native.Nat.{_+_, _*_, _≤_, _<_};
 ghost use lib.ListN.{length};
 ghost use lib.Seq.{sets};
-ghost use Rattle.report.specs.Layout.{reportLength, reportsBytes};
+ghost use Rattle.report.specs.ReportLayout.{reportLength, reportsBytes};
 ghost use Rattle.rules.specs.Tell.{listed};
-ghost use Rattle.verdict.specs.Meaning.{reportBy, toldBy};
+ghost use Rattle.verdict.specs.Meaning.{reportBy, noticesTold};
 
 pub fn put_told(buffer: &mut [u8], n: usize, told: Told) -> usize
     requires { ⌜ reportLength * n + reportLength * length (listed told) ≤ length (now buffer) ⌝ }
-    ensures { λ r. ⌜ (now (buffer .exit) ≡ sets (now (buffer .entry)) (reportLength * n) (reportsBytes (listed told))) × (r ≡ n + length (listed told)) ⌝ }
+    ensures { λ r.
+        ⌜
+        (now (buffer .exit) ≡ sets (now (buffer .entry)) (reportLength * n) (reportsBytes (listed told))) × (r ≡ n + length (listed told))
+        ⌝ }
 {
     match told {
         Told::Nobody => n,
@@ -53,12 +56,12 @@ pub fn put_notices(
 ) -> usize
     requires { ⌜
         (told .to < 256) × (also .to < 256) × (i < 65536)
-        × (reportLength * n + reportLength * length (listed (toldBy told also i amount)) ≤ length (now buffer))
+        × (reportLength * n + reportLength * length (listed (noticesTold told also i amount)) ≤ length (now buffer))
         ⌝ }
     ensures { λ r.
         ⌜
-        (now (buffer .exit) ≡ sets (now (buffer .entry)) (reportLength * n) (reportsBytes (listed (toldBy told also i amount))))
-        × (r ≡ n + length (listed (toldBy told also i amount)))
+        (now (buffer .exit) ≡ sets (now (buffer .entry)) (reportLength * n) (reportsBytes (listed (noticesTold told also i amount))))
+        × (r ≡ n + length (listed (noticesTold told also i amount)))
         ⌝ }
 {
     let none = told.code == 0;

@@ -1,6 +1,5 @@
-// Small functions on one order, and on how far the core goes. Each equals a definition of `rules` or `intake`; but for the last, the
-// modules are named after the files of definitions there.
-pub mod room;
+// Small functions on one order. Each equals a definition of `rules` or `course`; the modules are named after the files of definitions
+// there.
 pub mod status;
 pub mod tell;
 pub mod tick;

@@ -2,7 +2,7 @@
 use super::status;
 use super::tell;
 use super::transfer;
-use intake::Expiry;
+use course::Expiry;
 use rules::Order;
 use rules::Status;
 use rules::constants;
@@ -11,7 +11,7 @@ ghost use mathlib.Core.Path.{_≡_};
 ghost use Prim.Native.Nat.{_-_, _≤_, _<_};
 ghost use lib.Dec.{ltb};
 ghost use Rattle.rules.specs.Tick.{timeLimit, due};
-ghost use Rattle.intake.specs.Expiry.{expiryOf};
+ghost use Rattle.course.specs.Expiry.{expiryOf};
 
 // An order that is younger than 20 seconds is not due, and none that came after it is older.
 pub fn is_young(clock: u32, time: u32) -> bool

@@ -1,1 +1,1 @@
-pub mod Carrying
+pub mod PairNumber

@@ -1,6 +1,6 @@
 -- The number that pairs spell, given by a list of their numbers and a list of what they scale the number before them with.
 --     Scaling         each of 17 pairs scales with four digits at most
---     Fitting         and is four digits at most
+--     FittingPairs    and is four digits at most
 --     carried         the number n with k pairs behind it, from pair at on
 --     scaled          what those pairs scale the number before them with
 --     carriedMoved    the pairs from the third on, and behind them the first two
@@ -12,7 +12,7 @@ use lib.ListN.{getD}
 pub record Scaling (scales : List ℕ) : Type 0 where
   pub scale : (i : ℕ) → i < 17 → getD scales i 0 ≤ 10 ^ 4
 
-pub record Fitting (numbers scales : List ℕ) : Type 0 where
+pub record FittingPairs (numbers scales : List ℕ) : Type 0 where
   pub number : (i : ℕ) → i < 17 → getD numbers i 0 < 10 ^ 4
   pub scaling : Scaling scales
 

@@ -3,7 +3,7 @@
 // divided so often that 64 bits suffice.
 ghost use mathlib.Core.Path.{_≡_};
 ghost use Prim.Native.Nat.{_+_, _*_, _%_, _^_, _≤_, _<_};
-ghost use Rattle.remainder.specs.Carried.{Scaling, Fitting, carried, scaled, carriedMoved};
+ghost use Rattle.remainder.specs.Carried.{Scaling, FittingPairs, carried, scaled, carriedMoved};
 
 fn wide(n: u16) -> u64
     ensures { λ r. ⌜ r ≡ n ⌝ }
@@ -35,21 +35,21 @@ fn four_scale(scales: &[u16; 17], i: usize) -> u64
 
 // The number of two pairs, of three, and of four.
 fn two(numbers: &[u16; 17], scales: &[u16; 17], i: usize) -> u64
-    requires { ⌜ (i + 2 ≤ 17) × Fitting (now numbers) (now scales) ⌝ }
+    requires { ⌜ (i + 2 ≤ 17) × FittingPairs (now numbers) (now scales) ⌝ }
     ensures { λ r. ⌜ (r ≡ carried (now (numbers .entry)) (now (scales .entry)) 0 i 2) × (r < 10 ^ 8) ⌝ }
 {
     wide(numbers[i]) * wide(scales[i + 1]) + wide(numbers[i + 1])
 }
 
 fn three(numbers: &[u16; 17], scales: &[u16; 17], i: usize) -> u64
-    requires { ⌜ (i + 3 ≤ 17) × Fitting (now numbers) (now scales) ⌝ }
+    requires { ⌜ (i + 3 ≤ 17) × FittingPairs (now numbers) (now scales) ⌝ }
     ensures { λ r. ⌜ (r ≡ carried (now (numbers .entry)) (now (scales .entry)) 0 i 3) × (r < 10 ^ 12) ⌝ }
 {
     two(numbers, scales, i) * wide(scales[i + 2]) + wide(numbers[i + 2])
 }
 
 fn four(numbers: &[u16; 17], scales: &[u16; 17], i: usize) -> u64
-    requires { ⌜ (i + 4 ≤ 17) × Fitting (now numbers) (now scales) ⌝ }
+    requires { ⌜ (i + 4 ≤ 17) × FittingPairs (now numbers) (now scales) ⌝ }
     ensures { λ r. ⌜ (r ≡ carried (now (numbers .entry)) (now (scales .entry)) 0 i 4) × (r < 10 ^ 16) ⌝ }
 {
     two(numbers, scales, i) * two_scale(scales, i + 2) + two(numbers, scales, i + 2)
@@ -80,7 +80,7 @@ fn small(n: u64, scale: u64, number: u64) -> u64
 
 // The pairs from the third on, and behind them the first two.
 pub fn of_moved(numbers: &[u16; 17], scales: &[u16; 17]) -> u64
-    requires { ⌜ Fitting (now numbers) (now scales) ⌝ }
+    requires { ⌜ FittingPairs (now numbers) (now scales) ⌝ }
     ensures { λ r. ⌜ r ≡ carriedMoved (now (numbers .entry)) (now (scales .entry)) % 97 ⌝ }
 {
     let a = four(numbers, scales, 2) % 97;

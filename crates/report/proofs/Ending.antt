@@ -1,6 +1,6 @@
 -- The laws of endings: of reports in two lists, and which reports are none. Assumes nothing.
 use mathlib.Core.Path.{_≡_, refl, ap}
-use mathlib.Core.Bool.{Bool, true, false, cond, and-false}
+use mathlib.Core.Bool.{Bool, true, false, cond}
 use mathlib.Core.List.{List, [], _∷_, _++_}
 use Prim.Native.Nat.{ℕ}
 use borrow.Author.Tests.{ne-eqb}
@@ -20,13 +20,6 @@ endings-append i (r ∷ rs) ts = go (isEnding i r) (endings-append i rs ts)
 pub ending-other-order : (i : ℕ) (r : Report) → (r .order ≡ i → ⊥) → isEnding i r ≡ false
 ending-other-order i r differs = simp (ne-eqb (r .order) i differs)
 
--- a report with a code that tells of no ending
-pub ending-other-code : (i : ℕ) (r : Report) → (r .code ≡ 2 → ⊥) → (r .code ≡ 3 → ⊥) → (r .code ≡ 4 → ⊥) → isEnding i r ≡ false
-ending-other-code i r n2 n3 n4 = simp (ne-eqb (r .code) 2 n2, ne-eqb (r .code) 3 n3, ne-eqb (r .code) 4 n4, and-false)
-
 -- the endings in a list, by its first report
 pub endings-without : (i : ℕ) (r : Report) (rs : List Report) → isEnding i r ≡ false → endingsIn i (r ∷ rs) ≡ endingsIn i rs
 endings-without i r rs e = simp e
-
-pub endings-with : (i : ℕ) (r : Report) (rs : List Report) → isEnding i r ≡ true → endingsIn i (r ∷ rs) ≡ r ∷ endingsIn i rs
-endings-with i r rs e = simp e

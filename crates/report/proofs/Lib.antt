@@ -1,3 +1,3 @@
-pub mod Laws
+pub mod ReportLaws
 pub mod Ending
-pub mod Answers
+pub mod AnswerLaws

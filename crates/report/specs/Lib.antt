@@ -1,3 +1,3 @@
-pub mod Layout
+pub mod ReportLayout
 pub mod Ending
 pub mod Answer

@@ -5,7 +5,7 @@ ghost use mathlib.Core.Path.{_≡_};
 ghost use Prim.Native.Nat.{_+_, _*_, _≤_};
 ghost use lib.ListN.{length};
 ghost use lib.Seq.{sets};
-ghost use Rattle.report.specs.Layout.{reportLength, reportBytes, reportAt};
+ghost use Rattle.report.specs.ReportLayout.{reportLength, reportBytes, reportAt};
 
 pub const LENGTH: usize = 12;
 

@@ -14,7 +14,7 @@ use Rattle.dayfile.specs.declared.roster.Target.the-variants.{To, Row}
 use Rattle.dayfile.specs.declared.roster.Route.{Route}
 use Rattle.dayfile.specs.declared.roster.Roster.{Roster}
 use Rattle.dayfile.proofs.Following.{followed-same}
-use Rattle.dayfile.proofs.Written.{target-back}
+use Rattle.dayfile.proofs.RowsReadBack.{target-back}
 use Rattle.routes.specs.Ways.{kindsOf, numbersOf, targetBy, endAt}
 
 -- a row's kind says how its number is meant

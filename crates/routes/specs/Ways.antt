@@ -10,7 +10,7 @@ use lib.ListN.{getD}
 use Rattle.fields.specs.UpTo.{rowsTo}
 use Rattle.fields.specs.declared.search.Found.{Found}
 use Rattle.fields.specs.declared.search.Found.the-variants as found
-use Rattle.dayfile.specs.Limits.{mostRoutes}
+use Rattle.dayfile.specs.FileLimits.{mostRoutes}
 use Rattle.dayfile.specs.Roster.{targetKind, targetNumber, targetOf}
 use Rattle.dayfile.specs.Route.{targetIn, followed}
 use Rattle.dayfile.specs.declared.roster.Target.{Target}

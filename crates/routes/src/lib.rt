@@ -8,7 +8,7 @@ use dayfile::route::Followed;
 use fields::Found;
 ghost use mathlib.Core.Path.{_≡_};
 ghost use Rattle.dayfile.specs.Roster.{targetKind, targetNumber};
-ghost use Rattle.dayfile.specs.Route.{followed, reached, rowsFollowed};
+ghost use Rattle.dayfile.specs.Route.{followed};
 ghost use Rattle.routes.specs.Ways.{kindsOf, numbersOf, targetBy, endAt};
 
 // Where each row leads, as numbers: its kind, 0 participant or 1 row, and its k.
@@ -78,24 +78,5 @@ pub fn end_of(kinds: &[u8; 64], numbers: &[usize; 64], found: Found) -> Followed
     match found {
         Found::At(row) => follow(kinds, numbers, row),
         Found::Nothing => Followed::Nowhere,
-    }
-}
-
-// The participant that was reached, and how many rows were followed; 0 where it leads nowhere.
-pub fn reached(way: Followed) -> usize
-    ensures { λ r. ⌜ r ≡ reached way ⌝ }
-{
-    match way {
-        Followed::At(p, _) => p,
-        Followed::Nowhere => 0,
-    }
-}
-
-pub fn rows_followed(way: Followed) -> usize
-    ensures { λ r. ⌜ r ≡ rowsFollowed way ⌝ }
-{
-    match way {
-        Followed::At(_, n) => n,
-        Followed::Nowhere => 0,
     }
 }

@@ -8,7 +8,7 @@ use lib.Dec.{leb, ltb, eqb}
 use Rattle.fields.specs.Text.{same}
 use Rattle.fields.specs.Search.{isFound, numberOf}
 use Rattle.fields.proofs.Finding.{FoundAt, found-at, not-found}
-use Rattle.ticket.specs.Layout.{senderOf, payeeOf, txidField}
+use Rattle.ticket.specs.TicketLayout.{senderOf, payeeOf, txidField}
 use Rattle.ticket.specs.declared.Fields.{Fields}
 use Rattle.ticket.specs.declared.kinds.Kind.{Kind}
 use Rattle.dayfile.specs.Roster.{participantOf}
@@ -19,7 +19,18 @@ use Rattle.rules.specs.Book.{mostOrders, orderOf, coverOf}
 use Rattle.rules.specs.Cover.{total, mostTotal}
 use Rattle.rules.specs.Find.{senderIn, orderIn, routeIn, wayIn, finding}
 use Rattle.rules.specs.Terms.{termsOf, namesSender, opensOrder, namesOrder, partyOf, meets, draws}
-use Rattle.rules.specs.Refusal.{brings, refusal12, refusal13, refusal14, refusal15, refusal16, refusal17, refusal18, refusal20, refusal22}
+use Rattle.rules.specs.Refusal.{
+  bringsCover,
+  refusal12,
+  refusal13,
+  refusal14,
+  refusal15,
+  refusal16,
+  refusal17,
+  refusal18,
+  refusal20,
+  refusal22,
+}
 use Rattle.rules.specs.declared.terms.Terms.{Terms}
 use Rattle.rules.specs.declared.Order.{Order}
 use Rattle.rules.specs.declared.Book.{Book}
@@ -68,12 +79,13 @@ module _ (b : Book) (f : Fields) (t : List ℕ) where
       → reached (wayIn (b .roster) t) < b .roster .size
   unfolding routeIn wayIn
   payee-known g e opens =
-      let a = bic-arrives (b .roster) g (payeeOf t) (not-false _ (second (opensOrder (terms .subject)) (not (isFound (routeIn (b .roster) t))) e opens)) in
+      let a = bic-arrives (b .roster) g (payeeOf t)
+      (not-false _ (second (opensOrder (terms .subject)) (not (isFound (routeIn (b .roster) t))) e opens)) in
       rw (a .is) (a .known)
 
   -- 15 passed
-  pub room-left : refusal15 (finding b f t) ≡ false → opensOrder (terms .subject) ≡ true → b .count < mostOrders
-  room-left e opens = leb-false mostOrders (b .count) (second (opensOrder (terms .subject)) (leb mostOrders (b .count)) e opens)
+  pub order-room : refusal15 (finding b f t) ≡ false → opensOrder (terms .subject) ≡ true → b .count < mostOrders
+  order-room e opens = leb-false mostOrders (b .count) (second (opensOrder (terms .subject)) (leb mostOrders (b .count)) e opens)
 
   -- 16 passed
   pub order-found : refusal16 (finding b f t) ≡ false → namesOrder (terms .subject) ≡ true
@@ -97,5 +109,7 @@ module _ (b : Book) (f : Fields) (t : List ℕ) where
   cover-there e is = ltb-false _ _ (second (draws (terms .flow)) (ltb (coverOf (b .covers) senderNumber .available) (f .amount)) e is)
 
   -- 22 passed
-  pub limit-kept : refusal22 (finding b f t) ≡ false → brings (terms .flow) (coverOf (b .covers) senderNumber) ≡ true → total b + f .amount ≤ mostTotal
-  limit-kept e is = ltb-false _ _ (second (brings (terms .flow) (coverOf (b .covers) senderNumber)) (ltb mostTotal (total b + f .amount)) e is)
+  pub limit-kept : refusal22 (finding b f t) ≡ false → bringsCover (terms .flow) (coverOf (b .covers) senderNumber) ≡ true
+      → total b + f .amount ≤ mostTotal
+  limit-kept e is =
+      ltb-false _ _ (second (bringsCover (terms .flow) (coverOf (b .covers) senderNumber)) (ltb mostTotal (total b + f .amount)) e is)

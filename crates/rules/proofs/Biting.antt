@@ -5,7 +5,7 @@ use Prim.Native.Nat.{ℕ}
 use native.Mathlib.Omega.{arith}
 use Rattle.codes.specs.Bic.{isBic}
 use Rattle.dayfile.specs.DayFile.{dayFile}
-use Rattle.dayfile.specs.Writing.{fileBytes, bank}
+use Rattle.dayfile.specs.FileWriting.{fileBytes, bank}
 use Rattle.rules.specs.Book.{withCovers, bookOf}
 use Rattle.rules.specs.Cover.{transferred}
 use Rattle.rules.specs.Decision.{by}
@@ -16,7 +16,9 @@ use Rattle.rules.proofs.Names.{bicA}
 
 -- one participant, a cent reserved and no order
 abbrev centOff : Book
-centOff = let b = bookOf (fileBytes (bank bicA ∷ []) [] []) in withCovers b (transferred (by 0 Reserve 1) (transferred (by 0 Give 1) (b .covers)))
+centOff =
+    let b = bookOf (fileBytes (bank bicA ∷ []) [] []) in
+    withCovers b (transferred (by 0 Reserve 1) (transferred (by 0 Give 1) (b .covers)))
 
 pub cent-off-not-sound : Sound centOff → ⊥
 unfolding isBic dayFile

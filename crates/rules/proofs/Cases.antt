@@ -2,28 +2,28 @@
 use mathlib.Core.Path.{refl}
 use mathlib.Core.List.{List, [], _∷_, _++_}
 use Rattle.fields.specs.Text.{text}
-use Rattle.fields.proofs.Rows.{Row, AllMet, all-met}
+use Rattle.fields.proofs.CaseRows.{Row, AllMet, all-met}
 use Rattle.codes.specs.Bic.{isBic}
 use Rattle.iban.specs.Iban.{isIban}
 use Rattle.codes.specs.Txid.{isTxid}
 use Rattle.iban.proofs.Cases as iban
 use Rattle.codes.proofs.Cases as codes
-use Rattle.ticket.specs.Reading.{reading}
-use Rattle.ticket.specs.Writing.{coverInTicket, orderTicket, yesTicket, inquiryTicket, cutTicket, confirmTicket}
+use Rattle.ticket.specs.TicketReading.{reading}
+use Rattle.ticket.specs.TicketWriting.{coverInTicket, orderTicket, yesTicket, inquiryTicket, cutTicket, confirmTicket}
 use Rattle.dayfile.specs.DayFile.{dayFile}
 use Rattle.dayfile.specs.Route.{followed}
-use Rattle.dayfile.specs.Writing.{fileBytes, bankOpening}
+use Rattle.dayfile.specs.FileWriting.{fileBytes, bankOpening}
 use Rattle.rules.specs.Find.{senderIn, orderIn, routeIn, wayIn, anyOpen}
 use Rattle.rules.specs.Cover.{total}
 use Rattle.rules.specs.Tick.{tick}
 use Rattle.rules.specs.Step.{stepOf, handed}
-use Rattle.rules.specs.Program.{output}
+use Rattle.rules.specs.Program.{decimal, numbers, output}
 use Rattle.rules.proofs.Names.{bicA, bicB, tx1, ibanD, twoBanks, day}
 use Rattle.rules.proofs.Edges.{edges}
 use Rattle.rules.proofs.LimitEdges.{limits}
 
-abbrev pub marked : List Row
-marked =
+abbrev pub markedCases : List Row
+markedCases =
     day "D: a yes at 24 to an order of 5"
     (twoBanks
     (coverInTicket 0 bicA 1000
@@ -71,8 +71,9 @@ marked =
 
 -- the rows of `iban`, those of `codes` and these, under one statement
 abbrev pub cases : List Row
-cases = iban.cases ++ codes.cases ++ marked ++ edges ++ limits
+cases = iban.cases ++ codes.cases ++ markedCases ++ edges ++ limits
 
 pub cases-met : AllMet cases
-unfolding isBic isIban isTxid reading dayFile followed senderIn orderIn routeIn wayIn anyOpen total tick stepOf handed output
+unfolding isBic isIban isTxid reading dayFile followed senderIn orderIn routeIn wayIn anyOpen total tick stepOf
+    handed decimal numbers output
 cases-met = all-met cases refl

@@ -3,16 +3,16 @@
 use mathlib.Core.Path.{_≡_, refl, _∙_}
 use mathlib.Core.Bool.{Bool, true, false, cond}
 use mathlib.Core.List.{List}
-use mathlib.Core.Logic.{_⊎_, ⊎-elim}
+use mathlib.Core.Logic.{⊎-elim}
 use Prim.Native.Nat.{ℕ, _≤_, _<_}
 use native.Mathlib.Omega.{arith}
 use borrow.Author.Tests.{ltb-false, eqb-true, eqb-false}
 use lib.Dec.{ltb, eqb}
-use Rattle.ticket.specs.Reading.{reading}
+use Rattle.ticket.specs.TicketReading.{reading}
 use Rattle.ticket.specs.declared.Fields.{Fields}
 use Rattle.ticket.specs.declared.Reading.{Reading}
 use Rattle.ticket.specs.declared.Reading.the-variants.{Read, Refused}
-use Rattle.ticket.proofs.Telling.{Tells, read-tells}
+use Rattle.ticket.proofs.TicketTelling.{Tells, read-tells}
 use Rattle.ticket.proofs.Refusals.{refused-number}
 use Rattle.rules.specs.Tick.{Step, tick}
 use Rattle.rules.specs.Find.{finding}

@@ -11,7 +11,7 @@ use lib.Dec.{ltb, eqb}
 use lib.ListN.{length, length-set}
 use lib.Seq.{getD-set-same, getD-set-other}
 use Rattle.fields.proofs.Tests.{or-left, or-right}
-use Rattle.dayfile.specs.Limits.{mostParticipants}
+use Rattle.dayfile.specs.FileLimits.{mostParticipants}
 use Rattle.dayfile.specs.Roster.{participantOf}
 use Rattle.dayfile.specs.declared.roster.Opening.{Opening}
 use Rattle.dayfile.specs.declared.roster.Opening.the-variants as opening
@@ -22,8 +22,8 @@ use Rattle.rules.specs.Find.{isOpen}
 use Rattle.rules.specs.Cut.{withHeld, withDebit, cutCover, cutTo}
 use Rattle.rules.specs.Sound.{CoversSound}
 use Rattle.rules.specs.declared.Cover.{Cover}
-use Rattle.rules.proofs.Same.{same-or-not, below-or-not}
-use Rattle.rules.proofs.Moving.{Either, fitted, set-there, set-total, set-keeps}
+use Rattle.fields.proofs.Compared.{same-or-not, below-or-not}
+use Rattle.rules.proofs.CoverMoving.{Either, fitted, set-there, set-total, set-keeps}
 
 -- nothing held, no open debit
 pub record Closed (c : Cover) : Type 0 where
@@ -88,17 +88,20 @@ module _ (r : Roster) (few : r .size ≤ mostParticipants) {due : ℕ → ℕ} {
           }
 
 -- each participant's cover when all are cut
-pub cut-long : (r : Roster) (cs : List Cover) (n : ℕ) → length (cutTo r cs n) ≡ length cs
+cut-long : (r : Roster) (cs : List Cover) (n : ℕ) → length (cutTo r cs n) ≡ length cs
 cut-long r cs zero = refl
 cut-long r cs (suc p) = length-set (cutTo r cs p) p (cutCover (participantOf r p .opening) (coverOf cs p)) ∙ cut-long r cs p
 
-pub cut-each : (r : Roster) (cs : List Cover) (n : ℕ) → n ≤ length cs → (p : ℕ) → p < n → coverOf (cutTo r cs n) p ≡ cutCover (participantOf r p .opening) (coverOf cs p)
+pub cut-each : (r : Roster) (cs : List Cover) (n : ℕ) → n ≤ length cs → (p : ℕ) → p < n
+    → coverOf (cutTo r cs n) p ≡ cutCover (participantOf r p .opening) (coverOf cs p)
 cut-each r cs zero h p l = absurd (not-suc-le-zero l)
 cut-each r cs (suc n) h p l =
     ⊎-elim
-    (λ (e : p ≡ n). rw e (getD-set-same (cutTo r cs n) n (cutCover (participantOf r n .opening) (coverOf cs n)) noCover (rw (cut-long r cs n) h)))
+    (λ (e : p ≡ n).
+    rw e (getD-set-same (cutTo r cs n) n (cutCover (participantOf r n .opening) (coverOf cs n)) noCover (rw (cut-long r cs n) h)))
     (λ (k : p ≡ n → ⊥).
-    getD-set-other (cutTo r cs n) n p (cutCover (participantOf r n .opening) (coverOf cs n)) noCover k ∙ cut-each r cs n (omega arith) p (below k (below-or-not p n)))
+    getD-set-other (cutTo r cs n) n p (cutCover (participantOf r n .opening) (coverOf cs n)) noCover k
+    ∙ cut-each r cs n (omega arith) p (below k (below-or-not p n)))
     (same-or-not p n)
   where
     below : (p ≡ n → ⊥) → (p < n) ⊎ (n ≤ p) → p < n

@@ -1,9 +1,23 @@
 -- Edges of the steps as rows. Assumes nothing.
-use mathlib.Core.List.{List, [], _∷_}
-use Rattle.fields.proofs.Rows.{Row}
-use Rattle.ticket.specs.Writing.{coverInTicket, coverOutTicket, orderTicket, yesTicket, noTicket, recallTicket, returnTicket, declineTicket, inquiryTicket, cutTicket, confirmTicket, tickTicket}
-use Rattle.dayfile.specs.Writing.{fileBytes, bank, bankOpening, linked, direct, onward}
-use Rattle.rules.proofs.Names.{bicA, bicB, bicC, bicL, bicZ, tx1, tx2, tx3, ibanD, twoBanks, day}
+use mathlib.Core.List.{List, [], _∷_, _++_}
+use Rattle.fields.specs.Text.{text}
+use Rattle.fields.proofs.CaseRows.{Row}
+use Rattle.ticket.specs.TicketWriting.{
+  coverInTicket,
+  coverOutTicket,
+  orderTicket,
+  yesTicket,
+  noTicket,
+  recallTicket,
+  returnTicket,
+  declineTicket,
+  inquiryTicket,
+  cutTicket,
+  confirmTicket,
+  tickTicket,
+}
+use Rattle.dayfile.specs.FileWriting.{fileBytes, bank, bankOpening, linked, direct, onward}
+use Rattle.rules.proofs.Names.{bicA, bicB, bicC, bicL, bicZ, tx1, tx2, tx3, ibanD, twoBanks, dayOf, day}
 
 abbrev pub edges : List Row
 edges =
@@ -53,7 +67,7 @@ edges =
     ∷ noTicket 6 bicB tx1
     ∷ []))
     "T 0 0 0 0\nT 1 0 1 1\nR 1 1 0 400\nT 2 0 1 0\nR 0 3 0 400\nC 0 1000 0 0\nC 1 0 0 0\n"
-    ∷ day "a return moves available cover, and frees no reservation"
+    ∷ dayOf "a return moves available cover, and frees no reservation"
     (twoBanks
     (coverInTicket 0 bicA 1000
     ∷ orderTicket 5 bicA bicB 400 tx1 ibanD
@@ -63,8 +77,9 @@ edges =
     ∷ inquiryTicket 9 bicA tx1
     ∷ returnTicket 10 bicB 400 tx1
     ∷ []))
-    "T 0 0 0 0\nT 1 0 1 1\nR 1 1 0 400\nT 2 0 1 1\nR 1 1 1 300\nT 3 0 2 0\nR 0 2 0 400\nR 1 2 0 400\nT 4 0 1 0\nR 1 5 0 400\nT 5 0 2 0\nR 0 2 0 400\nR 1 8 0 400\nT 6 0 1 0\nR 0 6 0 400\nC 0 700 300 0\nC 1 0 0 0\n"
-    ∷ day "a return without available cover is refused by 20"
+    (text "T 0 0 0 0\nT 1 0 1 1\nR 1 1 0 400\nT 2 0 1 1\nR 1 1 1 300\nT 3 0 2 0\nR 0 2 0 400\nR 1 2 0 400\n"
+    ++ text "T 4 0 1 0\nR 1 5 0 400\nT 5 0 2 0\nR 0 2 0 400\nR 1 8 0 400\nT 6 0 1 0\nR 0 6 0 400\nC 0 700 300 0\nC 1 0 0 0\n")
+    ∷ dayOf "a return without available cover is refused by 20"
     (twoBanks
     (coverInTicket 0 bicA 1000
     ∷ orderTicket 5 bicA bicB 400 tx1 ibanD
@@ -74,8 +89,9 @@ edges =
     ∷ returnTicket 9 bicB 400 tx1
     ∷ returnTicket 10 bicB 399 tx1
     ∷ []))
-    "T 0 0 0 0\nT 1 0 1 1\nR 1 1 0 400\nT 2 0 2 0\nR 0 2 0 400\nR 1 2 0 400\nT 3 0 0 0\nT 4 0 1 0\nR 1 5 0 400\nT 5 20 0 0\nT 6 19 0 0\nC 0 600 0 0\nC 1 399 0 0\n"
-    ∷ day "a decline ends the recall"
+    (text "T 0 0 0 0\nT 1 0 1 1\nR 1 1 0 400\nT 2 0 2 0\nR 0 2 0 400\nR 1 2 0 400\nT 3 0 0 0\n"
+    ++ text "T 4 0 1 0\nR 1 5 0 400\nT 5 20 0 0\nT 6 19 0 0\nC 0 600 0 0\nC 1 399 0 0\n")
+    ∷ dayOf "a decline ends the recall"
     (twoBanks
     (coverInTicket 0 bicA 1000
     ∷ orderTicket 5 bicA bicB 400 tx1 ibanD
@@ -85,7 +101,8 @@ edges =
     ∷ inquiryTicket 9 bicA tx1
     ∷ recallTicket 10 bicA 1 tx1
     ∷ []))
-    "T 0 0 0 0\nT 1 0 1 1\nR 1 1 0 400\nT 2 0 2 0\nR 0 2 0 400\nR 1 2 0 400\nT 3 0 1 0\nR 1 5 0 400\nT 4 0 1 0\nR 0 7 0 400\nT 5 0 2 0\nR 0 2 0 400\nR 0 7 0 400\nT 6 18 0 0\nC 0 600 0 0\nC 1 400 0 0\n"
+    (text "T 0 0 0 0\nT 1 0 1 1\nR 1 1 0 400\nT 2 0 2 0\nR 0 2 0 400\nR 1 2 0 400\nT 3 0 1 0\nR 1 5 0 400\n"
+    ++ text "T 4 0 1 0\nR 0 7 0 400\nT 5 0 2 0\nR 0 2 0 400\nR 0 7 0 400\nT 6 18 0 0\nC 0 600 0 0\nC 1 400 0 0\n")
     ∷ day "a cut counts no reserved cover"
     (fileBytes
     (bankOpening bicA 100 ∷ bankOpening bicB 0 ∷ [])

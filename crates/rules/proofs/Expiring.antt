@@ -2,7 +2,7 @@
 use mathlib.Core.Path.{_≡_, refl, sym, _∙_, ap₂}
 use mathlib.Core.Bool.{Bool, true, false, cond}
 use mathlib.Core.List.{List, [], _∷_, _++_, append-nil}
-use mathlib.Core.Logic.{_⊎_, ⊎-elim}
+use mathlib.Core.Logic.{⊎-elim}
 use Prim.Native.Nat.{ℕ, zero, suc, _≤_, _<_}
 use native.Mathlib.Nat.{not-suc-le-zero}
 use native.Mathlib.Omega.{arith}
@@ -22,10 +22,10 @@ use Rattle.rules.specs.declared.Status.the-variants.{Expired}
 use Rattle.rules.specs.declared.Order.{Order}
 use Rattle.rules.specs.declared.Cover.{Cover}
 use Rattle.rules.specs.declared.Book.{Book}
-use Rattle.rules.proofs.Same.{same-or-not, below-or-not}
-use Rattle.rules.proofs.Moving.{for-none, fitted, transfer-whole, transfer-leaves}
-use Rattle.rules.proofs.Keeping.{later-sound, backed}
-use Rattle.rules.proofs.Sweeping.{Swept, swept, due-waits, ticked}
+use Rattle.fields.proofs.Compared.{same-or-not, below-or-not}
+use Rattle.rules.proofs.CoverMoving.{for-none, fitted, transfer-whole, transfer-leaves}
+use Rattle.rules.proofs.SoundKeeping.{later-sound, backed}
+use Rattle.rules.proofs.SweepSound.{Swept, swept, due-waits, tick-swept}
 
 -- order i is due in the book
 abbrev pub dueIn : Book → ℕ → Bool
@@ -43,7 +43,7 @@ abbrev pub AllCode : ℕ → List Report → Type 0
 AllCode code [] = Unit {0}
 AllCode code (r ∷ rs) = (r .code ≡ code) × AllCode code rs
 
-pub code-append : (code : ℕ) (rs ts : List Report) → AllCode code rs → AllCode code ts → AllCode code (rs ++ ts)
+code-append : (code : ℕ) (rs ts : List Report) → AllCode code rs → AllCode code ts → AllCode code (rs ++ ts)
 code-append code [] ts a b = b
 code-append code (r ∷ rs) ts a b = (a .0, code-append code rs ts (a .1) b)
 
@@ -76,7 +76,8 @@ record SweptTo (b : Book) (n : ℕ) (w : Step) : Type 0 where
 -- a fact of each number below n, and of n
 up-to : (P : ℕ → Type 0) (n : ℕ) → ((i : ℕ) → i < n → P i) → P n → (i : ℕ) → i < suc n → P i
 up-to P n before this i l =
-    ⊎-elim (λ (e : i ≡ n). rw e this) (λ (k : i ≡ n → ⊥). before i (let m = below-or-not i n in ⊎-elim (λ (h : i < n). h) (λ (h : n ≤ i). absurd (k (omega arith))) m)) (same-or-not i n)
+    ⊎-elim (λ (e : i ≡ n). rw e this) (λ (k : i ≡ n → ⊥).
+    before i (let m = below-or-not i n in ⊎-elim (λ (h : i < n). h) (λ (h : n ≤ i). absurd (k (omega arith))) m)) (same-or-not i n)
 
 -- the endings among an order's two reports
 own-fours : (i : ℕ) (o : Order) → endingsIn i (fours i o) ≡ fours i o
@@ -124,7 +125,8 @@ module _ (b : Book) (n : ℕ) (w : Step) (h : n < w .book .count) (s : Sound (w 
         later = λ i l. there i (λ e. omega arith) ∙ t .later i (omega arith);
         ends =
             up-to (λ i. endingsIn i (w .reports ++ fours n o) ≡ cond (dueIn b i) (fours i (orderOf (b .orders) i)) []) n
-            (λ i l. endings-append i (w .reports) (fours n o) ∙ ap₂ _++_ (t .ends i l) (other-fours i n o (λ e. omega arith)) ∙ append-nil _)
+            (λ i l. endings-append i (w .reports) (fours n o)
+            ∙ ap₂ _++_ (t .ends i l) (other-fours i n o (λ e. omega arith)) ∙ append-nil _)
             (endings-append n (w .reports) (fours n o) ∙ ap₂ _++_ (t .none n (omega arith)) (own-fours n o) ∙ rw (is-due, is));
         none = λ i l. endings-append i (w .reports) (fours n o) ∙ ap₂ _++_ (t .none i (omega arith)) (other-fours i n o (λ e. omega arith));
         cover = apart;
@@ -135,9 +137,11 @@ module _ (b : Book) (n : ℕ) (w : Step) (h : n < w .book .count) (s : Sound (w 
 keep-one : (b : Book) (n : ℕ) (w : Step) → SweptTo b n w → dueIn b n ≡ false → SweptTo b (suc n) w
 keep-one b n w t not-due =
     record {
-      order = up-to (λ i. orderOf (w .book .orders) i ≡ expiredIf (dueIn b i) (orderOf (b .orders) i)) n (t .order) (t .later n (omega arith) ∙ rw not-due);
+      order = up-to (λ i. orderOf (w .book .orders) i ≡ expiredIf (dueIn b i) (orderOf (b .orders) i)) n (t .order)
+          (t .later n (omega arith) ∙ rw not-due);
       later = λ i l. t .later i (omega arith);
-      ends = up-to (λ i. endingsIn i (w .reports) ≡ cond (dueIn b i) (fours i (orderOf (b .orders) i)) []) n (t .ends) (t .none n (omega arith) ∙ rw not-due);
+      ends = up-to (λ i. endingsIn i (w .reports) ≡ cond (dueIn b i) (fours i (orderOf (b .orders) i)) []) n (t .ends)
+          (t .none n (omega arith) ∙ rw not-due);
       none = λ i l. t .none i (omega arith);
       cover = t .cover;
       code = t .code;
@@ -153,7 +157,8 @@ swept-to b s zero h =
       cover = λ p l. record { whole = refl; held = refl; debit = refl };
       code = tt;
     }
-swept-to b s (suc n) h = go (swept b s n (omega arith)) (swept-to b s n (omega arith)) (due (w .book .clock) o (isBank (w .book .roster) (o .payee))) refl
+swept-to b s (suc n) h =
+    go (swept b s n (omega arith)) (swept-to b s n (omega arith)) (due (w .book .clock) o (isBank (w .book .roster) (o .payee))) refl
   where
     w : Step
     w = sweepTo b n
@@ -161,9 +166,11 @@ swept-to b s (suc n) h = go (swept b s n (omega arith)) (swept-to b s n (omega a
     o : Order
     o = orderOf (w .book .orders) n
 
-    go : Swept b w → SweptTo b n w → (d : Bool) → due (w .book .clock) o (isBank (w .book .roster) (o .payee)) ≡ d → SweptTo b (suc n) (cond d (expireTold w n o) w)
+    go : Swept b w → SweptTo b n w → (d : Bool) → due (w .book .clock) o (isBank (w .book .roster) (o .payee)) ≡ d
+        → SweptTo b (suc n) (cond d (expireTold w n o) w)
     go r t true e =
-        expire-one b n w (let c = r .count in omega arith) (r .sound) t (due-waits (w .book .clock) o (isBank (w .book .roster) (o .payee)) e)
+        expire-one b n w (let c = r .count in omega arith) (r .sound) t
+        (due-waits (w .book .clock) o (isBank (w .book .roster) (o .payee)) e)
         (sym (same-due r t) ∙ e)
       where
         same-due : Swept b w → SweptTo b n w → due (w .book .clock) o (isBank (w .book .roster) (o .payee)) ≡ dueIn b n
@@ -176,7 +183,7 @@ pub tick-expires : (b : Book) → Sound b → (time : ℕ) → b .clock ≤ time
 unfolding tick
 tick-expires b s time l =
     let t = swept-to (atTime b time) (later-sound b s time l) (b .count) (omega arith) in
-    let w = ticked b s time l in
+    let w = tick-swept b s time l in
     record {
       count = w .count;
       roster = w .roster;

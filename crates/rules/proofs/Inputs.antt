@@ -1,25 +1,13 @@
 -- Inputs one after the other. A list of them in two parts: the second is handed to the book that the first left.
---     steps-append, book-append, seen-append    the steps, the book after them, and what is seen of the two
---     inputs-sound                              a sound book stays sound
+--     seen-append     what is seen of the two
+--     inputs-sound    a sound book stays sound
 -- Assumes nothing.
 use mathlib.Core.Path.{_≡_, refl, ap}
 use mathlib.Core.List.{List, [], _∷_, _++_}
-use Rattle.rules.specs.Tick.{Step}
-use Rattle.rules.specs.Step.{handed}
-use Rattle.rules.specs.Inputs.{Input, Seen, seen, outcomeOf, stepsFrom, bookFrom, seenFrom}
+use Rattle.rules.specs.Inputs.{Input, Seen, seen, outcomeOf, bookFrom, seenFrom}
 use Rattle.rules.specs.Sound.{Sound}
 use Rattle.rules.specs.declared.Book.{Book}
-use Rattle.rules.proofs.Stepping.{handed-sound}
-
-pub steps-append : (b : Book) (xs ys : List Input) → stepsFrom b (xs ++ ys) ≡ stepsFrom b xs ++ stepsFrom (bookFrom b xs) ys
-steps-append b [] ys = refl
-steps-append b (x ∷ xs) ys =
-    let s = handed b (x .ticket) (x .buffer) in
-    ap (λ (ss : List Step). s ∷ ss) (steps-append (s .book) xs ys)
-
-pub book-append : (b : Book) (xs ys : List Input) → bookFrom b (xs ++ ys) ≡ bookFrom (bookFrom b xs) ys
-book-append b [] ys = refl
-book-append b (x ∷ xs) ys = book-append (outcomeOf b x .book) xs ys
+use Rattle.rules.proofs.StepSound.{handed-sound}
 
 pub seen-append : (b : Book) (xs ys : List Input) → seenFrom b (xs ++ ys) ≡ seenFrom b xs ++ seenFrom (bookFrom b xs) ys
 seen-append b [] ys = refl

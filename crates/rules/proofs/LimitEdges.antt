@@ -1,15 +1,15 @@
 -- Edges of the limits as rows: of days, of report buffers, and of books that hold nearly all orders that a book can hold.
---     lent       the refusal of a first ticket with a report buffer
---     opened     an order given to a book that holds n orders: its refusal, and how many are held then
+--     lentRow     the refusal of a first ticket with a report buffer
+--     orderRow    an order given to a book that holds n orders: its refusal, and how many are held then
 -- Assumes nothing.
 use Prim.Native.Nat.{ℕ, zero, suc, _-_}
 use Prim.Native.String.{String}
 use mathlib.Core.List.{List, [], _∷_, _++_}
 use lib.ListN.{replicate}
 use Rattle.fields.specs.Text.{text, padded}
-use Rattle.fields.proofs.Rows.{Row}
-use Rattle.ticket.specs.Writing.{coverInTicket, orderTicket, cutTicket, confirmTicket, tickTicket}
-use Rattle.dayfile.specs.Writing.{fileBytes, bank, bankOpening}
+use Rattle.fields.proofs.CaseRows.{Row}
+use Rattle.ticket.specs.TicketWriting.{coverInTicket, orderTicket, cutTicket, confirmTicket, tickTicket}
+use Rattle.dayfile.specs.FileWriting.{fileBytes, bank, bankOpening}
 use Rattle.rules.specs.Book.{unusedOrder, noCover, bookOf}
 use Rattle.rules.specs.Step.{stepOf, outcome}
 use Rattle.rules.specs.Program.{decimal}
@@ -20,8 +20,8 @@ use Rattle.rules.specs.declared.Cover.{Cover}
 use Rattle.rules.specs.declared.Book.{Book}
 use Rattle.rules.proofs.Names.{bicA, bicB, tx1, tx2, ibanD, twoBanks, day}
 
-abbrev pub lent : String → ℕ → ℕ → Row
-lent name n due =
+abbrev pub lentRow : String → ℕ → ℕ → Row
+lentRow name n due =
     record {
       shows = name;
       rule = λ buffer. outcome (bookOf (twoBanks [])) (tickTicket 0) buffer .refusal ∷ [];
@@ -53,8 +53,8 @@ holding n =
       roster = bookOf (twoBanks []) .roster;
     }
 
-abbrev pub opened : String → ℕ → List ℕ → ℕ → ℕ → Row
-opened name n txid refusal held =
+abbrev pub orderRow : String → ℕ → List ℕ → ℕ → ℕ → Row
+orderRow name n txid refusal held =
     record {
       shows = name;
       rule = λ t. let s = stepOf (holding n) t in s .refusal ∷ s .book .count ∷ [];
@@ -64,11 +64,11 @@ opened name n txid refusal held =
 
 abbrev pub limits : List Row
 limits =
-    lent "a report buffer of 6,527 bytes is refused by 6" 6_527 6
-    ∷ lent "a report buffer of 6,528 bytes is enough" 6_528 0
-    ∷ opened "the 256th order is accepted" 255 (text "NEW") 0 256
-    ∷ opened "the 257th order is refused by 15" 256 (text "NEW") 15 256
-    ∷ opened "the 257th order with a TxId that is held is refused by 13" 256 (text "TX255") 13 256
+    lentRow "a report buffer of 6,527 bytes is refused by 6" 6_527 6
+    ∷ lentRow "a report buffer of 6,528 bytes is enough" 6_528 0
+    ∷ orderRow "the 256th order is accepted" 255 (text "NEW") 0 256
+    ∷ orderRow "the 257th order is refused by 15" 256 (text "NEW") 15 256
+    ∷ orderRow "the 257th order with a TxId that is held is refused by 13" 256 (text "TX255") 13 256
     ∷ day "an order of 99,999,999,999 is accepted, one cent more refused by 10"
     (twoBanks
     (coverInTicket 0 bicA 200_000_000_000

@@ -3,8 +3,8 @@ use Prim.Native.Nat.{ℕ}
 use Prim.Native.String.{String}
 use mathlib.Core.List.{List, [], _∷_}
 use Rattle.fields.specs.Text.{text}
-use Rattle.fields.proofs.Rows.{Row}
-use Rattle.dayfile.specs.Writing.{fileBytes, bank, direct}
+use Rattle.fields.proofs.CaseRows.{Row}
+use Rattle.dayfile.specs.FileWriting.{fileBytes, bank, direct}
 use Rattle.rules.specs.Program.{output}
 
 abbrev pub bicA : List ℕ
@@ -62,6 +62,10 @@ ibanD = text "LV80BANK0000435195001"
 abbrev pub twoBanks : List (List ℕ) → List ℕ
 twoBanks tickets = fileBytes (bank bicA ∷ bank bicB ∷ []) (direct bicA 0 ∷ direct bicB 1 ∷ []) tickets
 
--- a day's file, and the program's lines for it
+-- a day's file, and the program's lines for it: their bytes
+abbrev pub dayOf : String → List ℕ → List ℕ → Row
+dayOf name given due = record { shows = name; rule = output; given = given; due = due }
+
+-- or one text
 abbrev pub day : String → List ℕ → String → Row
-day name given due = record { shows = name; rule = output; given = given; due = text due }
+day name given due = dayOf name given (text due)

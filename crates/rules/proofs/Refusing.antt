@@ -6,7 +6,27 @@ use Prim.Native.Nat.{ℕ, _≤_, _<_}
 use native.Mathlib.Omega.{arith}
 use borrow.Author.Tests.{eqb-true}
 use lib.Dec.{eqb}
-use Rattle.rules.specs.Refusal.{refusal12, refusal13, refusal14, refusal15, refusal16, refusal17, refusal18, refusal19, refusal20, refusal21, refusal22, namingOf, namingRefusal, permissionOf, permissionRefusal, backingOf, backingRefusal, firstOf, firstRefusal}
+use Rattle.rules.specs.Refusal.{
+  refusal12,
+  refusal13,
+  refusal14,
+  refusal15,
+  refusal16,
+  refusal17,
+  refusal18,
+  refusal19,
+  refusal20,
+  refusal21,
+  refusal22,
+  namingOf,
+  namingRefusal,
+  permissionOf,
+  permissionRefusal,
+  backingOf,
+  backingRefusal,
+  firstOf,
+  firstRefusal,
+}
 use Rattle.rules.specs.declared.finding.Finding.{Finding}
 use Rattle.rules.specs.declared.refusal.Naming.{Naming}
 use Rattle.rules.specs.declared.refusal.Naming.the-variants.{Known, NoParticipant, TxidHeld, NoRoute, Full, TxidNotHeld}
@@ -34,8 +54,8 @@ on number true a rest h e = absurd (omega arith)
 on number false a rest h e = (refl, e)
 
 -- of two numbers the first that is not 0 is 0: both are
-both : (m n : ℕ) → firstOf m n ≡ 0 → (m ≡ 0) × (n ≡ 0)
-both m n e = go (eqb m 0) refl e
+pub both-none : (m n : ℕ) → firstOf m n ≡ 0 → (m ≡ 0) × (n ≡ 0)
+both-none m n e = go (eqb m 0) refl e
   where
     go : (z : Bool) → eqb m 0 ≡ z → cond z n m ≡ 0 → (m ≡ 0) × (n ≡ 0)
     go true q e′ = (eqb-true m 0 q, e′)
@@ -43,8 +63,8 @@ both m n e = go (eqb m 0) refl e
 
 pub none-applies : (x : Finding) → firstRefusal x ≡ 0 → NoRefusal x
 none-applies x e =
-    let a = both (namingRefusal (namingOf x)) (firstOf (permissionRefusal (permissionOf x)) (backingRefusal (backingOf x))) e in
-    let c = both (permissionRefusal (permissionOf x)) (backingRefusal (backingOf x)) (a .1) in
+    let a = both-none (namingRefusal (namingOf x)) (firstOf (permissionRefusal (permissionOf x)) (backingRefusal (backingOf x))) e in
+    let c = both-none (permissionRefusal (permissionOf x)) (backingRefusal (backingOf x)) (a .1) in
     let s12 = on namingRefusal (refusal12 x) NoParticipant _ (omega arith) (a .0) in
     let s13 = on namingRefusal (refusal13 x) TxidHeld _ (omega arith) (s12 .1) in
     let s14 = on namingRefusal (refusal14 x) NoRoute _ (omega arith) (s13 .1) in
@@ -103,8 +123,10 @@ late-first m n a b = go (eqb m 0)
 
 pub refusal-late : (x : Finding) → Late (firstRefusal x)
 refusal-late x =
-    late-first (namingRefusal (namingOf x)) (firstOf (permissionRefusal (permissionOf x)) (backingRefusal (backingOf x))) (late-naming (namingOf x))
-    (late-first (permissionRefusal (permissionOf x)) (backingRefusal (backingOf x)) (late-permission (permissionOf x)) (late-backing (backingOf x)))
+    late-first (namingRefusal (namingOf x)) (firstOf (permissionRefusal (permissionOf x)) (backingRefusal (backingOf x)))
+    (late-naming (namingOf x))
+    (late-first (permissionRefusal (permissionOf x)) (backingRefusal (backingOf x)) (late-permission (permissionOf x))
+    (late-backing (backingOf x)))
 
 -- each fits its byte in an answer
 small-naming : (a : Naming) → namingRefusal a < 256
@@ -136,5 +158,7 @@ small-first m n a b = go (eqb m 0)
 
 pub refusal-small : (x : Finding) → firstRefusal x < 256
 refusal-small x =
-    small-first (namingRefusal (namingOf x)) (firstOf (permissionRefusal (permissionOf x)) (backingRefusal (backingOf x))) (small-naming (namingOf x))
-    (small-first (permissionRefusal (permissionOf x)) (backingRefusal (backingOf x)) (small-permission (permissionOf x)) (small-backing (backingOf x)))
+    small-first (namingRefusal (namingOf x)) (firstOf (permissionRefusal (permissionOf x)) (backingRefusal (backingOf x)))
+    (small-naming (namingOf x))
+    (small-first (permissionRefusal (permissionOf x)) (backingRefusal (backingOf x)) (small-permission (permissionOf x))
+    (small-backing (backingOf x)))

@@ -11,10 +11,10 @@ use Rattle.ticket.specs.Form.{mostOrder}
 use Rattle.ticket.specs.declared.Fields.{Fields}
 use Rattle.ticket.specs.declared.kinds.Kind.{Kind}
 use Rattle.ticket.specs.declared.kinds.Kind.the-variants as kind
-use Rattle.ticket.proofs.Telling.{Tells}
-use Rattle.report.specs.Layout.{reportsOf, Fitting, AllFitting}
+use Rattle.ticket.proofs.TicketTelling.{Tells}
+use Rattle.report.specs.ReportLayout.{reportsOf, FittingReport, AllFitting}
 use Rattle.report.specs.declared.Report.{Report}
-use Rattle.report.proofs.Laws.{laid-reads-back}
+use Rattle.report.proofs.ReportLaws.{laid-reads-back}
 use Rattle.dayfile.specs.Roster.{participantOf}
 use Rattle.dayfile.specs.Guarantee.{OpeningWithin}
 use Rattle.dayfile.specs.declared.roster.Opening.{Opening}
@@ -24,7 +24,7 @@ use Rattle.rules.specs.Tell.{tellOrder, tellCut, listed}
 use Rattle.rules.specs.Tick.{Step, due, expireTold, sweepTo, atTime, tick}
 use Rattle.rules.specs.Find.{finding}
 use Rattle.rules.specs.Cut.{cutReport, cutReportsTo}
-use Rattle.rules.specs.Decision.{toPayer, toPayee, settledTold, settledAnswer, answerOf, decisionOf, toldBy}
+use Rattle.rules.specs.Decision.{toPayer, toPayee, settledTold, settledAnswer, inquiryAnswer, decisionOf, toldBy}
 use Rattle.rules.specs.Step.{stepOf, handed, outcome}
 use Rattle.rules.specs.Sound.{Sound}
 use Rattle.rules.specs.declared.finding.Finding.{Finding}
@@ -35,12 +35,12 @@ use Rattle.rules.specs.declared.Status.{Status}
 use Rattle.rules.specs.declared.Status.the-variants as status
 use Rattle.rules.specs.declared.Order.{Order}
 use Rattle.rules.specs.declared.Book.{Book}
-use Rattle.rules.proofs.Limits.{available-limited, participant-below, order-below}
+use Rattle.rules.proofs.SoundLimits.{available-limited, participant-below, order-below}
 use Rattle.rules.proofs.Refusing.{NoRefusal}
 use Rattle.rules.proofs.Accepting.{fieldsOf}
 use Rattle.rules.proofs.Accepting as accepting
-use Rattle.rules.proofs.Keeping.{later-sound}
-use Rattle.rules.proofs.Sweeping.{Swept, swept, ticked}
+use Rattle.rules.proofs.SoundKeeping.{later-sound}
+use Rattle.rules.proofs.SweepSound.{Swept, swept, tick-swept}
 use Rattle.rules.proofs.Courses.{step-goes, handed-goes}
 
 -- reports that fit, and at most so many of them
@@ -52,17 +52,20 @@ pub fitting-append : (rs ts : List Report) → AllFitting rs → AllFitting ts �
 fitting-append [] ts a b = b
 fitting-append (r ∷ rs) ts a b = (a .0, fitting-append rs ts (a .1) b)
 
-pub few-append : (m n : ℕ) (rs ts : List Report) → Few m rs → Few n ts → Few (m + n) (rs ++ ts)
+few-append : (m n : ℕ) (rs ts : List Report) → Few m rs → Few n ts → Few (m + n) (rs ++ ts)
 few-append m n rs ts a b =
-    record { fit = fitting-append rs ts (a .fit) (b .fit); few = rw (length-append rs ts) (let x = a .few in let y = b .few in omega arith) }
+    record {
+      fit = fitting-append rs ts (a .fit) (b .fit);
+      few = rw (length-append rs ts) (let x = a .few in let y = b .few in omega arith);
+    }
 
 few-none : (n : ℕ) → Few n []
 few-none n = record { fit = tt; few = omega arith }
 
-few-one : (n : ℕ) (r : Report) → Fitting r → Few (1 + n) (r ∷ [])
+few-one : (n : ℕ) (r : Report) → FittingReport r → Few (1 + n) (r ∷ [])
 few-one n r f = record { fit = (f, tt); few = omega arith }
 
-few-two : (n : ℕ) (r q : Report) → Fitting r → Fitting q → Few (2 + n) (r ∷ q ∷ [])
+few-two : (n : ℕ) (r q : Report) → FittingReport r → FittingReport q → Few (2 + n) (r ∷ q ∷ [])
 few-two n r q f g = record { fit = (f, (g, tt)); few = omega arith }
 
 few-more : (m n : ℕ) (rs : List Report) → m ≤ n → Few m rs → Few n rs
@@ -70,17 +73,19 @@ few-more m n rs l a = record { fit = a .fit; few = let x = a .few in omega arith
 
 module _ (b : Book) (s : Sound b) where
   fit-order : (to code i n : ℕ) → to < b .roster .size → code < 12 → i < mostOrders → n ≤ mostOrder
-      → Fitting (record { to = to; code = code; order = i; amount = n })
+      → FittingReport (record { to = to; code = code; order = i; amount = n })
   fit-order to code i n h c l m =
       record { to = let x = participant-below b s to h in omega arith; code = omega arith; order = omega arith; amount = omega arith }
 
-  fit-cut : (p code n : ℕ) → p < b .roster .size → code < 12 → n < 256 ^ 8 → Fitting (tellCut p code n)
-  fit-cut p code n h c l = record { to = let x = participant-below b s p h in omega arith; code = omega arith; order = omega arith; amount = l }
+  fit-cut : (p code n : ℕ) → p < b .roster .size → code < 12 → n < 256 ^ 8 → FittingReport (tellCut p code n)
+  fit-cut p code n h c l =
+      record { to = let x = participant-below b s p h in omega arith; code = omega arith; order = omega arith; amount = l }
 
 -- the expiries: two for each order
 pub swept-few : (b : Book) → Sound b → (i : ℕ) → i ≤ b .count → Few (i + i) (sweepTo b i .reports)
 swept-few b s zero h = few-none 0
-swept-few b s (suc i) h = go (swept b s i (omega arith)) (swept-few b s i (omega arith)) (due (w .book .clock) o (isBank (w .book .roster) (o .payee)))
+swept-few b s (suc i) h =
+    go (swept b s i (omega arith)) (swept-few b s i (omega arith)) (due (w .book .clock) o (isBank (w .book .roster) (o .payee)))
   where
     w : Step
     w = sweepTo b i
@@ -104,7 +109,8 @@ swept-few b s (suc i) h = go (swept b s i (omega arith)) (swept-few b s i (omega
 ticked-few : (b : Book) → Sound b → (time : ℕ) → b .clock ≤ time → Few 512 (tick b time .reports)
 unfolding tick
 ticked-few b s time l =
-    few-more (b .count + b .count) 512 _ (let c = s .orders .count in omega arith) (swept-few (atTime b time) (later-sound b s time l) (b .count) (omega arith))
+    few-more (b .count + b .count) 512 _ (let c = s .orders .count in omega arith)
+    (swept-few (atTime b time) (later-sound b s time l) (b .count) (omega arith))
 
 module _ (b : Book) (s : Sound b) where
   -- the cut: at most one for each participant
@@ -120,7 +126,7 @@ module _ (b : Book) (s : Sound b) where
       go false true = few-one 0 _ (fit-cut b s p 10 (k - a) h (omega arith) (omega arith))
       go false false = few-none 1
 
-  pub cut-few : (p : ℕ) → p ≤ b .roster .size → Few p (cutReportsTo (b .roster) (b .covers) p)
+  cut-few : (p : ℕ) → p ≤ b .roster .size → Few p (cutReportsTo (b .roster) (b .covers) p)
   cut-few zero h = few-none 0
   cut-few (suc p) h =
       few-more (p + 1) (suc p) _ (omega arith)
@@ -132,13 +138,15 @@ module _ (b : Book) (s : Sound b) where
     abbrev x : Finding
     x = finding b (fieldsOf k time n) t
 
-    fit-payer : (code : ℕ) → code < 12 → Fitting (toPayer x code)
-    fit-payer code c = fit-order b s _ code (numberOf (x .order)) (x .about .amount) (s .orders .payer _ h) c (order-below b s _ h) (s .orders .most _ h)
+    fit-payer : (code : ℕ) → code < 12 → FittingReport (toPayer x code)
+    fit-payer code c =
+        fit-order b s _ code (numberOf (x .order)) (x .about .amount) (s .orders .payer _ h) c (order-below b s _ h) (s .orders .most _ h)
 
-    fit-payee : (code : ℕ) → code < 12 → Fitting (toPayee x code)
-    fit-payee code c = fit-order b s _ code (numberOf (x .order)) (x .about .amount) (s .orders .payee _ h) c (order-below b s _ h) (s .orders .most _ h)
+    fit-payee : (code : ℕ) → code < 12 → FittingReport (toPayee x code)
+    fit-payee code c =
+        fit-order b s _ code (numberOf (x .order)) (x .about .amount) (s .orders .payee _ h) c (order-below b s _ h) (s .orders .most _ h)
 
-    pub settled-few : Few 32 (listed (settledTold x))
+    settled-few : Few 32 (listed (settledTold x))
     settled-few = go (x .bank)
       where
         go : (z : Bool) → Few 32 (listed (cond z (Two (toPayer x 2) (toPayee x 2)) (One (toPayer x 2))))
@@ -150,7 +158,7 @@ module _ (b : Book) (s : Sound b) where
     settled-answer-few mark.Asked = few-two 30 _ _ (fit-payer 2 (omega arith)) (fit-payee 8 (omega arith))
     settled-answer-few mark.Declined = few-two 30 _ _ (fit-payer 2 (omega arith)) (fit-payer 7 (omega arith))
 
-    pub answer-few : (u : Status) → Few 32 (listed (answerOf x u))
+    answer-few : (u : Status) → Few 32 (listed (inquiryAnswer x u))
     answer-few status.Waiting = go (x .bank)
       where
         go : (z : Bool) → Few 32 (cond z (toPayer x 9) (toPayee x 8) ∷ [])
@@ -161,31 +169,37 @@ module _ (b : Book) (s : Sound b) where
     answer-few status.Returned = few-one 31 _ (fit-payer 6 (omega arith))
     answer-few (status.Settled m) = settled-answer-few m
 
-    pub payer-few : (code : ℕ) → code < 12 → Few 32 (toPayer x code ∷ [])
+    payer-few : (code : ℕ) → code < 12 → Few 32 (toPayer x code ∷ [])
     payer-few code c = few-one 31 _ (fit-payer code c)
 
-    pub payee-few : (code : ℕ) → code < 12 → Few 32 (toPayee x code ∷ [])
+    payee-few : (code : ℕ) → code < 12 → Few 32 (toPayee x code ∷ [])
     payee-few code c = few-one 31 _ (fit-payee code c)
 
-    pub return-few : n ≤ mostOrder → Few 32 (listed (One (record { to = x .about .payer; code = 6; order = numberOf (x .order); amount = n })))
+    return-few : n ≤ mostOrder → Few 32 (listed (One (record { to = x .about .payer; code = 6; order = numberOf (x .order); amount = n })))
     return-few m = few-one 31 _ (fit-order b s _ 6 (numberOf (x .order)) n (s .orders .payer _ h) (omega arith) (order-below b s _ h) m)
 
   module _ (n time : ℕ) (t : List ℕ) where
     -- the ticket's own reports: at most 32
-    own-few : (k : Kind) → Tells t (fieldsOf k time n) → NoRefusal (finding b (fieldsOf k time n) t) → Few 32 (toldBy b (decisionOf (finding b (fieldsOf k time n) t)))
+    own-few : (k : Kind) → Tells t (fieldsOf k time n) → NoRefusal (finding b (fieldsOf k time n) t)
+        → Few 32 (toldBy b (decisionOf (finding b (fieldsOf k time n) t)))
     own-few kind.CoverIn tells r = few-none 32
     own-few kind.CoverOut tells r = few-none 32
     own-few kind.Order tells r =
         few-one 31 _
         (fit-order b s _ 1 (b .count) n (accepting.payee-known b (fieldsOf kind.Order time n) t (s .roster) (r .r14) refl) (omega arith)
-        (accepting.room-left b (fieldsOf kind.Order time n) t (r .r15) refl) (tells .most))
+        (accepting.order-room b (fieldsOf kind.Order time n) t (r .r15) refl) (tells .most))
     own-few kind.Yes tells r = settled-few n time t kind.Yes (accepting.order-found b (fieldsOf kind.Yes time n) t (r .r16) refl .below)
-    own-few kind.No tells r = payer-few n time t kind.No (accepting.order-found b (fieldsOf kind.No time n) t (r .r16) refl .below) 3 (omega arith)
-    own-few kind.Recall tells r = payee-few n time t kind.Recall (accepting.order-found b (fieldsOf kind.Recall time n) t (r .r16) refl .below) 5 (omega arith)
-    own-few kind.Return tells r = return-few n time t kind.Return (accepting.order-found b (fieldsOf kind.Return time n) t (r .r16) refl .below) (tells .most)
-    own-few kind.Decline tells r = payer-few n time t kind.Decline (accepting.order-found b (fieldsOf kind.Decline time n) t (r .r16) refl .below) 7 (omega arith)
+    own-few kind.No tells r =
+        payer-few n time t kind.No (accepting.order-found b (fieldsOf kind.No time n) t (r .r16) refl .below) 3 (omega arith)
+    own-few kind.Recall tells r =
+        payee-few n time t kind.Recall (accepting.order-found b (fieldsOf kind.Recall time n) t (r .r16) refl .below) 5 (omega arith)
+    own-few kind.Return tells r =
+        return-few n time t kind.Return (accepting.order-found b (fieldsOf kind.Return time n) t (r .r16) refl .below) (tells .most)
+    own-few kind.Decline tells r =
+        payer-few n time t kind.Decline (accepting.order-found b (fieldsOf kind.Decline time n) t (r .r16) refl .below) 7 (omega arith)
     own-few kind.Inquiry tells r =
-        answer-few n time t kind.Inquiry (accepting.order-found b (fieldsOf kind.Inquiry time n) t (r .r16) refl .below) (accepting.theOrder b (fieldsOf kind.Inquiry time n) t .status)
+        answer-few n time t kind.Inquiry (accepting.order-found b (fieldsOf kind.Inquiry time n) t (r .r16) refl .below)
+        (accepting.theOrder b (fieldsOf kind.Inquiry time n) t .status)
     own-few kind.Cut tells r = few-more (b .roster .size) 32 _ (s .roster .size) (cut-few (b .roster .size) (omega arith))
     own-few kind.Confirm tells r = few-none 32
     own-few kind.Tick tells r = few-none 32
@@ -199,7 +213,7 @@ module _ (b : Book) (s : Sound b) (t : List ℕ) where
       → Few 544 (tick b (f .time) .reports ++ toldBy (tick b (f .time) .book) (decisionOf (finding (tick b (f .time) .book) f t)))
   taken-few f tells l none =
       few-append 512 32 (tick b (f .time) .reports) _ (ticked-few b s (f .time) l)
-      (own-few (tick b (f .time) .book) (ticked b s (f .time) l .sound) (f .amount) (f .time) t (f .kind) tells none)
+      (own-few (tick b (f .time) .book) (tick-swept b s (f .time) l .sound) (f .amount) (f .time) t (f .kind) tells none)
 
   pub step-few : Few 544 (stepOf b t .reports)
   step-few = step-goes b t (λ (w : Step). Few 544 (w .reports)) (λ n low high. few-none 544) refused-few taken-few

@@ -9,7 +9,7 @@ use Prim.Native.Nat.{ℕ}
 use mathlib.Core.Bool.{Bool}
 use mathlib.Core.List.{List, []}
 use lib.ListN.{getD, replicate}
-use Rattle.dayfile.specs.Limits.{mostParticipants}
+use Rattle.dayfile.specs.FileLimits.{mostParticipants}
 use Rattle.dayfile.specs.DayFile.{dayFile}
 use Rattle.dayfile.specs.Roster.{participantOf, bankKind}
 use Rattle.dayfile.specs.declared.roster.Roster.{Roster}

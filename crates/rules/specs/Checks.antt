@@ -188,6 +188,6 @@ brings Debit = true
 abbrev pub limitCheck : Move → ℕ → ℕ → Limit
 limitCheck how total n = cond (brings how && ltb mostTotal (total + n)) Above Within
 
-abbrev pub limitRefusal : Limit → ℕ
-limitRefusal Within = 0
-limitRefusal Above = 22
+abbrev pub totalRefusal : Limit → ℕ
+totalRefusal Within = 0
+totalRefusal Above = 22

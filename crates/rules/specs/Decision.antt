@@ -118,12 +118,12 @@ settledAnswer x mark.Asked = Two (toPayer x 2) (toPayee x 8)
 settledAnswer x mark.Declined = Two (toPayer x 2) (toPayer x 7)
 
 -- Waiting: 9 to payer if the payee is a bank, else 8 to payee. Refused 3, Expired 4, Returned 6, to payer
-abbrev pub answerOf : Finding → Status → Told
-answerOf x status.Waiting = One (cond (x .bank) (toPayer x 9) (toPayee x 8))
-answerOf x status.Refused = One (toPayer x 3)
-answerOf x status.Expired = One (toPayer x 4)
-answerOf x status.Returned = One (toPayer x 6)
-answerOf x (status.Settled mark) = settledAnswer x mark
+abbrev pub inquiryAnswer : Finding → Status → Told
+inquiryAnswer x status.Waiting = One (cond (x .bank) (toPayer x 9) (toPayee x 8))
+inquiryAnswer x status.Refused = One (toPayer x 3)
+inquiryAnswer x status.Expired = One (toPayer x 4)
+inquiryAnswer x status.Returned = One (toPayer x 6)
+inquiryAnswer x (status.Settled mark) = settledAnswer x mark
 
 -- Confirm: with held, a confirmed credit; with open debit, a confirmed debit
 abbrev pub confirmMove : Finding → Move
@@ -150,7 +150,7 @@ decidedFor kind.Return x =
 -- Decline of Settled, asked: declined; report 7 to payer
 decidedFor kind.Decline x = orderBecomes x (status.Settled mark.Declined) nobody nobody (One (toPayer x 7))
 -- Inquiry changes no order
-decidedFor kind.Inquiry x = orderKept x nobody false (answerOf x (x .about .status))
+decidedFor kind.Inquiry x = orderKept x nobody false (inquiryAnswer x (x .about .status))
 decidedFor kind.Cut x = orderKept x nobody true Nobody
 decidedFor kind.Confirm x = orderKept x (by (numberOf (x .sender)) (confirmMove x) (x .amount)) false Nobody
 decidedFor kind.Tick x = orderKept x nobody false Nobody

@@ -13,7 +13,7 @@ use Rattle.fields.specs.Text.{same}
 use Rattle.fields.specs.UpTo.{anyTo}
 use Rattle.fields.specs.Search.{firstTo, numberOf}
 use Rattle.fields.specs.declared.search.Found.{Found}
-use Rattle.ticket.specs.Layout.{senderOf, payeeOf, txidField}
+use Rattle.ticket.specs.TicketLayout.{senderOf, payeeOf, txidField}
 use Rattle.ticket.specs.declared.Fields.{Fields}
 use Rattle.dayfile.specs.Roster.{participantOf}
 use Rattle.dayfile.specs.Route.{rowWith, followedBic}

@@ -1,6 +1,8 @@
 -- What the clearing program prints for a day file of any bytes: 01 'Day file and program'.
---     decimal      a number in decimal, as text
---     output       the program's whole output
+--     decimal        a number in decimal, as text; it stays shut, for what it unfolds to is long
+--     numbers        numbers, each behind a space, and the end of the line; shut likewise
+--     refusalLine    the line of a refused day file
+--     output         the program's whole output
 -- Assumes nothing.
 use Prim.Native.Nat.{ℕ, zero, suc, _+_, _/_, _%_}
 use mathlib.Core.Bool.{cond}
@@ -22,11 +24,10 @@ digitsTo zero n = []
 digitsTo (suc k) n = cond (ltb n 10) [] (digitsTo k (n / 10)) ++ ((48 + n % 10) ∷ [])
 
 -- 20 digits hold every number of 64 bits
-abbrev pub decimal : ℕ → List ℕ
+unfoldable pub decimal : ℕ → List ℕ
 decimal n = digitsTo 20 n
 
--- numbers, each behind a space, and the end of the line
-abbrev pub numbers : List ℕ → List ℕ
+unfoldable pub numbers : List ℕ → List ℕ
 numbers [] = text "\n"
 numbers (n ∷ ns) = text " " ++ decimal n ++ numbers ns
 
@@ -58,12 +59,16 @@ ticketsFrom file k (suc n) = ticketAt file k ∷ ticketsFrom file (suc k) n
 abbrev pub dayLines : Book → List Step → List ℕ
 dayLines b ss = let c = bookAfter b ss in linesFrom 0 ss ++ coverLines c (c .roster .size)
 
--- a refused file prints "F refusal" alone
+-- "F refusal"
+abbrev pub refusalLine : ℕ → List ℕ
+refusalLine n = text "F" ++ numbers (n ∷ [])
+
+-- a refused file prints that alone
 abbrev pub outputOf : List ℕ → DayFile → List ℕ
 outputOf file d =
     cond (eqb (d .refusal) 0)
     (dayLines (bookOf file) (stepsOf (bookOf file) (ticketsFrom file 0 (d .tickets))))
-    (text "F" ++ numbers (d .refusal ∷ []))
+    (refusalLine (d .refusal))
 
 unfoldable pub output : List ℕ → List ℕ
 output file = outputOf file (dayFile file)

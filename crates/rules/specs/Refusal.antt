@@ -117,7 +117,7 @@ abbrev pub confirms : Cover → ℕ → Bool
 confirms c n = cond (eqb (c .held) 0) (not (eqb (c .debit) 0) && leb n (c .debit)) (eqb n (c .held))
 
 -- 21. Cut with held or open debit anywhere; confirm with neither, or an amount its rule excludes
-abbrev pub againstCut : Flow → Finding → Bool
+abbrev againstCut : Flow → Finding → Bool
 againstCut flow.Nothing x = false
 againstCut flow.Brings x = false
 againstCut flow.Draws x = false
@@ -128,16 +128,16 @@ abbrev pub refusal21 : Finding → Bool
 refusal21 x = againstCut (termsOf (x .kind) .flow) x
 
 -- a cover in, or a confirmed debit: a confirm with nothing held
-abbrev pub brings : Flow → Cover → Bool
-brings flow.Nothing c = false
-brings flow.Brings c = true
-brings flow.Draws c = false
-brings flow.Cuts c = false
-brings flow.Confirms c = eqb (c .held) 0
+abbrev pub bringsCover : Flow → Cover → Bool
+bringsCover flow.Nothing c = false
+bringsCover flow.Brings c = true
+bringsCover flow.Draws c = false
+bringsCover flow.Cuts c = false
+bringsCover flow.Confirms c = eqb (c .held) 0
 
 -- 22. Cover in or confirmed debit taking available + reserved + held of all above 10^18
 abbrev pub refusal22 : Finding → Bool
-refusal22 x = brings (termsOf (x .kind) .flow) (x .cover) && ltb mostTotal (x .total + x .amount)
+refusal22 x = bringsCover (termsOf (x .kind) .flow) (x .cover) && ltb mostTotal (x .total + x .amount)
 
 abbrev pub backingOf : Finding → Backing
 backingOf x = cond (refusal20 x) TooLittle (cond (refusal21 x) NotAsCut (cond (refusal22 x) AboveLimit Backed))

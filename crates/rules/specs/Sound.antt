@@ -18,7 +18,7 @@ use Rattle.codes.specs.Txid.{isTxid}
 use Rattle.fields.specs.Text.{same, unpadded}
 use Rattle.fields.specs.UpTo.{sumTo}
 use Rattle.ticket.specs.Form.{mostOrder}
-use Rattle.dayfile.specs.Limits.{mostParticipants}
+use Rattle.dayfile.specs.FileLimits.{mostParticipants}
 use Rattle.dayfile.specs.Guarantee.{Guaranteed}
 use Rattle.rules.specs.Book.{mostOrders, noCover, unusedOrder, orderOf, coverOf}
 use Rattle.rules.specs.Status.{isWaiting}

@@ -11,11 +11,11 @@ use mathlib.Core.Bool.{cond}
 use mathlib.Core.List.{List, [], _∷_, _++_}
 use lib.Dec.{eqb}
 use lib.ListN.{length}
-use Rattle.ticket.specs.Reading.{reading}
+use Rattle.ticket.specs.TicketReading.{reading}
 use Rattle.ticket.specs.declared.Fields.{Fields}
 use Rattle.ticket.specs.declared.Reading.{Reading}
 use Rattle.ticket.specs.declared.Reading.the-variants.{Read, Refused}
-use Rattle.report.specs.Layout.{laid}
+use Rattle.report.specs.ReportLayout.{laid}
 use Rattle.rules.specs.Tick.{Step, tick}
 use Rattle.rules.specs.Find.{finding}
 use Rattle.rules.specs.Refusal.{bufferOf, bufferRefusal, timingOf, timingRefusal, firstRefusal}
@@ -44,7 +44,7 @@ accepted w d = record { refusal = 0; reports = w .reports ++ toldBy (w .book) d;
 abbrev pub refusedOr : ℕ → Step → Finding → Step
 refusedOr n w x = cond (eqb n 0) (accepted w (decisionOf x)) (ticked w n)
 
-abbrev pub decided : Step → Finding → Step
+abbrev decided : Step → Finding → Step
 decided w x = refusedOr (firstRefusal x) w x
 
 abbrev pub afterTick : Step → Fields → List ℕ → Step

@@ -1,8 +1,8 @@
 -- What each kind of ticket asks for, as one table. Each refusal reads one column of it.
---     termsOf      of each kind
---     namesSender, opensOrder, namesOrder      what a subject is
---     partyOf      the participant that answers for an order
---     meets        a status is as a step needs it
+--     termsOf                                of each kind
+--     namesSender, opensOrder, namesOrder    what a subject is
+--     partyOf                                the participant that answers for an order
+--     meets                                  a status is as a step needs it
 -- Assumes nothing.
 use Prim.Native.Nat.{ℕ}
 use mathlib.Core.Bool.{Bool, true, false}
@@ -22,11 +22,11 @@ use Rattle.rules.specs.declared.Status.{Status}
 use Rattle.rules.specs.declared.Order.{Order}
 
 -- a ticket about an order that is held: who answers, and the status that it needs
-abbrev pub aboutTerms : Party → Needs → Terms
+abbrev aboutTerms : Party → Needs → Terms
 aboutTerms party status = record { subject = names.HeldOrder; party = party; needs = status; whole = false; flow = flow.Nothing }
 
 -- a ticket about cover
-abbrev pub coverTerms : Subject → Flow → Terms
+abbrev coverTerms : Subject → Flow → Terms
 coverTerms subject does = record { subject = subject; party = by.Anyone; needs = needs.Anything; whole = false; flow = does }
 
 -- 01: payer answers for kinds 5 and 8, payee for 4, 6, 7; the steps say what status they need

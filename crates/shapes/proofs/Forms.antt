@@ -12,7 +12,7 @@ use Rattle.fields.specs.Text.{blank}
 use Rattle.fields.proofs.Zeros.{blank-join}
 use Rattle.codes.specs.Bic.{isBic}
 use Rattle.codes.specs.Txid.{isTxid}
-use Rattle.ticket.specs.Layout as layout
+use Rattle.ticket.specs.TicketLayout as layout
 use Rattle.ticket.specs.Form.{formOf}
 use Rattle.ticket.specs.Shape.{wellFormed, shapeOf, accountOf}
 use Rattle.ticket.specs.declared.kinds.Kind.{Kind}
@@ -73,7 +73,8 @@ nothing-formed k t = go k
     form =
         in-nothing (blank (layout.spareField t)) (blank (layout.amountField t)) (blank (layout.senderOf t)) (blank (layout.payeeOf t))
         (blank (layout.txidField t)) (blank (layout.ibanField t)) (blank (layout.lastField t))
-        ∙ ap (_&&_ (blank (layout.spareField t))) (sym (from-amount t ∙ ap (_&&_ (blank (layout.amountField t) && blank (layout.senderOf t))) (from-payee t)))
+        ∙ ap (_&&_ (blank (layout.spareField t)))
+        (sym (from-amount t ∙ ap (_&&_ (blank (layout.amountField t) && blank (layout.senderOf t))) (from-payee t)))
 
     go : (k : Kind) → termsOf k .subject ≡ Nothing → wellFormed (formOf k) t ≡ (blank (layout.spareField t) && blank (part 100 8 t))
     go kind.CoverIn e = differ cc
@@ -124,13 +125,16 @@ pub about-formed : (k : Kind) (t : List ℕ) → termsOf k .subject ≡ HeldOrde
     && isTxid (layout.txidOf t) && (blank (part 11 27 t) && blank (part 35 73 t)))
 about-formed k t = go k
   where
-    form : (n : Bool) → (blank (layout.spareField t) && n && isBic (layout.senderOf t) && blank (layout.payeeOf t) && isTxid (layout.txidOf t)
+    form : (n : Bool)
+        → (blank (layout.spareField t) && n && isBic (layout.senderOf t) && blank (layout.payeeOf t) && isTxid (layout.txidOf t)
         && blank (layout.ibanField t) && blank (layout.lastField t))
-        ≡ (blank (layout.spareField t) && n && isBic (layout.senderOf t) && isTxid (layout.txidOf t) && (blank (part 11 27 t) && blank (part 35 73 t)))
+        ≡ (blank (layout.spareField t) && n && isBic (layout.senderOf t) && isTxid (layout.txidOf t)
+        && (blank (part 11 27 t) && blank (part 35 73 t)))
     form n =
         in-about (blank (layout.spareField t) && n && isBic (layout.senderOf t)) (blank (layout.payeeOf t)) (isTxid (layout.txidOf t))
         (blank (layout.ibanField t)) (blank (layout.lastField t))
-        ∙ ap (λ (z : Bool). blank (layout.spareField t) && n && isBic (layout.senderOf t) && isTxid (layout.txidOf t) && (blank (part 11 27 t) && z))
+        ∙ ap (λ (z : Bool). blank (layout.spareField t) && n && isBic (layout.senderOf t) && isTxid (layout.txidOf t)
+        && (blank (part 11 27 t) && z))
         (sym (from-iban t))
 
     go : (k : Kind) → termsOf k .subject ≡ HeldOrder
@@ -153,9 +157,11 @@ about-formed k t = go k
 -- .. a new order
 pub order-formed : (t : List ℕ)
     → wellFormed (formOf kind.Order) t
-    ≡ (blank (layout.spareField t) && isBic (layout.senderOf t) && isBic (layout.payeeOf t) && isTxid (layout.txidOf t) && blank (layout.lastField t))
+    ≡ (blank (layout.spareField t) && isBic (layout.senderOf t) && isBic (layout.payeeOf t) && isTxid (layout.txidOf t)
+    && blank (layout.lastField t))
 order-formed t =
-    in-order (blank (layout.spareField t)) (isBic (layout.senderOf t)) (isBic (layout.payeeOf t)) (isTxid (layout.txidOf t)) (blank (layout.lastField t))
+    in-order (blank (layout.spareField t)) (isBic (layout.senderOf t)) (isBic (layout.payeeOf t)) (isTxid (layout.txidOf t))
+    (blank (layout.lastField t))
 
 pub only-order : (k : Kind) → termsOf k .subject ≡ NewOrder → k ≡ kind.Order
 only-order kind.CoverIn e = differ cc

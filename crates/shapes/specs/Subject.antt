@@ -13,7 +13,7 @@ use Rattle.fields.specs.Search.{isFound}
 use Rattle.fields.specs.declared.search.Found.{Found}
 use Rattle.codes.specs.Bic.{isBic}
 use Rattle.codes.specs.Txid.{isTxid}
-use Rattle.ticket.specs.Layout.{ticketLength, kindByte, flagByte}
+use Rattle.ticket.specs.TicketLayout.{ticketLength, kindByte, flagByte}
 use Rattle.ticket.specs.Kind.{kinded}
 use Rattle.ticket.specs.declared.kinds.Kind.{Kind}
 use Rattle.ticket.specs.declared.kinds.Kinded.the-variants.{As}

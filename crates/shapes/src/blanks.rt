@@ -8,7 +8,7 @@ ghost use Prim.Native.Nat.{_+_, _≤_};
 ghost use lib.ListN.{length};
 ghost use Rattle.fields.specs.Number.{part};
 ghost use Rattle.fields.specs.Text.{blank};
-ghost use Rattle.ticket.specs.Layout.{ticketLength};
+ghost use Rattle.ticket.specs.TicketLayout.{ticketLength};
 ghost use Rattle.shapes.specs.Blank.{fourAre};
 
 // Four words one behind the other: 32 bytes.

@@ -6,7 +6,7 @@ ghost use mathlib.Core.Path.{_≡_};
 ghost use lib.ListN.{length};
 ghost use Rattle.codes.specs.Bic.{isBic};
 ghost use Rattle.codes.specs.Txid.{isTxid};
-ghost use Rattle.ticket.specs.Layout.{ticketLength, senderOf, payeeOf, txidField, txidOf};
+ghost use Rattle.ticket.specs.TicketLayout.{ticketLength, senderOf, payeeOf, txidField, txidOf};
 ghost use Rattle.shapes.specs.Subject.{KnownBic, KnownTxid};
 
 pub fn sender(found: Found, t: &[u8]) -> bool

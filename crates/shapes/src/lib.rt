@@ -14,7 +14,7 @@ use ticket::shapes::Shape;
 ghost use mathlib.Core.Path.{_≡_};
 ghost use mathlib.Core.Bool.{cond};
 ghost use lib.ListN.{length};
-ghost use Rattle.ticket.specs.Layout.{ticketLength, senderOf, payeeOf, txidField};
+ghost use Rattle.ticket.specs.TicketLayout.{ticketLength, senderOf, payeeOf, txidField};
 ghost use Rattle.ticket.specs.Form.{formOf};
 ghost use Rattle.ticket.specs.Shape.{shapeOf, accountOf};
 ghost use Rattle.shapes.specs.Subject.{TicketNaming, KnownBic, KnownTxid};

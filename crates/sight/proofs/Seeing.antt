@@ -4,31 +4,30 @@ use mathlib.Core.Bool.{Bool, true, false, cond}
 use mathlib.Core.List.{List}
 use Prim.Native.Nat.{ℕ, _<_}
 use native.Mathlib.Omega.{arith}
-use borrow.Author.Tests.{eqb-true, eqb-false}
+use borrow.Author.Tests.{eqb-false}
 use lib.Dec.{ltb, eqb}
 use Rattle.fields.specs.declared.search.Found.{Found}
-use Rattle.ticket.specs.Layout.{kindByte, flagByte, amountOf, timeOf}
+use Rattle.ticket.specs.TicketLayout.{kindByte, flagByte, amountOf, timeOf}
 use Rattle.ticket.specs.Kind.{kinded}
 use Rattle.ticket.specs.Form.{formOf}
 use Rattle.ticket.specs.Shape.{shapeOf, accountOf}
 use Rattle.ticket.specs.Amount.{statedIn}
-use Rattle.ticket.specs.Reading.{readAccount, readStated}
+use Rattle.ticket.specs.TicketReading.{readAccount, readStated}
 use Rattle.ticket.specs.declared.Reading.{Reading}
 use Rattle.ticket.specs.declared.kinds.Kind.{Kind}
 use Rattle.ticket.specs.declared.kinds.Kinded.the-variants.{Unknown}
 use Rattle.ticket.specs.declared.shapes.Shape.the-variants.{Formed, Malformed}
 use Rattle.ticket.specs.declared.shapes.Account.the-variants.{Named, Wrong}
-use Rattle.ticket.proofs.Laws.{read-malformed, read-formed, read-named}
+use Rattle.ticket.proofs.CheckLaws.{read-malformed, read-formed, read-named}
 use Rattle.ticket.proofs.Refusals.{unknown-refused}
 use Rattle.rules.specs.Terms.{termsOf, namesSender, opensOrder}
 use Rattle.rules.specs.declared.terms.Subject.{Subject}
-use Rattle.intake.specs.Entry.{readEntry, entryOf}
-use Rattle.intake.specs.Seeking.{if, seeksOrder}
+use Rattle.course.specs.Entry.{readEntry, entryOf}
+use Rattle.course.specs.Seeking.{if, seeksOrder}
 use Rattle.sight.specs.Sight.{seenAs, sightAs, sightOf}
 use Rattle.shapes.specs.Amounts.{amountsOf}
 use Rattle.shapes.specs.Subject.{TicketNaming}
 use Rattle.sight.specs.Value.{valueSight}
-use Rattle.sight.specs.declared.Seen.{Seen}
 use Rattle.sight.specs.declared.Sight.{Sight}
 use Rattle.sight.specs.declared.Sight.the-variants.{Read, Refused}
 use Rattle.shapes.proofs.Forms.{formed-kind, no-account}
@@ -62,7 +61,8 @@ module _ (clock : ℕ) (t : List ℕ) (sender order route : Found) where
       ap sight-read (read-named t k e n)
       ∙ go (ltb (amountOf t) (formOf k .least)) refl (ltb (formOf k .most) (amountOf t)) refl (ltb (timeOf t) clock) refl
     where
-      go : (a : Bool) → ltb (amountOf t) (formOf k .least) ≡ a → (b : Bool) → ltb (formOf k .most) (amountOf t) ≡ b → (c : Bool) → ltb (timeOf t) clock ≡ c
+      go : (a : Bool) → ltb (amountOf t) (formOf k .least) ≡ a → (b : Bool) → ltb (formOf k .most) (amountOf t) ≡ b → (c : Bool)
+          → ltb (timeOf t) clock ≡ c
           → sight-read (readStated k t (statedIn (formOf k) t)) ≡ asked k (termsOf k .subject)
       go true a b x c y = simp a
       go false a true b c y = simp (a, b)
@@ -76,27 +76,10 @@ module _ (clock : ℕ) (t : List ℕ) (sender order route : Found) where
       sight-named k (formed-kind s k t n j e) (no-account k t (ap opensOrder (n .names) ∙ opens))
       ∙ ap (asked k) (n .names)
 
--- what it tells of the entry
-pub record Saw (clock : ℕ) (t : List ℕ) (sender order route : Found) (seen : Seen) : Type 0 where
-  pub passes : entryOf clock t .refusal ≡ 0
-  pub is : seen ≡ seenAs (entryOf clock t) sender order route
-
 module _ (clock : ℕ) (t : List ℕ) (sender order route : Found) where
   -- by the test of its refusal
   abbrev tested : Bool → Sight
   tested b = cond b (Read (seenAs (entryOf clock t) sender order route)) (Refused (entryOf clock t .refusal))
-
-  pub saw : (seen : Seen) → sightOf clock t sender order route ≡ Read seen → Saw clock t sender order route seen
-  saw seen e = go (eqb (entryOf clock t .refusal) 0) refl
-    where
-      go : (b : Bool) → eqb (entryOf clock t .refusal) 0 ≡ b → Saw clock t sender order route seen
-      go true q =
-          let e′ : _≡_ {A = Sight} (Read (seenAs (entryOf clock t) sender order route)) (Read seen) = sym (ap tested q) ∙ e in
-          record { passes = eqb-true (entryOf clock t .refusal) 0 q; is = cc }
-      go false q =
-          let e′ : _≡_ {A = Sight} (Refused (entryOf clock t .refusal)) (Read seen) = sym (ap tested q) ∙ e in
-          let z : _≡_ {A = ℕ} 0 1 = cc in
-          absurd (omega arith)
 
   pub refused : (n : ℕ) → sightOf clock t sender order route ≡ Refused n → (entryOf clock t .refusal ≡ n) × (0 < n)
   refused n e = go (eqb (entryOf clock t .refusal) 0) refl

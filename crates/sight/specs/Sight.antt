@@ -11,9 +11,9 @@ use mathlib.Core.List.{List}
 use lib.Dec.{eqb}
 use Rattle.fields.specs.declared.search.Found.{Found}
 use Rattle.rules.specs.Terms.{termsOf, namesSender, opensOrder}
-use Rattle.intake.specs.Entry.{entryOf}
-use Rattle.intake.specs.Seeking.{if, seeksOrder}
-use Rattle.intake.specs.declared.Entry.{Entry}
+use Rattle.course.specs.Entry.{entryOf}
+use Rattle.course.specs.Seeking.{if, seeksOrder}
+use Rattle.course.specs.declared.Entry.{Entry}
 use Rattle.sight.specs.declared.Seen.{Seen}
 use Rattle.sight.specs.declared.Sight.{Sight}
 use Rattle.sight.specs.declared.Sight.the-variants.{Read, Refused}

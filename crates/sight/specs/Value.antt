@@ -1,6 +1,6 @@
 -- Refusals 9 to 11: amount and time, the same for every kind.
 --     statedBy        9: the amount, or Zero
---     amountIn        the amount that was found
+--     statedAmount    the amount that was found
 --     limitBy         10: Within, or Above
 --     valueRefusal    the first of 9 to 11 that applies, 0 if none does
 --     valueSight      refused by that, or what is seen
@@ -11,8 +11,8 @@ use mathlib.Core.Bool.{cond}
 use mathlib.Core.List.{List}
 use lib.Dec.{ltb}
 use Rattle.fields.specs.declared.search.Found.{Found}
-use Rattle.ticket.specs.Layout.{amountOf, timeOf}
-use Rattle.ticket.specs.Refusal.{statedRefusal, limitRefusal}
+use Rattle.ticket.specs.TicketLayout.{amountOf, timeOf}
+use Rattle.ticket.specs.TicketRefusal.{statedRefusal, amountLimitRefusal}
 use Rattle.ticket.specs.declared.kinds.Kind.{Kind}
 use Rattle.ticket.specs.declared.amounts.Stated.{Stated}
 use Rattle.ticket.specs.declared.amounts.Stated.the-variants.{Amount, Zero}
@@ -31,18 +31,18 @@ use Rattle.sight.specs.declared.subjects.Formed.the-variants as formed
 abbrev pub statedBy : Amounts → List ℕ → Stated
 statedBy amounts t = cond (ltb (amountOf t) (amounts .least)) Zero (Amount (amountOf t))
 
-abbrev pub amountIn : Stated → ℕ
-amountIn (Amount n) = n
-amountIn Zero = 0
+abbrev statedAmount : Stated → ℕ
+statedAmount (Amount n) = n
+statedAmount Zero = 0
 
 -- 10. Amount above its kind's limit
 abbrev pub limitBy : Amounts → ℕ → Limit
 limitBy amounts n = cond (ltb (amounts .most) n) Above Within
 
-abbrev pub valueRefusal : ℕ → List ℕ → Amounts → ℕ
+abbrev valueRefusal : ℕ → List ℕ → Amounts → ℕ
 valueRefusal clock t amounts =
     firstOf (statedRefusal (statedBy amounts t))
-    (firstOf (limitRefusal (limitBy amounts (amountIn (statedBy amounts t))))
+    (firstOf (amountLimitRefusal (limitBy amounts (statedAmount (statedBy amounts t))))
     (timingRefusal (timingOf clock (timeOf t))))
 
 abbrev pub valueSight : ℕ → List ℕ → Kind → Found → Found → Found → Sight
@@ -51,7 +51,7 @@ valueSight clock t kind sender order route =
     (record {
       kind = kind;
       time = timeOf t;
-      amount = amountIn (statedBy (amountsOf kind) t);
+      amount = statedAmount (statedBy (amountsOf kind) t);
       sender = sender;
       order = order;
       route = route;

@@ -14,8 +14,8 @@ use ticket::layout;
 ghost use mathlib.Core.Path.{_≡_};
 ghost use lib.ListN.{length};
 ghost use Rattle.fields.specs.Rows.{firstRow};
-ghost use Rattle.ticket.specs.Layout.{ticketLength, senderOf, payeeOf, txidField};
-ghost use Rattle.index.specs.Lent.{BicRows, TxidRows};
+ghost use Rattle.ticket.specs.TicketLayout.{ticketLength, senderOf, payeeOf, txidField};
+ghost use Rattle.index.specs.LentRows.{BicRows, TxidRows};
 ghost use Rattle.index.specs.Words.{bicWords, txidWords};
 ghost use Rattle.sight.specs.Sight.{sightOf, sightRefusal};
 
@@ -34,7 +34,7 @@ pub enum Sight {
     Refused(u8),
 }
 
-// Of a ticket of 108 bytes. Lent are the chains and rows of `size` participants, `count` orders and `rows` route rows.
+// Of a ticket of 108 bytes. Lent are the chains and rows of `size` participants, `count` orders and `route_rows` route rows.
 pub fn see(
     clock: u32,
     t: &[u8],
@@ -49,18 +49,19 @@ pub fn see(
     route_heads: &[u16],
     route_links: &[u16],
     routes: &[u64],
-    rows: usize,
+    route_rows: usize,
 ) -> Sight
     requires { ⌜
         (length (now t) ≡ ticketLength) × BicRows size (now bics) (now «bic_heads») (now «bic_links»)
-        × TxidRows count (now txids) (now «txid_heads») (now «txid_links») × BicRows rows (now routes) (now «route_heads») (now «route_links»)
+        × TxidRows count (now txids) (now «txid_heads») (now «txid_links»)
+        × BicRows «route_rows» (now routes) (now «route_heads») (now «route_links»)
         ⌝ }
     ensures { λ r.
         ⌜
         r ≡ sightOf clock (now (t .entry))
         (firstRow 2 size (bicWords (senderOf (now (t .entry)))) (now (bics .entry)))
         (firstRow 5 count (txidWords (txidField (now (t .entry)))) (now (txids .entry)))
-        (firstRow 2 rows (bicWords (payeeOf (now (t .entry)))) (now (routes .entry)))
+        (firstRow 2 «route_rows» (bicWords (payeeOf (now (t .entry)))) (now (routes .entry)))
         ⌝ }
 {
     let Kinded::As(kind) = kinds::kind_of(t[layout::KIND], t[layout::FLAG]) else {
@@ -80,7 +81,7 @@ pub fn see(
         route_heads,
         route_links,
         routes,
-        rows,
+        route_rows,
     );
     match formed {
         Formed::With(sender, order, route) => values::valued(clock, t, kind, sender, order, route),

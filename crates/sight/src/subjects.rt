@@ -13,10 +13,10 @@ ghost use mathlib.Core.Path.{_≡_};
 ghost use Prim.Native.Nat.{ℕ};
 ghost use lib.ListN.{length};
 ghost use Rattle.fields.specs.Rows.{firstRow};
-ghost use Rattle.ticket.specs.Layout.{ticketLength, kindByte, flagByte, senderOf, payeeOf, txidField};
+ghost use Rattle.ticket.specs.TicketLayout.{ticketLength, kindByte, flagByte, senderOf, payeeOf, txidField};
 ghost use Rattle.ticket.specs.Kind.{kinded};
 ghost use Rattle.rules.specs.Terms.{termsOf};
-ghost use Rattle.index.specs.Lent.{BicRows, TxidRows};
+ghost use Rattle.index.specs.LentRows.{BicRows, TxidRows};
 ghost use Rattle.index.specs.Words.{bicWords, txidWords};
 ghost use Rattle.sight.specs.Sight.{sightOf};
 ghost use Rattle.sight.specs.Value.{formedSight};
@@ -130,12 +130,13 @@ pub fn formed_of(
     route_heads: &[u16],
     route_links: &[u16],
     routes: &[u64],
-    rows: usize,
+    route_rows: usize,
 ) -> Formed
     requires { ⌜
         (length (now t) ≡ ticketLength) × (kinded (kindByte (now t)) (flagByte (now t)) ≡ Kinded.As kind)
         × BicRows size (now bics) (now «bic_heads») (now «bic_links»)
-        × TxidRows count (now txids) (now «txid_heads») (now «txid_links») × BicRows rows (now routes) (now «route_heads») (now «route_links»)
+        × TxidRows count (now txids) (now «txid_heads») (now «txid_links»)
+        × BicRows «route_rows» (now routes) (now «route_heads») (now «route_links»)
         ⌝ }
     ensures { λ r.
         ⌜
@@ -144,7 +145,7 @@ pub fn formed_of(
         ≡ sightOf clock (now (t .entry))
         (firstRow 2 size (bicWords (senderOf (now (t .entry)))) (now (bics .entry)))
         (firstRow 5 count (txidWords (txidField (now (t .entry)))) (now (txids .entry)))
-        (firstRow 2 rows (bicWords (payeeOf (now (t .entry)))) (now (routes .entry))))
+        (firstRow 2 «route_rows» (bicWords (payeeOf (now (t .entry)))) (now (routes .entry))))
         ⌝ }
 {
     let subject = subject_of(kind);
@@ -179,7 +180,7 @@ pub fn formed_of(
                 route_heads,
                 route_links,
                 routes,
-                rows,
+                route_rows,
                 &t[layout::PAYEE..layout::TXID],
             );
             order(t, sender, found, route)

@@ -13,7 +13,7 @@ use ticket::kinds::Kind;
 use ticket::layout;
 ghost use mathlib.Core.Path.{_≡_};
 ghost use lib.ListN.{length};
-ghost use Rattle.ticket.specs.Layout.{ticketLength};
+ghost use Rattle.ticket.specs.TicketLayout.{ticketLength};
 ghost use Rattle.rules.specs.Refusal.{timingOf};
 ghost use Rattle.sight.specs.Value.{statedBy, limitBy, valueSight};
 

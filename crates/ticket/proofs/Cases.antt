@@ -7,8 +7,17 @@ use Rattle.codes.specs.Bic.{isBic}
 use Rattle.iban.specs.Iban.{isIban}
 use Rattle.fields.specs.Text.{text}
 use Rattle.codes.specs.Txid.{isTxid}
-use Rattle.ticket.specs.Reading.{reading}
-use Rattle.ticket.specs.Writing.{WellFormedTicket, orderWritten, coverInTicket, orderTicket, yesTicket, recallTicket, inquiryTicket, tickTicket}
+use Rattle.ticket.specs.TicketReading.{reading}
+use Rattle.ticket.specs.TicketWriting.{
+  WellFormedTicket,
+  orderWritten,
+  coverInTicket,
+  orderTicket,
+  yesTicket,
+  recallTicket,
+  inquiryTicket,
+  tickTicket,
+}
 use Rattle.ticket.specs.declared.Reading.the-variants.{Read, Refused}
 use Rattle.ticket.specs.declared.kinds.Kind.the-variants.{CoverIn, Order, Yes, Inquiry, Tick}
 

@@ -9,7 +9,20 @@ use lib.Dec.{leb, eqb}
 use Rattle.fields.proofs.Tests.{and-left, and-right}
 use Rattle.ticket.specs.Kind.{kindNumber, flagLow, flagHigh, allKinds, isOf, kindAmong, kinded}
 use Rattle.ticket.specs.declared.kinds.Kind.{Kind}
-use Rattle.ticket.specs.declared.kinds.Kind.the-variants.{CoverIn, CoverOut, Order, Yes, No, Recall, Return, Decline, Inquiry, Cut, Confirm, Tick}
+use Rattle.ticket.specs.declared.kinds.Kind.the-variants.{
+  CoverIn,
+  CoverOut,
+  Order,
+  Yes,
+  No,
+  Recall,
+  Return,
+  Decline,
+  Inquiry,
+  Cut,
+  Confirm,
+  Tick,
+}
 use Rattle.ticket.specs.declared.kinds.Kinded.{Kinded}
 use Rattle.ticket.specs.declared.kinds.Kinded.the-variants.{As}
 
@@ -71,7 +84,3 @@ pub bytes-kinded : (kind flag : ℕ) (k : Kind) → KindBytes k kind flag → ki
 bytes-kinded kind flag k b =
     ap (λ (n : ℕ). kinded n flag) (b .number)
     ∙ number-kinded flag k (simp (le-leb (flagLow k) flag (b .low), le-leb flag (flagHigh k) (b .high)))
-
--- so the bytes are of one kind only
-pub one-kind : (kind flag : ℕ) (j k : Kind) → KindBytes j kind flag → KindBytes k kind flag → j ≡ k
-one-kind kind flag j k a b = let p = bytes-kinded kind flag j a in let q = bytes-kinded kind flag k b in cc

@@ -1,6 +1,6 @@
-pub mod Laws
+pub mod CheckLaws
 pub mod KindBytes
-pub mod Telling
+pub mod TicketTelling
 pub mod Refusals
 pub mod WrittenFields
 pub mod ReadsBack

@@ -13,24 +13,46 @@ use Rattle.codes.specs.Txid.{isTxid}
 use Rattle.fields.specs.Number.{bytesOf}
 use Rattle.fields.specs.Text.{blank, unpadded, padded}
 use Rattle.fields.proofs.Padding.{padded-full, unpadded-padded}
-use Rattle.codes.proofs.Whole.{bic-length, txid-length, txid-whole}
-use Rattle.iban.proofs.Whole.{iban-length, iban-whole}
-use Rattle.ticket.specs.Layout as layout
+use Rattle.codes.proofs.WholeCodes.{bic-length, txid-length, txid-whole}
+use Rattle.iban.proofs.WholeIban.{iban-length, iban-whole}
+use Rattle.ticket.specs.TicketLayout as layout
 use Rattle.ticket.specs.Form.{mostCover, formOf}
 use Rattle.ticket.specs.Shape.{bicIfListed, txidIfListed, blankUnlessListed, wellFormed, shapeOf, accountOf}
 use Rattle.ticket.specs.Amount.{statedIn, limitOf}
-use Rattle.ticket.specs.Reading.{reading, readLimit}
-use Rattle.ticket.specs.Writing.{Written, ticketBytes, IfListed, WellFormedTicket}
+use Rattle.ticket.specs.TicketReading.{reading, readLimit}
+use Rattle.ticket.specs.TicketWriting.{WrittenTicket, ticketBytes, IfListed, WellFormedTicket}
 use Rattle.ticket.specs.declared.Reading.the-variants.{Read}
 use Rattle.ticket.specs.declared.kinds.Kind.{Kind}
-use Rattle.ticket.specs.declared.kinds.Kind.the-variants.{CoverIn, CoverOut, Order, Yes, No, Recall, Return, Decline, Inquiry, Cut, Confirm, Tick}
+use Rattle.ticket.specs.declared.kinds.Kind.the-variants.{
+  CoverIn,
+  CoverOut,
+  Order,
+  Yes,
+  No,
+  Recall,
+  Return,
+  Decline,
+  Inquiry,
+  Cut,
+  Confirm,
+  Tick,
+}
 use Rattle.ticket.specs.declared.shapes.Shape.the-variants.{Formed}
 use Rattle.ticket.specs.declared.shapes.Account.the-variants.{Named, Wrong}
 use Rattle.ticket.specs.declared.amounts.Stated.the-variants.{Amount}
 use Rattle.ticket.specs.declared.amounts.Limit.the-variants.{Within}
 use Rattle.ticket.proofs.KindBytes.{bytes-kinded}
-use Rattle.ticket.proofs.Laws.{read-stated}
-use Rattle.ticket.proofs.WrittenFields.{written-time, written-amount, sender-field, payee-field, txid-field, iban-field, last-field, length-written}
+use Rattle.ticket.proofs.CheckLaws.{read-stated}
+use Rattle.ticket.proofs.WrittenFields.{
+  written-time,
+  written-amount,
+  sender-field,
+  payee-field,
+  txid-field,
+  iban-field,
+  last-field,
+  length-written,
+}
 
 -- each kind's amounts fit in eight bytes
 most-fits : (k : Kind) → formOf k .most ≤ mostCover
@@ -86,20 +108,20 @@ amount-passes most n h = go (eqb most 0) refl
     go false e = refl
 
 -- a well-formed ticket: its widths, each check in turn, and what it reads as
-module _ (k : Kind) (w : Written) (f : WellFormedTicket k w) where
-  pub sender-fits : length (w .sender) ≤ 11
+module _ (k : Kind) (w : WrittenTicket) (f : WellFormedTicket k w) where
+  sender-fits : length (w .sender) ≤ 11
   sender-fits = bic-width (formOf k .sender) (w .sender) (f .sender)
 
-  pub payee-fits : length (w .payee) ≤ 11
+  payee-fits : length (w .payee) ≤ 11
   payee-fits = bic-width (formOf k .payee) (w .payee) (f .payee)
 
-  pub txid-fits : length (w .txid) ≤ 35
+  txid-fits : length (w .txid) ≤ 35
   txid-fits = txid-width (formOf k .txid) (w .txid) (f .txid)
 
-  pub iban-fits : length (w .iban) ≤ 34
+  iban-fits : length (w .iban) ≤ 34
   iban-fits = iban-width (formOf k .iban) (w .iban) (f .iban)
 
-  pub amount-fits : w .amount < 256 ^ 8
+  amount-fits : w .amount < 256 ^ 8
   amount-fits = let a = f .most in let b = most-fits k in omega arith
 
   whole : length (ticketBytes w) ≡ layout.ticketLength
@@ -111,8 +133,10 @@ module _ (k : Kind) (w : Written) (f : WellFormedTicket k w) where
         amount-passes (formOf k .most) (w .amount) (f .most),
         ap (bicIfListed (formOf k .sender)) (sender-field w sender-fits) ∙ bic-passes (formOf k .sender) (w .sender) (f .sender),
         ap (bicIfListed (formOf k .payee)) (payee-field w sender-fits payee-fits) ∙ bic-passes (formOf k .payee) (w .payee) (f .payee),
-        ap (txidIfListed (formOf k .txid)) (txid-field w sender-fits payee-fits txid-fits) ∙ txid-passes (formOf k .txid) (w .txid) (f .txid),
-        ap (blankUnlessListed (formOf k .iban)) (iban-field w sender-fits payee-fits txid-fits iban-fits) ∙ iban-passes (formOf k .iban) (w .iban) (f .iban),
+        ap (txidIfListed (formOf k .txid)) (txid-field w sender-fits payee-fits txid-fits)
+            ∙ txid-passes (formOf k .txid) (w .txid) (f .txid),
+        ap (blankUnlessListed (formOf k .iban)) (iban-field w sender-fits payee-fits txid-fits iban-fits)
+            ∙ iban-passes (formOf k .iban) (w .iban) (f .iban),
         ap (blankUnlessListed false) (last-field w sender-fits payee-fits txid-fits iban-fits),
       )
 
@@ -129,7 +153,8 @@ module _ (k : Kind) (w : Written) (f : WellFormedTicket k w) where
 
   named : accountOf (formOf k) (ticketBytes w) ≡ Named
   named =
-      ap (λ (s : List ℕ). cond (formOf k .iban) (cond (isIban (unpadded s)) Named Wrong) Named) (iban-field w sender-fits payee-fits txid-fits iban-fits)
+      ap (λ (s : List ℕ). cond (formOf k .iban) (cond (isIban (unpadded s)) Named Wrong) Named)
+      (iban-field w sender-fits payee-fits txid-fits iban-fits)
       ∙ account-passes (formOf k .iban) (w .iban) (f .iban)
 
   within : limitOf (formOf k) (w .amount) ≡ Within

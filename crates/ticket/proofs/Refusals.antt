@@ -6,14 +6,13 @@ use Prim.Native.Nat.{ℕ, _≤_}
 use native.Mathlib.Omega.{arith}
 use lib.Dec.{eqb}
 use lib.ListN.{length}
-use Rattle.ticket.specs.Layout.{ticketLength, kindByte, flagByte}
+use Rattle.ticket.specs.TicketLayout.{ticketLength, kindByte, flagByte}
 use Rattle.ticket.specs.Kind.{kinded}
 use Rattle.ticket.specs.Form.{formOf}
 use Rattle.ticket.specs.Shape.{shapeAs, shapeOf, accountOf}
 use Rattle.ticket.specs.Amount.{statedIn, limitOf}
-use Rattle.ticket.specs.Reading.{reading, readShape, readAccount, readStated, readLimit}
-use Rattle.ticket.specs.Refusal.{kindedRefusal, readingRefusal}
-use Rattle.ticket.specs.declared.Fields.{Fields}
+use Rattle.ticket.specs.TicketReading.{reading, readShape, readAccount, readStated, readLimit}
+use Rattle.ticket.specs.TicketRefusal.{kindedRefusal}
 use Rattle.ticket.specs.declared.Reading.{Reading}
 use Rattle.ticket.specs.declared.Reading.the-variants.{Read, Refused}
 use Rattle.ticket.specs.declared.kinds.Kind.{Kind}
@@ -27,7 +26,7 @@ use Rattle.ticket.specs.declared.amounts.Stated.{Stated}
 use Rattle.ticket.specs.declared.amounts.Stated.the-variants.{Amount, Zero}
 use Rattle.ticket.specs.declared.amounts.Limit.{Limit}
 use Rattle.ticket.specs.declared.amounts.Limit.the-variants.{Within, Above}
-use Rattle.ticket.proofs.Laws.{read-malformed}
+use Rattle.ticket.proofs.CheckLaws.{read-malformed}
 
 -- a refusal is one of 7 to 10
 abbrev InRange : Reading → Type 0
@@ -56,14 +55,6 @@ in-range t = shape-range t (shapeOf t)
 
 pub refused-number : (t : List ℕ) (n : ℕ) → reading t ≡ Refused n → (7 ≤ n) × (n ≤ 10)
 refused-number t n e = rw e at (in-range t)
-
--- a ticket reads where its number is 0
-pub zero-reads : (t : List ℕ) → readingRefusal (reading t) ≡ 0 → (f : Fields) × (reading t ≡ Read f)
-zero-reads t e = go (reading t) refl
-  where
-    go : (r : Reading) → reading t ≡ r → (f : Fields) × (reading t ≡ Read f)
-    go (Read f) q = (f, q)
-    go (Refused n) q = let l = refused-number t n q in let z : n ≡ 0 = rw q at e in absurd (omega arith)
 
 -- an unknown kind or flag is refused by its own number
 pub unknown-refused : (t : List ℕ) → kinded (kindByte t) (flagByte t) ≡ Unknown → reading t ≡ Refused (kindedRefusal Unknown)

@@ -3,7 +3,7 @@ use Prim.Native.Nat.{ℕ}
 use mathlib.Core.Bool.{cond}
 use mathlib.Core.List.{List}
 use lib.Dec.{ltb}
-use Rattle.ticket.specs.Layout.{amountOf}
+use Rattle.ticket.specs.TicketLayout.{amountOf}
 use Rattle.ticket.specs.declared.forms.Form.{Form}
 use Rattle.ticket.specs.declared.amounts.Stated.{Stated}
 use Rattle.ticket.specs.declared.amounts.Stated.the-variants.{Amount, Zero}

@@ -8,7 +8,20 @@ use Prim.Native.Nat.{ℕ}
 use mathlib.Core.Bool.{true, false}
 use Rattle.ticket.specs.declared.forms.Form.{Form}
 use Rattle.ticket.specs.declared.kinds.Kind.{Kind}
-use Rattle.ticket.specs.declared.kinds.Kind.the-variants.{CoverIn, CoverOut, Order, Yes, No, Recall, Return, Decline, Inquiry, Cut, Confirm, Tick}
+use Rattle.ticket.specs.declared.kinds.Kind.the-variants.{
+  CoverIn,
+  CoverOut,
+  Order,
+  Yes,
+  No,
+  Recall,
+  Return,
+  Decline,
+  Inquiry,
+  Cut,
+  Confirm,
+  Tick,
+}
 
 abbrev pub mostCover : ℕ
 mostCover = 1_000_000_000_000_000_000
@@ -16,13 +29,13 @@ mostCover = 1_000_000_000_000_000_000
 abbrev pub mostOrder : ℕ
 mostOrder = 99_999_999_999
 
-abbrev pub coverForm : ℕ → Form
+abbrev coverForm : ℕ → Form
 coverForm least = record { sender = true; payee = false; txid = false; iban = false; least = least; most = mostCover }
 
-abbrev pub aboutForm : ℕ → ℕ → Form
+abbrev aboutForm : ℕ → ℕ → Form
 aboutForm least most = record { sender = true; payee = false; txid = true; iban = false; least = least; most = most }
 
-abbrev pub emptyForm : Form
+abbrev emptyForm : Form
 emptyForm = record { sender = false; payee = false; txid = false; iban = false; least = 0; most = 0 }
 
 abbrev pub formOf : Kind → Form

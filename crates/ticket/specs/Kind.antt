@@ -7,14 +7,27 @@
 --     kindAmong            the first of some kinds that they are of
 --     kinded               the one of all kinds that they are of; Unknown where kind or flag is wrong
 --     flagged              a kind whose flag lies between two numbers
---     answered             kind 4: flag 1 yes, 2 no
+--     yesOrNo              kind 4: flag 1 yes, 2 no
 -- Assumes nothing.
 use Prim.Native.Nat.{ℕ}
 use mathlib.Core.Bool.{Bool, _&&_, cond}
 use mathlib.Core.List.{List, [], _∷_}
 use lib.Dec.{leb, eqb}
 use Rattle.ticket.specs.declared.kinds.Kind.{Kind}
-use Rattle.ticket.specs.declared.kinds.Kind.the-variants.{CoverIn, CoverOut, Order, Yes, No, Recall, Return, Decline, Inquiry, Cut, Confirm, Tick}
+use Rattle.ticket.specs.declared.kinds.Kind.the-variants.{
+  CoverIn,
+  CoverOut,
+  Order,
+  Yes,
+  No,
+  Recall,
+  Return,
+  Decline,
+  Inquiry,
+  Cut,
+  Confirm,
+  Tick,
+}
 use Rattle.ticket.specs.declared.kinds.Kinded.{Kinded}
 use Rattle.ticket.specs.declared.kinds.Kinded.the-variants.{As, Unknown}
 
@@ -24,10 +37,10 @@ pub record KindRow : Type 0 where
   pub high : ℕ
 
 -- a kind without a flag, and one with flags from low to high
-abbrev pub plain : ℕ → KindRow
+abbrev plain : ℕ → KindRow
 plain n = record { number = n; low = 0; high = 0 }
 
-abbrev pub flags : ℕ → ℕ → ℕ → KindRow
+abbrev flags : ℕ → ℕ → ℕ → KindRow
 flags n low high = record { number = n; low = low; high = high }
 
 abbrev pub kindRow : Kind → KindRow
@@ -69,5 +82,5 @@ kinded kind flag = kindAmong allKinds kind flag
 abbrev pub flagged : ℕ → ℕ → ℕ → Kind → Kinded
 flagged flag low high kind = cond (leb low flag && leb flag high) (As kind) Unknown
 
-abbrev pub answered : ℕ → Kinded
-answered flag = cond (leb 1 flag && leb flag 1) (As Yes) (flagged flag 2 2 No)
+abbrev pub yesOrNo : ℕ → Kinded
+yesOrNo flag = cond (leb 1 flag && leb flag 1) (As Yes) (flagged flag 2 2 No)

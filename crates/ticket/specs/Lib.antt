@@ -1,8 +1,8 @@
-pub mod Layout
+pub mod TicketLayout
 pub mod Kind
 pub mod Form
 pub mod Shape
 pub mod Amount
-pub mod Refusal
-pub mod Reading
-pub mod Writing
+pub mod TicketRefusal
+pub mod TicketReading
+pub mod TicketWriting

@@ -15,7 +15,7 @@ use Rattle.codes.specs.Bic.{isBic}
 use Rattle.iban.specs.Iban.{isIban}
 use Rattle.codes.specs.Txid.{isTxid}
 use Rattle.fields.specs.Text.{blank, unpadded}
-use Rattle.ticket.specs.Layout as layout
+use Rattle.ticket.specs.TicketLayout as layout
 use Rattle.ticket.specs.Kind.{kinded}
 use Rattle.ticket.specs.Form.{formOf}
 use Rattle.ticket.specs.declared.forms.Form.{Form}

@@ -1,6 +1,6 @@
 // The kind of a ticket, from its kind and flag bytes. A yes and a no are kinds of their own here.
 ghost use mathlib.Core.Path.{_≡_};
-ghost use Rattle.ticket.specs.Kind.{flagged, answered, kinded};
+ghost use Rattle.ticket.specs.Kind.{flagged, yesOrNo, kinded};
 
 pub enum Kind {
     CoverIn,
@@ -33,7 +33,7 @@ fn flagged(flag: u8, low: u8, high: u8, kind: Kind) -> Kinded
 }
 
 fn answer(flag: u8) -> Kinded
-    ensures { λ r. ⌜ r ≡ answered flag ⌝ }
+    ensures { λ r. ⌜ r ≡ yesOrNo flag ⌝ }
 {
     match flag {
         1 => Kinded::As(Kind::Yes),

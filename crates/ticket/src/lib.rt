@@ -9,7 +9,7 @@ pub mod shapes;
 
 use kinds::Kind;
 ghost use mathlib.Core.Path.{_≡_};
-ghost use Rattle.ticket.specs.Reading.{txidPart};
+ghost use Rattle.ticket.specs.TicketReading.{txidPart};
 
 // What the book goes by. Sender, payee and TxId are parts of the ticket's own bytes.
 pub struct Fields {

@@ -12,7 +12,7 @@ use native.Mathlib.Omega.{arith}
 use lib.Dec.{eqb}
 use lib.ListN.{length, take, drop}
 use lib.Seq.{sets}
-use Rattle.report.specs.Layout.{reportsBytes}
+use Rattle.report.specs.ReportLayout.{reportsBytes}
 use Rattle.report.specs.Answer.{answerBytes}
 use Rattle.report.specs.declared.answer.Answer.{Answer}
 use Rattle.rules.specs.Tick.{Step}
@@ -21,18 +21,19 @@ use Rattle.rules.specs.Taken.{answerOf}
 use Rattle.rules.specs.Sound.{Sound}
 use Rattle.rules.specs.declared.Book.{Book}
 use Rattle.rules.proofs.Reporting.{step-few}
-use Rattle.rules.proofs.Stepping.{step-sound}
-use Rattle.intake.specs.Entry.{entryOf}
-use Rattle.intake.specs.Expiry.{Passed}
-use Rattle.intake.specs.Running.{roomLeft}
-use Rattle.intake.proofs.Running.{Going, room-left, taken-on}
-use Rattle.intake.proofs.Summing.{allOf}
+use Rattle.rules.proofs.StepSound.{step-sound}
+use Rattle.course.specs.Entry.{entryOf}
+use Rattle.course.specs.Expiry.{Passed}
+use Rattle.course.specs.Running.{roomLeft}
+use Rattle.course.proofs.Running.{Going, room-left, taken-on}
+use Rattle.course.proofs.Summing.{allOf}
 use Rattle.turns.proofs.Index.{TxidIndex}
 use Rattle.turns.proofs.Turn.{refused-turn}
 
--- of ticket t in book b, n₀ reports standing in the text before it; afterwards the book, the refusal, the rows followed, n reports in the text,
--- the mark, the index and all cover together
-pub record Done (wordsOf : List ℕ → List ℕ) (bucketOf : List ℕ → ℕ) (b : Book) (t : List ℕ) (n₀ : ℕ) (text₀ : List ℕ) (b′ : Book) (r k n : ℕ)
+-- of ticket t in book b, n₀ reports standing in the text before it; afterwards the book, the refusal, the rows followed, n reports in the
+-- text, the order m to look at next, the index and all cover together
+pub record Done (wordsOf : List ℕ → List ℕ) (bucketOf : List ℕ → ℕ) (b : Book) (t : List ℕ) (n₀ : ℕ)
+    (text₀ : List ℕ) (b′ : Book) (r k n : ℕ)
     (text : List ℕ) (m : ℕ) (txids heads links : List ℕ) (all : ℕ) : Type 0 where
   pub book : b′ ≡ stepOf b t .book
   pub sound : Sound b′
@@ -43,15 +44,17 @@ pub record Done (wordsOf : List ℕ → List ℕ) (bucketOf : List ℕ → ℕ) 
   pub told : n ≡ n₀ + length (stepOf b t .reports)
   pub fewTold : length (stepOf b t .reports) ≤ 544
   pub reports : text ≡ sets text₀ (12 * n₀) (reportsBytes (stepOf b t .reports))
-  -- no order below the mark waits for a bank
+  -- no order below m waits for a bank
   pub passed : Passed m b′
   pub few : m ≤ b′ .count
   pub index : TxidIndex wordsOf bucketOf b′ txids heads links
   pub sum : all ≡ allOf (b′ .covers)
 
 -- the answer
-pub answer-is : {wordsOf : List ℕ → List ℕ} {bucketOf : List ℕ → ℕ} {b : Book} {t : List ℕ} {n₀ : ℕ} {text₀ : List ℕ} {b′ : Book} {r k n : ℕ}
-    {text : List ℕ} {m : ℕ} {txids heads links : List ℕ} {all : ℕ} → Done wordsOf bucketOf b t n₀ text₀ b′ r k n text m txids heads links all
+pub answer-is : {wordsOf : List ℕ → List ℕ} {bucketOf : List ℕ → ℕ} {b : Book} {t : List ℕ} {n₀ : ℕ}
+    {text₀ : List ℕ} {b′ : Book} {r k n : ℕ}
+    {text : List ℕ} {m : ℕ} {txids heads links : List ℕ} {all : ℕ}
+    → Done wordsOf bucketOf b t n₀ text₀ b′ r k n text m txids heads links all
     → _≡_ {A = Answer} (record { refusal = r; reports = n - n₀; rows = k }) (answerOf (stepOf b t))
 answer-is {b = b} {t} {n₀} {n = n} h =
     let e = h .told in
@@ -87,15 +90,18 @@ pub refused-answer : (b : Book) (t : List ℕ) (r : ℕ) → entryOf (b .clock) 
 refused-answer b t r refusal refused = ap answerOf (sym (refused-turn b t r refusal refused))
 
 -- the loop over tickets goes on
-pub going-on : {wordsOf : List ℕ → List ℕ} {bucketOf : List ℕ → ℕ} {b₀ : Book} {tickets answers₀ reports₀ : List ℕ} {b : Book} {taken n₀ : ℕ}
-    {bytes text₀ t : List ℕ} {b′ : Book} {r k n : ℕ} {text : List ℕ} {m : ℕ} {txids heads links : List ℕ} {all : ℕ} {a : Answer} {bytes′ : List ℕ}
+pub going-on : {wordsOf : List ℕ → List ℕ} {bucketOf : List ℕ → ℕ} {b₀ : Book} {tickets answers₀ reports₀ : List ℕ}
+    {b : Book} {taken n₀ : ℕ}
+    {bytes text₀ t : List ℕ} {b′ : Book} {r k n : ℕ} {text : List ℕ} {m : ℕ} {txids heads links : List ℕ} {all : ℕ}
+    {a : Answer} {bytes′ : List ℕ}
     → Going b₀ tickets answers₀ reports₀ b taken n₀ bytes text₀
     → roomLeft (length tickets - 108 * taken) (length answers₀ - 4 * taken) (length reports₀ - 12 * n₀) ≡ true
     → t ≡ take 108 (drop (108 * taken) tickets)
     → Done wordsOf bucketOf b t n₀ text₀ b′ r k n text m txids heads links all
     → a ≡ answerOf (stepOf b t) → bytes′ ≡ sets bytes (4 * taken) (answerBytes a)
     → Going b₀ tickets answers₀ reports₀ b′ (taken + 1) n bytes′ text
-going-on {b₀ = b₀} {tickets} {answers₀} {reports₀} {b} {taken} {n₀} {bytes} {text₀} {t} {b′} {n = n} {text} {bytes′ = bytes′} g more is h is-answer
+going-on {b₀ = b₀} {tickets} {answers₀} {reports₀} {b} {taken} {n₀} {bytes} {text₀} {t} {b′} {n = n} {text}
+    {bytes′ = bytes′} g more is h is-answer
     is-bytes =
     let room : 6528 ≤ length reports₀ - 12 * n₀ =
     room-left (length tickets - 108 * taken) (length answers₀ - 4 * taken) (length reports₀ - 12 * n₀) more .report in

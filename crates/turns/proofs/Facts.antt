@@ -1,5 +1,5 @@
--- The facts that a ticket is judged on: sender, order and route row are found before the expiries, all else in the book after them. They are
--- those of what is sought in the book after them. Assumes nothing.
+-- The facts that a ticket is judged on: sender, order and route row are found before the expiries, all else in the book after them. They
+-- are those of what is sought in the book after them. Assumes nothing.
 --     sender-same, order-same, route-same    what is found before the expiries is what is found after them
 --     Searched                               what was found before them, and the numbers of sender and order
 --     sender-in, order-in, payee-in          those numbers are in range
@@ -17,8 +17,8 @@ use Rattle.fields.specs.UpTo.{anyTo}
 use Rattle.fields.specs.declared.search.Found.{Found}
 use Rattle.fields.specs.declared.search.Found.the-variants as found
 use Rattle.fields.proofs.Finding.{first-same}
-use Rattle.ticket.specs.Layout.{txidField}
-use Rattle.dayfile.specs.Limits.{mostParticipants}
+use Rattle.ticket.specs.TicketLayout.{txidField}
+use Rattle.dayfile.specs.FileLimits.{mostParticipants}
 use Rattle.dayfile.specs.Route.{reached, followedFrom}
 use Rattle.dayfile.specs.declared.roster.Roster.{Roster}
 use Rattle.dayfile.specs.declared.route.Followed.{Followed}
@@ -31,11 +31,11 @@ use Rattle.rules.specs.declared.verdict.Facts.{Facts}
 use Rattle.rules.specs.declared.Status.the-variants.{Waiting}
 use Rattle.rules.specs.declared.Order.{Order}
 use Rattle.rules.specs.declared.Book.{Book}
-use Rattle.intake.specs.Seeking.{seeksOrder, seeksOpen, soughtSender, soughtOrder, sought}
-use Rattle.intake.specs.declared.Entry.{Entry}
-use Rattle.intake.proofs.Seeking.{way-if, open-sum, made}
-use Rattle.intake.proofs.Fitting.{any-payee, sender-below, order-below}
-use Rattle.intake.proofs.Summing.{allOf, all-total}
+use Rattle.course.specs.Seeking.{seeksOrder, seeksOpen, soughtSender, soughtOrder, sought}
+use Rattle.course.specs.declared.Entry.{Entry}
+use Rattle.course.proofs.Seeking.{way-if, open-sum, made}
+use Rattle.course.proofs.SoughtFitting.{any-payee, sought-sender-below, sought-order-below}
+use Rattle.course.proofs.Summing.{allOf, all-total}
 use Rattle.verdict.specs.Meaning.{aboutOf, factsOf}
 use Rattle.turns.proofs.Turn.{Expired, after-sound, after-count, after-roster, after-txid, after-all}
 
@@ -91,10 +91,10 @@ module _ {b : Book} {t : List ℕ} {e : Entry} {n₀ : ℕ} {text₀ : List ℕ}
     number-is = f .at ∙ ap numberOf order-is
 
     pub sender-in : p < mostParticipants
-    sender-in = let q = f .from ∙ ap numberOf sender-is in let h = sender-below c (after-sound w) e t in omega arith
+    sender-in = let q = f .from ∙ ap numberOf sender-is in let h = sought-sender-below c (after-sound w) e t in omega arith
 
     pub order-in : i < mostOrders
-    order-in = let q = number-is in let h = order-below c (after-sound w) e t in omega arith
+    order-in = let q = number-is in let h = sought-order-below c (after-sound w) e t in omega arith
 
     pub payee-in : orderOf (c .orders) i .payee < mostParticipants
     payee-in = any-payee c (after-sound w) i order-in
@@ -136,7 +136,8 @@ module _ {b : Book} {t : List ℕ} {e : Entry} {n₀ : ℕ} {text₀ : List ℕ}
       -- the order that a ticket opens
       pub new-order : {txid : List ℕ} → txid ≡ txidField t
           → _≡_ {A = Order}
-          (record { txid = txid; payer = p; payee = reached way; amount = e .amount; time = c .clock; status = Waiting }) (newOrder (sought c e t))
+          (record { txid = txid; payer = p; payee = reached way; amount = e .amount; time = c .clock; status = Waiting })
+          (newOrder (sought c e t))
       new-order is-txid =
           λ j. record {
             txid = is-txid j;

@@ -16,18 +16,19 @@ use Rattle.fields.specs.Rows.{Indexed}
 use Rattle.fields.proofs.Indexing.{put-indexed}
 use Rattle.rules.specs.Book.{mostOrders, orderOf}
 use Rattle.rules.specs.declared.Book.{Book}
-use Rattle.index.specs.Chains.{buckets, Chained}
-use Rattle.index.proofs.Chaining.{same-chained, enchained}
+use Rattle.fields.specs.Chains.{Chained}
+use Rattle.index.specs.RowChains.{rowBuckets}
+use Rattle.fields.proofs.Chaining.{same-chained, enchained}
 
 pub record TxidIndex (wordsOf : List ℕ → List ℕ) (bucketOf : List ℕ → ℕ) (b : Book) (rows heads links : List ℕ) : Type 0 where
   pub txids : Indexed 5 (λ i. wordsOf (orderOf (b .orders) i .txid)) (b .count) rows
   pub long : length rows ≡ 1280
-  pub chained : Chained (λ i. bucketOf (wordsOf (orderOf (b .orders) i .txid))) (b .count) heads links
-  pub headed : length heads ≡ buckets
+  pub chained : Chained rowBuckets (λ i. bucketOf (wordsOf (orderOf (b .orders) i .txid))) (b .count) heads links
+  pub headed : length heads ≡ rowBuckets
   pub linked : length links ≡ 256
 
 pub row-chained : {wordsOf : List ℕ → List ℕ} {bucketOf : List ℕ → ℕ} {b : Book} {rows heads links : List ℕ}
-    → TxidIndex wordsOf bucketOf b rows heads links → Chained (λ i. bucketOf (part 5 (5 * i) rows)) (b .count) heads links
+    → TxidIndex wordsOf bucketOf b rows heads links → Chained rowBuckets (λ i. bucketOf (part 5 (5 * i) rows)) (b .count) heads links
 row-chained {bucketOf = bucketOf} f = same-chained (f .chained) (λ i l. ap bucketOf (sym (f .txids .row i l)))
 
 module _ {wordsOf : List ℕ → List ℕ} {bucketOf : List ℕ → ℕ} {b c : Book} {rows heads links : List ℕ}
@@ -39,7 +40,7 @@ module _ {wordsOf : List ℕ → List ℕ} {bucketOf : List ℕ → ℕ} {b c : 
         txids = record { row = λ i l. f .txids .row i (omega arith) ∙ ap wordsOf (sym (same i)) };
         long = f .long;
         chained =
-            subst (λ (n : ℕ). Chained (λ i. bucketOf (wordsOf (orderOf (c .orders) i .txid))) n heads links) (sym count)
+            subst (λ (n : ℕ). Chained rowBuckets (λ i. bucketOf (wordsOf (orderOf (c .orders) i .txid))) n heads links) (sym count)
             (same-chained (f .chained) (λ i l. ap (λ (s : List ℕ). bucketOf (wordsOf s)) (sym (same i))));
         headed = f .headed;
         linked = f .linked;
@@ -48,7 +49,7 @@ module _ {wordsOf : List ℕ → List ℕ} {bucketOf : List ℕ → ℕ} {b c : 
   -- a new order behind the others; k is the bucket of its TxId s
   pub more-index : {rows′ heads′ links′ : List ℕ} {k : ℕ} {s : List ℕ} → b .count < mostOrders → c .count ≡ b .count + 1
       → ((i : ℕ) → i < b .count → orderOf (c .orders) i .txid ≡ orderOf (b .orders) i .txid) → orderOf (c .orders) (b .count) .txid ≡ s
-      → length (wordsOf s) ≡ 5 → k ≡ bucketOf (wordsOf s) → k < buckets
+      → length (wordsOf s) ≡ 5 → k ≡ bucketOf (wordsOf s) → k < rowBuckets
       → heads′ ≡ set heads k (b .count + 1) → links′ ≡ set links (b .count) (getD heads k 0) → rows′ ≡ sets rows (5 * b .count) (wordsOf s)
       → TxidIndex wordsOf bucketOf c rows′ heads′ links′
   more-index {rows′} {heads′} {links′} {k} {s} few count before new wide is inside new-heads new-links new-rows =
@@ -59,7 +60,7 @@ module _ {wordsOf : List ℕ → List ℕ} {bucketOf : List ℕ → ℕ} {b c : 
             (λ i l. ap wordsOf (before i l)) (ap wordsOf new));
         long = (simp length-sets at (ap length new-rows)) ∙ f .long;
         chained =
-            subst (λ (n : ℕ). Chained (λ i. bucketOf (wordsOf (orderOf (c .orders) i .txid))) n heads′ links′) (sym count)
+            subst (λ (n : ℕ). Chained rowBuckets (λ i. bucketOf (wordsOf (orderOf (c .orders) i .txid))) n heads′ links′) (sym count)
             (enchained (same-chained (f .chained) (λ i l. ap (λ (x : List ℕ). bucketOf (wordsOf x)) (sym (before i l)))) (f .headed)
             (let l = f .linked in omega arith) (is ∙ ap (λ (x : List ℕ). bucketOf (wordsOf x)) (sym new)) inside new-heads new-links);
         headed = (simp length-set at (ap length new-heads)) ∙ f .headed;

@@ -1,7 +1,7 @@
 pub mod Index
 pub mod Turn
 pub mod Facts
-pub mod Fitting
-pub mod Carrying
+pub mod VerdictFitting
+pub mod CarryingOut
 pub mod Done
-pub mod Ending
+pub mod TurnEnds

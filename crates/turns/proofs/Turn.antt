@@ -1,7 +1,7 @@
--- A turn up to its verdict: a ticket that is refused by 7 to 11 changes nothing; of another, the expiries, and then the step of the rules is
--- that of the verdict on what is sought in the book after them. Assumes nothing.
+-- A turn up to its verdict: a ticket that is refused by 7 to 11 changes nothing; of another, the expiries, and then the step of the rules
+-- is that of the verdict on what is sought in the book after them. Assumes nothing.
 --     refused-turn    the step of a ticket that 7 to 11 refuse
---     Taken           a ticket that they do not refuse
+--     TakenUp         a ticket that they do not refuse
 --     Expired         the expiries of such a ticket are done, all of them
 --     expiries-done   the loop over orders has ended: at the last order, or at one that is young
 --     turn            its step, for any verdict that is the one on what is sought
@@ -15,11 +15,11 @@ use borrow.Author.Tests.{eqb-false}
 use lib.Dec.{eqb}
 use lib.ListN.{length}
 use lib.Seq.{sets, length-sets}
-use Rattle.ticket.specs.Reading.{reading}
+use Rattle.ticket.specs.TicketReading.{reading}
 use Rattle.ticket.specs.declared.Fields.{Fields}
 use Rattle.ticket.specs.declared.Reading.{Reading}
 use Rattle.ticket.specs.declared.Reading.the-variants.{Read, Refused}
-use Rattle.report.specs.Layout.{reportsBytes}
+use Rattle.report.specs.ReportLayout.{reportsBytes}
 use Rattle.rules.specs.Book.{orderOf}
 use Rattle.rules.specs.Cover.{mostTotal}
 use Rattle.rules.specs.Tick.{Step, sweepTo, atTime}
@@ -31,22 +31,22 @@ use Rattle.rules.specs.declared.refusal.Timing.{Timing}
 use Rattle.rules.specs.declared.refusal.Timing.the-variants.{InTime, Early}
 use Rattle.rules.specs.declared.verdict.Verdict.{Verdict}
 use Rattle.rules.specs.declared.Book.{Book}
-use Rattle.rules.proofs.Sweeping.{swept}
+use Rattle.rules.proofs.SweepSound.{swept}
 use Rattle.rules.proofs.Reporting.{swept-few}
-use Rattle.intake.specs.Room.{Applicable}
-use Rattle.intake.specs.Entry.{timedEntry, readEntry, entryOf}
-use Rattle.intake.specs.Expiry.{Passed}
-use Rattle.intake.specs.Seeking.{sought}
-use Rattle.intake.specs.Judging.{judged}
-use Rattle.intake.specs.Taking.{sweptFor, carried, takenAs}
-use Rattle.intake.specs.declared.Entry.{Entry}
-use Rattle.intake.specs.declared.Judged.{Judged}
-use Rattle.intake.proofs.Taking.{step-taken}
-use Rattle.intake.proofs.Turning as turning
-use Rattle.intake.proofs.Looping.{Sweeping, begun, all-swept}
-use Rattle.intake.proofs.Seeking.{swept-txid}
-use Rattle.intake.proofs.Fitting.{Entered, entered, judged-applicable}
-use Rattle.intake.proofs.Summing.{allOf, all-total, swept-all}
+use Rattle.course.specs.Room.{Applicable}
+use Rattle.course.specs.Entry.{timedEntry, readEntry, entryOf}
+use Rattle.course.specs.Expiry.{Passed}
+use Rattle.course.specs.Seeking.{sought}
+use Rattle.course.specs.Judging.{judged}
+use Rattle.course.specs.Taking.{sweptFor, carriedOut, takenAs}
+use Rattle.course.specs.declared.Entry.{Entry}
+use Rattle.course.specs.declared.Judged.{Judged}
+use Rattle.course.proofs.Taking.{step-taken}
+use Rattle.course.proofs.Turning as turning
+use Rattle.course.proofs.Looping.{Sweeping, sweep-begun, all-swept}
+use Rattle.course.proofs.Seeking.{swept-txid}
+use Rattle.course.proofs.SoughtFitting.{Entered, entered, judged-applicable}
+use Rattle.course.proofs.Summing.{allOf, all-total, swept-all}
 use Rattle.verdict.specs.Judgement.{verdictOf}
 use Rattle.verdict.specs.Meaning.{factsOf, decisionBy, judgedBy}
 use Rattle.verdict.proofs.Meaning.{judged-verdict}
@@ -66,32 +66,32 @@ refused-turn b t n refusal refused = from-reading (reading t) refusal
     from-reading (Refused m) e = ap (untouched b) e
 
 -- a ticket that is not refused by 7 to 11, entered as e
-pub record Taken (b : Book) (t : List ℕ) (e : Entry) : Type 0 where
+pub record TakenUp (b : Book) (t : List ℕ) (e : Entry) : Type 0 where
   pub sound : Sound b
   pub is : e ≡ entryOf (b .clock) t
   pub passes : e .refusal ≡ 0
 
-module _ {b : Book} {t : List ℕ} {e : Entry} (h : Taken b t e) where
-  pub start-sound : Sound (atTime b (e .time))
-  start-sound = subst (λ (x : Entry). Sound (atTime b (x .time))) (sym (h .is)) (turning.start-sound b (h .sound) t)
+module _ {b : Book} {t : List ℕ} {e : Entry} (h : TakenUp b t e) where
+  pub clocked-sound : Sound (atTime b (e .time))
+  clocked-sound = subst (λ (x : Entry). Sound (atTime b (x .time))) (sym (h .is)) (turning.start-sound b (h .sound) t)
 
-  -- the loop over orders begins at the mark; in it and behind it no order comes or goes
+  -- the loop over orders begins at order m; in it and behind it no order comes or goes
   pub loop-begun : {n : ℕ} {text : List ℕ} {m : ℕ} → Passed m b → Sweeping (atTime b (e .time)) n text (atTime b (e .time)) m n text
-  loop-begun {n} {text} {m} p = begun (atTime b (e .time)) start-sound n text m (record { none = λ i l. p .none i l })
+  loop-begun {n} {text} {m} p = sweep-begun (atTime b (e .time)) clocked-sound n text m (record { none = λ i l. p .none i l })
 
   pub loop-count : {n₀ : ℕ} {text₀ : List ℕ} {c : Book} {m n : ℕ} {text : List ℕ} → Sweeping (atTime b (e .time)) n₀ text₀ c m n text
       → m ≤ b .count → c .count ≡ b .count
-  loop-count {m = m} w few = ap (λ (d : Book). d .count) (w .book) ∙ swept (atTime b (e .time)) start-sound m few .count
+  loop-count {m = m} w few = ap (λ (d : Book). d .count) (w .book) ∙ swept (atTime b (e .time)) clocked-sound m few .count
 
--- the expiries are done: c is the book, m the mark, n reports stand in the text then, n₀ before them
+-- the expiries are done: c is the book, m the order to look at next, n reports stand in the text then, n₀ before them
 pub record Expired (b : Book) (t : List ℕ) (e : Entry) (n₀ : ℕ) (text₀ : List ℕ) (c : Book) (m n : ℕ) (text : List ℕ) : Type 0 where
-  pub taken : Taken b t e
+  pub taken : TakenUp b t e
   pub sweeping : Sweeping (atTime b (e .time)) n₀ text₀ c m n text
   pub few : m ≤ b .count
   pub all : sweepTo (atTime b (e .time)) m ≡ sweepTo (atTime b (e .time)) (b .count)
 
 -- no order is left to be looked at, or the next one is young
-pub expiries-done : {b : Book} {t : List ℕ} {e : Entry} {n₀ : ℕ} {text₀ : List ℕ} {c : Book} {m₀ m n : ℕ} {text : List ℕ} → Taken b t e
+pub expiries-done : {b : Book} {t : List ℕ} {e : Entry} {n₀ : ℕ} {text₀ : List ℕ} {c : Book} {m₀ m n : ℕ} {text : List ℕ} → TakenUp b t e
     → Passed m₀ b → Sweeping (atTime b (e .time)) n₀ text₀ c m n text → m₀ ≤ m → m ≤ b .count
     → (c .count ≤ m) ⊎ (c .clock - orderOf (c .orders) m .time < 20) → Expired b t e n₀ text₀ c m n text
 expiries-done {b} {t} {e} {n₀} {text₀} {c} {m₀} {m} h first w low high stops =
@@ -100,7 +100,7 @@ expiries-done {b} {t} {e} {n₀} {text₀} {c} {m₀} {m} h first w low high sto
       sweeping = w;
       few = high;
       all =
-          all-swept (atTime b (e .time)) (start-sound h) n₀ text₀ 0 w (record { none = λ i l. first .none i l }) low high
+          all-swept (atTime b (e .time)) (clocked-sound h) n₀ text₀ 0 w (record { none = λ i l. first .none i l }) low high
           (subst (λ (x : ℕ). (x ≤ m) ⊎ (c .clock - orderOf (c .orders) m .time < 20)) (loop-count h w high) stops) (omega arith);
     }
 
@@ -110,22 +110,22 @@ module _ {b : Book} {t : List ℕ} {e : Entry} {n₀ : ℕ} {text₀ : List ℕ}
   start = atTime b (e .time)
 
   -- the expiries of the rules
-  abbrev pub done : Step
-  done = sweepTo start (b .count)
+  abbrev pub sweptStep : Step
+  sweptStep = sweepTo start (b .count)
 
-  pub book-is : c ≡ done .book
+  book-is : c ≡ sweptStep .book
   book-is = w .sweeping .book ∙ ap (λ (x : Step). x .book) (w .all)
 
-  pub told-is : n ≡ n₀ + length (done .reports)
+  pub told-is : n ≡ n₀ + length (sweptStep .reports)
   told-is = w .sweeping .told ∙ ap (λ (x : Step). n₀ + length (x .reports)) (w .all)
 
-  pub text-is : text ≡ sets text₀ (12 * n₀) (reportsBytes (done .reports))
+  pub text-is : text ≡ sets text₀ (12 * n₀) (reportsBytes (sweptStep .reports))
   text-is = w .sweeping .reports ∙ ap (λ (x : Step). sets text₀ (12 * n₀) (reportsBytes (x .reports))) (w .all)
 
   -- at most 512 reports stand behind those of earlier tickets, and the text has its length
   pub told-few : n ≤ n₀ + 512
   told-few =
-      let f = swept-few start (start-sound (w .taken)) (b .count) (omega arith) .few in
+      let f = swept-few start (clocked-sound (w .taken)) (b .count) (omega arith) .few in
       let l = w .taken .sound .orders .count in
       let e = told-is in
       omega arith
@@ -134,26 +134,26 @@ module _ {b : Book} {t : List ℕ} {e : Entry} {n₀ : ℕ} {text₀ : List ℕ}
   text-long = simp length-sets at (ap length text-is)
 
   pub after-sound : Sound c
-  after-sound = subst Sound (sym book-is) (swept start (start-sound (w .taken)) (b .count) (omega arith) .sound)
+  after-sound = subst Sound (sym book-is) (swept start (clocked-sound (w .taken)) (b .count) (omega arith) .sound)
 
   pub after-count : c .count ≡ b .count
   after-count = loop-count (w .taken) (w .sweeping) (w .few)
 
   pub after-roster : c .roster ≡ b .roster
-  after-roster = ap (λ (d : Book). d .roster) book-is ∙ swept start (start-sound (w .taken)) (b .count) (omega arith) .roster
+  after-roster = ap (λ (d : Book). d .roster) book-is ∙ swept start (clocked-sound (w .taken)) (b .count) (omega arith) .roster
 
   -- no TxId changes, and so the index stays
   pub after-txid : (i : ℕ) → orderOf (c .orders) i .txid ≡ orderOf (b .orders) i .txid
   after-txid i =
-      ap (λ (d : Book). orderOf (d .orders) i .txid) (w .sweeping .book) ∙ swept-txid start (start-sound (w .taken)) m (w .few) i
+      ap (λ (d : Book). orderOf (d .orders) i .txid) (w .sweeping .book) ∙ swept-txid start (clocked-sound (w .taken)) m (w .few) i
 
-  pub after-index : {wordsOf : List ℕ → List ℕ} {bucketOf : List ℕ → ℕ} {rows heads links : List ℕ}
-      → TxidIndex wordsOf bucketOf b rows heads links → TxidIndex wordsOf bucketOf c rows heads links
+  pub after-index : {wordsOf : List ℕ → List ℕ} {bucketOf : List ℕ → ℕ} {txids heads links : List ℕ}
+      → TxidIndex wordsOf bucketOf b txids heads links → TxidIndex wordsOf bucketOf c txids heads links
   after-index f = same-index f after-count after-txid
 
   -- all cover together stays, and is within the limit
   pub after-all : allOf (c .covers) ≡ allOf (b .covers)
-  after-all = ap (λ (d : Book). allOf (d .covers)) book-is ∙ swept-all start (start-sound (w .taken)) (b .count) (omega arith)
+  after-all = ap (λ (d : Book). allOf (d .covers)) book-is ∙ swept-all start (clocked-sound (w .taken)) (b .count) (omega arith)
 
   pub all-few : allOf (c .covers) ≤ mostTotal
   all-few = let e = all-total c after-sound in let l = after-sound .limited in omega arith
@@ -170,26 +170,36 @@ module _ {b : Book} {t : List ℕ} {e : Entry} {n₀ : ℕ} {text₀ : List ℕ}
     pub turn : stepOf b t
         ≡ record {
           refusal = v .refusal;
-          reports = done .reports ++ toldBy c (decisionBy (sought c e t) v);
+          reports = sweptStep .reports ++ toldBy c (decisionBy (sought c e t) v);
           rows = decisionBy (sought c e t) v .rows;
           book = applied c (decisionBy (sought c e t) v);
         }
     turn =
         step-taken b t
         ∙ ap (λ (x : Entry). takenAs b x t) (sym (w .taken .is))
-        ∙ ap (λ (r : ℕ). carried (sweptFor r start) (judged (e .refusal) (sought (sweptFor r start .book) e t))) (w .taken .passes)
+        ∙ ap (λ (r : ℕ). carriedOut (sweptFor r start) (judged (e .refusal) (sought (sweptFor r start .book) e t))) (w .taken .passes)
         ∙ ap
         (λ (d : Book).
         let j = judged (e .refusal) (sought d e t) in
-        record { refusal = j .refusal; reports = done .reports ++ toldBy d (j .decision); rows = j .decision .rows; book = applied d (j .decision) })
+        record {
+          refusal = j .refusal;
+          reports = sweptStep .reports ++ toldBy d (j .decision);
+          rows = j .decision .rows;
+          book = applied d (j .decision);
+        })
         (sym book-is)
         ∙ ap
         (λ (j : Judged).
-        record { refusal = j .refusal; reports = done .reports ++ toldBy c (j .decision); rows = j .decision .rows; book = applied c (j .decision) })
+        record {
+          refusal = j .refusal;
+          reports = sweptStep .reports ++ toldBy c (j .decision);
+          rows = j .decision .rows;
+          book = applied c (j .decision);
+        })
         judged-is
 
     -- can be carried out
-    pub applicable : Applicable c (decisionBy (sought c e t) v)
-    applicable =
+    pub verdict-applicable : Applicable c (decisionBy (sought c e t) v)
+    verdict-applicable =
         subst (λ (j : Judged). Applicable c (j .decision)) judged-is
         (judged-applicable c after-sound (b .clock) t e (subst (Entered (b .clock) t) (sym (w .taken .is)) (entered (b .clock) t)))

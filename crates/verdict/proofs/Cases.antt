@@ -5,14 +5,26 @@ use mathlib.Core.Path.{refl}
 use mathlib.Core.Bool.{true, false}
 use mathlib.Core.List.{List, [], _∷_}
 use Rattle.fields.specs.declared.search.Found.the-variants.{At, Nothing}
-use Rattle.fields.proofs.Rows.{Row, AllMet, all-met}
+use Rattle.fields.proofs.CaseRows.{Row, AllMet, all-met}
 use Rattle.dayfile.specs.declared.route.Followed.the-variants as way
 use Rattle.rules.specs.declared.Recall.the-variants as mark
 use Rattle.rules.specs.declared.Status.{Status}
 use Rattle.rules.specs.declared.Status.the-variants as status
 use Rattle.rules.specs.declared.verdict.About.{About}
 use Rattle.rules.specs.declared.verdict.Verdict.{Verdict}
-use Rattle.verdict.specs.Judgement.{coverInVerdict, coverOutVerdict, orderVerdict, yesVerdict, noVerdict, recallVerdict, returnVerdict, declineVerdict, inquiryVerdict, cutsVerdict, confirmVerdict}
+use Rattle.verdict.specs.Judgement.{
+  coverInVerdict,
+  coverOutVerdict,
+  orderVerdict,
+  yesVerdict,
+  noVerdict,
+  recallVerdict,
+  returnVerdict,
+  declineVerdict,
+  inquiryVerdict,
+  cutsVerdict,
+  confirmVerdict,
+}
 
 -- of a verdict: the refusal, and the two reports, to whom and which code
 abbrev seen : Verdict → List ℕ
@@ -65,7 +77,8 @@ cases =
     ∷ answers "a decline" (declineVerdict (At 1) (At 7) asked) (0 ∷ 0 ∷ 7 ∷ 0 ∷ 0 ∷ [])
     ∷ refuses "a decline that was not asked for" (declineVerdict (At 1) (At 7) unmarked) 18
     ∷ refuses "a decline of no order" (declineVerdict (At 1) Nothing unmarked) 16
-    ∷ answers "an inquiry about an order that waits for a bank" (inquiryVerdict (At 0) (At 7) (of status.Waiting) true) (0 ∷ 0 ∷ 9 ∷ 0 ∷ 0 ∷ [])
+    ∷ answers "an inquiry about an order that waits for a bank"
+    (inquiryVerdict (At 0) (At 7) (of status.Waiting) true) (0 ∷ 0 ∷ 9 ∷ 0 ∷ 0 ∷ [])
     ∷ answers "for a linked system" (inquiryVerdict (At 0) (At 7) (of status.Waiting) false) (0 ∷ 1 ∷ 8 ∷ 0 ∷ 0 ∷ [])
     ∷ answers "about a refused one" (inquiryVerdict (At 0) (At 7) (of status.Refused) true) (0 ∷ 0 ∷ 3 ∷ 0 ∷ 0 ∷ [])
     ∷ answers "about an expired one" (inquiryVerdict (At 0) (At 7) (of status.Expired) true) (0 ∷ 0 ∷ 4 ∷ 0 ∷ 0 ∷ [])

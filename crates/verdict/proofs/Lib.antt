@@ -1,4 +1,4 @@
 pub mod Cases
 pub mod Meaning
-pub mod Fitting
-pub mod Moving
+pub mod VerdictLaws
+pub mod VerdictMoving

@@ -1,4 +1,4 @@
--- A verdict stands for what `intake` judges: `judged-verdict`. Kind by kind the first refusal that applies is that of the chain of checks,
+-- A verdict stands for what `course` judges: `judged-verdict`. Kind by kind the first refusal that applies is that of the chain of checks,
 -- and the step's verdict stands for the step's decision. Assumes nothing.
 use mathlib.Core.Path.{_≡_, refl, sym, _∙_, ap}
 use mathlib.Core.Bool.{Bool, true, false, _&&_, not, cond}
@@ -13,9 +13,22 @@ use Rattle.dayfile.specs.Route.{reached}
 use Rattle.rules.specs.Book.{mostOrders}
 use Rattle.rules.specs.Cover.{mostTotal}
 use Rattle.rules.specs.Status.{isWaiting, isUnmarked, isAsked}
-use Rattle.rules.specs.Decision.{by, nobody, orderKept, orderBecomes, answerOf, decisionOf}
+use Rattle.rules.specs.Decision.{by, nobody, orderKept, orderBecomes, inquiryAnswer, decisionOf}
 use Rattle.rules.specs.Refusal.{namingRefusal, permissionRefusal, backingRefusal, firstOf, firstRefusal}
-use Rattle.rules.specs.Checks.{spaceRefusal, partyRefusal, standing, standingRefusal, sumRefusal, fundsRefusal, confirmRefusal, confirming, brings, limitRefusal, cutCheck, cutRefusal}
+use Rattle.rules.specs.Checks.{
+  spaceRefusal,
+  partyRefusal,
+  standing,
+  standingRefusal,
+  sumRefusal,
+  fundsRefusal,
+  confirmRefusal,
+  confirming,
+  brings,
+  totalRefusal,
+  cutCheck,
+  cutRefusal,
+}
 use Rattle.rules.specs.declared.Recall.the-variants as mark
 use Rattle.rules.specs.declared.Status.{Status}
 use Rattle.rules.specs.declared.Status.the-variants as status
@@ -34,19 +47,47 @@ use Rattle.rules.specs.declared.decision.Move.the-variants.{Give, Draw, Spend, 
 use Rattle.rules.specs.declared.decision.Told.the-variants.{Nobody, One, Two}
 use Rattle.rules.specs.declared.verdict.About.{About}
 use Rattle.rules.specs.declared.verdict.Verdict.{Verdict}
-use Rattle.intake.specs.Judging.{judged, decidedUnless}
-use Rattle.intake.specs.declared.Judged.{Judged}
-use Rattle.verdict.specs.Step.{notice, none, unless, refusedVerdict, coverMoved, opened, settled, turnedDown, recalled, declined, returned, answered, cutVerdict, answerTold, answerAlso}
-use Rattle.verdict.specs.Judgement.{coverInRefusal, coverOutRefusal, orderRefusal, answerRefusal, recallRefusal, returnRefusal, declineRefusal, inquiryRefusal, verdictOf}
-use Rattle.verdict.specs.Meaning.{aboutOf, factsOf, reportBy, toldBy, decisionBy, judgedBy}
+use Rattle.course.specs.Judging.{judged, decidedUnless}
+use Rattle.course.specs.declared.Judged.{Judged}
+use Rattle.verdict.specs.OwnStep.{
+  notice,
+  noNotice,
+  unless,
+  refusedVerdict,
+  coverMoved,
+  opened,
+  settled,
+  turnedDown,
+  recalled,
+  declined,
+  returned,
+  answered,
+  cutVerdict,
+  answerTold,
+  answerAlso,
+}
+use Rattle.verdict.specs.Judgement.{
+  coverInRefusal,
+  coverOutRefusal,
+  orderRefusal,
+  answerRefusal,
+  recallRefusal,
+  returnRefusal,
+  declineRefusal,
+  inquiryRefusal,
+  verdictOf,
+}
+use Rattle.verdict.specs.Meaning.{aboutOf, factsOf, reportBy, noticesTold, decisionBy, judgedBy}
 
 -- refused by n, or a step
 unless-judged : (x : Finding) (n : ℕ) (v : Verdict) → firstRefusal x ≡ n → v .refusal ≡ 0 → decisionOf x ≡ decisionBy x v
     → judged 0 x ≡ judgedBy x (unless n v)
-unless-judged x n v refuses accepts stands = ap (λ (m : ℕ). record { refusal = m; decision = decidedUnless m x }) refuses ∙ go (eqb n 0) refl
+unless-judged x n v refuses accepts stands =
+    ap (λ (m : ℕ). record { refusal = m; decision = decidedUnless m x }) refuses ∙ go (eqb n 0) refl
   where
     go : (z : Bool) → eqb n 0 ≡ z
-        → record { refusal = n; decision = cond z (decisionOf x) (orderKept x nobody false Nobody) } ≡ judgedBy x (cond z v (refusedVerdict n))
+        → record { refusal = n; decision = cond z (decisionOf x) (orderKept x nobody false Nobody) }
+        ≡ judgedBy x (cond z v (refusedVerdict n))
     go true e = λ i. record { refusal = (eqb-true n 0 e ∙ sym accepts) i; decision = stands i }
     go false e = refl
 
@@ -88,11 +129,13 @@ party-alone : (right : Bool)
 party-alone true = refl
 party-alone false = refl
 
-funds-alone : (short : Bool) → backingRefusal (cond short backing.TooLittle backing.Backed) ≡ fundsRefusal (cond short funds.TooLittle funds.Enough)
+funds-alone : (short : Bool)
+    → backingRefusal (cond short backing.TooLittle backing.Backed) ≡ fundsRefusal (cond short funds.TooLittle funds.Enough)
 funds-alone true = refl
 funds-alone false = refl
 
-limit-alone : (above : Bool) → backingRefusal (cond above backing.AboveLimit backing.Backed) ≡ limitRefusal (cond above limit.Above limit.Within)
+limit-alone : (above : Bool)
+    → backingRefusal (cond above backing.AboveLimit backing.Backed) ≡ totalRefusal (cond above limit.Above limit.Within)
 limit-alone true = refl
 limit-alone false = refl
 
@@ -103,16 +146,17 @@ cut-alone false = refl
 -- a confirm: whether nothing is held, whether its amount is within an open debit, whether it is all that is held, whether it goes above
 -- the limit
 abbrev pub confirmed : Bool → Bool → Bool → Confirming
-confirmed none within all = cond none (cond within (By Debit) Excluded) (cond all (By Credit) Excluded)
+confirmed noNotice within all = cond noNotice (cond within (By Debit) Excluded) (cond all (By Credit) Excluded)
 
-confirm-checks : (y : Finding) (p n : ℕ) (none within all above : Bool)
-    → let m = backingRefusal (cond (not (cond none within all)) backing.NotAsCut (cond (none && above) backing.AboveLimit backing.Backed)) in
-    let decides = orderKept y (by p (cond none Debit Credit) n) false Nobody in
-    let how = confirming (confirmed none within all) in
+confirm-checks : (y : Finding) (p n : ℕ) (noNotice within all above : Bool)
+    → let m = backingRefusal
+    (cond (not (cond noNotice within all)) backing.NotAsCut (cond (noNotice && above) backing.AboveLimit backing.Backed)) in
+    let decides = orderKept y (by p (cond noNotice Debit Credit) n) false Nobody in
+    let how = confirming (confirmed noNotice within all) in
     record { refusal = m; decision = cond (eqb m 0) decides (orderKept y nobody false Nobody) }
     ≡ judgedBy y
     (unless
-    (firstOf (confirmRefusal (confirmed none within all)) (limitRefusal (cond (brings how && above) limit.Above limit.Within)))
+    (firstOf (confirmRefusal (confirmed noNotice within all)) (totalRefusal (cond (brings how && above) limit.Above limit.Within)))
     (coverMoved p how n))
 confirm-checks y p n true true all true = refl
 confirm-checks y p n true true all false = refl
@@ -123,13 +167,13 @@ confirm-checks y p n false within false above = refl
 -- who is told of a yes, and of an order that waits: the payee a bank or not
 yes-told : (payer payee i n : ℕ) (bank : Bool)
     → cond bank (Two (reportBy (notice payer 2) i n) (reportBy (notice payee 2) i n)) (One (reportBy (notice payer 2) i n))
-    ≡ toldBy (notice payer 2) (cond bank (notice payee 2) none) i n
+    ≡ noticesTold (notice payer 2) (cond bank (notice payee 2) noNotice) i n
 yes-told payer payee i n true = refl
 yes-told payer payee i n false = refl
 
 waiting-told : (payer payee i n : ℕ) (bank : Bool)
     → One (cond bank (reportBy (notice payer 9) i n) (reportBy (notice payee 8) i n))
-    ≡ toldBy (cond bank (notice payer 9) (notice payee 8)) none i n
+    ≡ noticesTold (cond bank (notice payer 9) (notice payee 8)) noNotice i n
 waiting-told payer payee i n true = refl
 waiting-told payer payee i n false = refl
 
@@ -213,7 +257,8 @@ module _ (x : Finding) where
   return (At p) (At i) r =
       unless-judged (of kind.Return (At p) (At i) r)
       (returnRefusal (At p) (At i) about (x .cover .available) (x .amount)) (returned i about (x .amount))
-      (return-checks (eqb p (about .payee)) (isAsked (about .status)) (eqb (x .amount) (about .amount)) (ltb (x .cover .available) (x .amount)))
+      (return-checks (eqb p (about .payee)) (isAsked (about .status)) (eqb (x .amount) (about .amount))
+      (ltb (x .cover .available) (x .amount)))
       refl refl
 
   decline : (s o r : Found) → Stands (of kind.Decline s o r)
@@ -224,7 +269,8 @@ module _ (x : Finding) where
       (party-standing (eqb p (about .payee)) (isAsked (about .status))) refl refl
 
   inquiry-told : (p i : ℕ) (r : Found) (s : Status)
-      → answerOf (of kind.Inquiry (At p) (At i) r) s ≡ toldBy (answerTold about (x .bank) s) (answerAlso about s) i (about .amount)
+      → inquiryAnswer (of kind.Inquiry (At p) (At i) r) s
+      ≡ noticesTold (answerTold about (x .bank) s) (answerAlso about s) i (about .amount)
   inquiry-told p i r status.Waiting = waiting-told (about .payer) (about .payee) i (about .amount) (x .bank)
   inquiry-told p i r status.Refused = refl
   inquiry-told p i r status.Expired = refl

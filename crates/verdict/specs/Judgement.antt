@@ -11,19 +11,61 @@ use Rattle.ticket.specs.declared.kinds.Kind.{Kind}
 use Rattle.ticket.specs.declared.kinds.Kind.the-variants as kind
 use Rattle.dayfile.specs.declared.route.Followed.{Followed}
 use Rattle.rules.specs.Refusal.{firstOf}
-use Rattle.rules.specs.Checks.{senderCheck, senderRefusal, sending, newCheck, newRefusal, payeeCheck, payeeRefusal, receiving, spaceCheck, spaceRefusal, heldCheck, heldRefusal, named, partyCheck, partyRefusal, waitingCheck, unmarkedCheck, askedCheck, standingRefusal, sumCheck, sumRefusal, fundsCheck, fundsRefusal, cutCheck, cutRefusal, confirmCheck, confirmRefusal, confirming, limitCheck, limitRefusal}
+use Rattle.rules.specs.Checks.{
+  senderCheck,
+  senderRefusal,
+  sending,
+  newCheck,
+  newRefusal,
+  payeeCheck,
+  payeeRefusal,
+  receiving,
+  spaceCheck,
+  spaceRefusal,
+  heldCheck,
+  heldRefusal,
+  named,
+  partyCheck,
+  partyRefusal,
+  waitingCheck,
+  unmarkedCheck,
+  askedCheck,
+  standingRefusal,
+  sumCheck,
+  sumRefusal,
+  fundsCheck,
+  fundsRefusal,
+  cutCheck,
+  cutRefusal,
+  confirmCheck,
+  confirmRefusal,
+  confirming,
+  limitCheck,
+  totalRefusal,
+}
 use Rattle.rules.specs.declared.decision.Move.the-variants.{Give, Draw}
 use Rattle.rules.specs.declared.verdict.About.{About}
 use Rattle.rules.specs.declared.verdict.Facts.{Facts}
 use Rattle.rules.specs.declared.verdict.Verdict.{Verdict}
-use Rattle.rules.specs.declared.Cover.{Cover}
-use Rattle.verdict.specs.Step.{unless, nothing, coverMoved, opened, settled, turnedDown, recalled, declined, returned, answered, cutVerdict}
+use Rattle.verdict.specs.OwnStep.{
+  unless,
+  nothing,
+  coverMoved,
+  opened,
+  settled,
+  turnedDown,
+  recalled,
+  declined,
+  returned,
+  answered,
+  cutVerdict,
+}
 
 -- Cover in: available rises
 abbrev pub coverInRefusal : Found → ℕ → ℕ → ℕ
 coverInRefusal sender total n =
     firstOf (senderRefusal (senderCheck sender))
-    (limitRefusal (limitCheck Give total n))
+    (totalRefusal (limitCheck Give total n))
 
 abbrev pub coverInVerdict : Found → ℕ → ℕ → Verdict
 coverInVerdict sender total n = unless (coverInRefusal sender total n) (coverMoved (sending (senderCheck sender)) Give n)
@@ -119,7 +161,7 @@ abbrev pub confirmsRefusal : Found → ℕ → ℕ → ℕ → ℕ → ℕ
 confirmsRefusal sender held debit total n =
     firstOf (senderRefusal (senderCheck sender))
     (firstOf (confirmRefusal (confirmCheck held debit n))
-    (limitRefusal (limitCheck (confirming (confirmCheck held debit n)) total n)))
+    (totalRefusal (limitCheck (confirming (confirmCheck held debit n)) total n)))
 
 abbrev pub confirmVerdict : Found → ℕ → ℕ → ℕ → ℕ → Verdict
 confirmVerdict sender held debit total n =

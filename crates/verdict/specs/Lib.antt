@@ -1,3 +1,3 @@
-pub mod Step
+pub mod OwnStep
 pub mod Judgement
 pub mod Meaning

@@ -26,7 +26,7 @@ use Rattle.rules.specs.declared.verdict.Does.the-variants.{Nothing, Opens, Beco
 use Rattle.rules.specs.declared.verdict.Mover.{Mover}
 use Rattle.rules.specs.declared.verdict.Notice.{Notice}
 use Rattle.rules.specs.declared.verdict.Verdict.{Verdict}
-use Rattle.intake.specs.declared.Judged.{Judged}
+use Rattle.course.specs.declared.Judged.{Judged}
 
 abbrev pub aboutOf : Order → About
 aboutOf o = record { payer = o .payer; payee = o .payee; amount = o .amount; status = o .status }
@@ -67,13 +67,13 @@ abbrev pub reportBy : Notice → ℕ → ℕ → Report
 reportBy a i n = record { to = a .to; code = a .code; order = i; amount = n }
 
 -- code 0 is no report, and there is no second without a first
-abbrev pub toldBy : Notice → Notice → ℕ → ℕ → Told
-toldBy a b i n =
+abbrev pub noticesTold : Notice → Notice → ℕ → ℕ → Told
+noticesTold a b i n =
     cond (eqb (a .code) 0) Nobody (cond (eqb (b .code) 0) (One (reportBy a i n)) (Two (reportBy a i n) (reportBy b i n)))
 
 -- which order is written, what it becomes, how many are held then, whether all covers are cut, rows followed
-abbrev pub decided : ℕ → Order → ℕ → Bool → ℕ → Verdict → Decision
-decided i o count cuts rows v =
+abbrev verdictDecision : ℕ → Order → ℕ → Bool → ℕ → Verdict → Decision
+verdictDecision i o count cuts rows v =
     record {
       number = i;
       order = o;
@@ -81,15 +81,15 @@ decided i o count cuts rows v =
       first = transferBy (v .first) (v .amount);
       second = transferBy (v .second) (v .amount);
       cuts = cuts;
-      told = toldBy (v .told) (v .also) (v .number) (v .amount);
+      told = noticesTold (v .told) (v .also) (v .number) (v .amount);
       rows = rows;
     }
 
 abbrev pub decidedBy : Does → Finding → Verdict → Decision
-decidedBy Nothing x v = decided (numberOf (x .order)) (x .about) (x .count) false 0 v
-decidedBy Opens x v = decided (x .count) (newOrder x) (x .count + 1) false (rowsFollowed (x .way)) v
-decidedBy (Becomes s) x v = decided (numberOf (x .order)) (withStatus (x .about) s) (x .count) false 0 v
-decidedBy Cuts x v = decided (numberOf (x .order)) (x .about) (x .count) true 0 v
+decidedBy Nothing x v = verdictDecision (numberOf (x .order)) (x .about) (x .count) false 0 v
+decidedBy Opens x v = verdictDecision (x .count) (newOrder x) (x .count + 1) false (rowsFollowed (x .way)) v
+decidedBy (Becomes s) x v = verdictDecision (numberOf (x .order)) (withStatus (x .about) s) (x .count) false 0 v
+decidedBy Cuts x v = verdictDecision (numberOf (x .order)) (x .about) (x .count) true 0 v
 
 abbrev pub decisionBy : Finding → Verdict → Decision
 decisionBy x v = decidedBy (v .does) x v

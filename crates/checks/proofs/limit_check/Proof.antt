@@ -1,7 +1,7 @@
 -- `checks::limit_check` meets its contract: what is left below the limit is held against the amount. Assumes nothing.
 use Rattle.rules.specs.Cover.{mostTotal}
 use borrow.Author.Needs.{needs}
-use Rattle.checks.proofs.Limits.{above-limit}
+use Rattle.fields.proofs.Compared.{above-limit}
 use Rattle.checks.proofs.limit_check.Statement.{statement}
 use Rattle.checks.proofs.limit_check.Tie as tie
 

@@ -8,7 +8,7 @@ use borrow.Author.Needs.{needs}
 use lib.ListN.{length, getD, drop, drop-of-length-le}
 use denote.Ref.{now}
 use Rattle.classes.specs.Class.{isIn, allIn}
-use Rattle.fields.proofs.Reading.{left-from}
+use Rattle.fields.proofs.FromFront.{left-from}
 use Rattle.classes.proofs.all_in.Statement.{statement}
 use Rattle.classes.proofs.all_in.Tie as tie
 

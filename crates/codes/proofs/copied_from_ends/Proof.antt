@@ -32,4 +32,5 @@ copied-from-ends-spec =
     (λ c κs. search needs)
     (λ c.
     let start = c .before .before .before .before .before .before .before .before .before in
-    ends-filled (now (start .args .s)) (start .pre .0) (c .before .before .before .before .before .copy .ensures) (start .pre .1) (c .before .copy2 .ensures)))
+    ends-filled (now (start .args .s)) (start .pre .0) (c .before .before .before .before .before .copy .ensures) (start .pre .1)
+    (c .before .copy2 .ensures)))

@@ -3,7 +3,7 @@ use denote.Ref.{now}
 use borrow.Author.Needs.{needs}
 use borrow.Author.Tests.{eq-eqb, ne-eqb}
 use Rattle.codes.specs.Bic.{isBic}
-use Rattle.fields.proofs.Reading.{to-end}
+use Rattle.fields.proofs.FromFront.{to-end}
 use Rattle.codes.proofs.zolfigar_bic_ok.Statement.{statement}
 use Rattle.codes.proofs.zolfigar_bic_ok.Tie as tie
 

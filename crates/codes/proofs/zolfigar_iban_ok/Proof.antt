@@ -11,12 +11,12 @@ use lib.Dec.{eqb}
 use lib.ListN.{length}
 use Rattle.fields.specs.Text.{padded}
 use Rattle.fields.proofs.Padding.{length-padded}
-use Rattle.classes.specs.Answer.{answer}
+use Rattle.classes.specs.CheckAnswer.{answer}
 use Rattle.classes.specs.Class.{allIn}
 use Rattle.classes.specs.declared.Class.the-variants.{LetterOrDigit}
 use Rattle.iban.specs.Iban.{isIban}
 use Rattle.iban.specs.Spelling.{speltMoved, ibanFront}
-use Rattle.iban.proofs.Whole.{too-few, too-many}
+use Rattle.iban.proofs.WholeIban.{too-few, too-many}
 use Rattle.iban.proofs.Unpadded.{iban-unpadded}
 use Rattle.codes.proofs.zolfigar_iban_ok.Statement.{statement}
 use Rattle.codes.proofs.zolfigar_iban_ok.Tie as tie
@@ -37,7 +37,8 @@ fronted : (c : tie.Else3) → ibanFront (s (c .before .before)) ≡ true
 fronted c = sym (c .before .iban-front .ensures) ∙ not-false _ (c .if3 .left)
 
 -- so are the classes
-passed : (c : tie.Else4) → eqb (speltMoved (padded 34 (s (c .before .before .before .before)))) 1 ≡ isIban (s (c .before .before .before .before))
+passed : (c : tie.Else4)
+    → eqb (speltMoved (padded 34 (s (c .before .before .before .before)))) 1 ≡ isIban (s (c .before .before .before .before))
 passed c =
     let l = c .before .before .before .before in
     let spelt = sym (c .before .all-in .ensures) ∙ not-false _ (c .if4 .left) in

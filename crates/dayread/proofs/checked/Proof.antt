@@ -7,14 +7,14 @@ use native.Mathlib.Omega.{arith}
 use denote.Ref.{now}
 use lib.ListN.{length}
 use Rattle.dayfile.specs.Header.{headed}
-use Rattle.dayfile.specs.Check.{InRange, ranged, placed, routed}
+use Rattle.dayfile.specs.Check.{CountsInRange, ranged, placed, routed}
 use Rattle.dayfile.specs.Roster.{RowsWithin}
 use Rattle.dayfile.specs.DayFile.{dayFile, refusedFile, fileHeaded, fileRanged, filePlaced, fileEnrolled, fileRouted}
 use Rattle.dayfile.specs.declared.header.Header.{Header}
 use Rattle.dayfile.specs.declared.header.Headed.the-variants.{As}
 use Rattle.dayfile.specs.declared.check.Ranged.the-variants.{Within}
 use Rattle.dayfile.specs.declared.check.Placed.the-variants.{Right}
-use Rattle.dayfile.proofs.Passing.{InPlace, in-range, in-place, file-headed, file-ranged, file-placed}
+use Rattle.dayfile.proofs.Passing.{InPlace, counts-in-range, in-place, file-headed, file-ranged, file-placed}
 use Rattle.dayread.specs.Outcome.{refusedHeader, fileOf}
 use Rattle.dayread.specs.declared.Outcome.{Outcome}
 use borrow.Author.Needs.{needs}
@@ -29,7 +29,8 @@ abbrev header : tie.After-check-counts → Header
 header c = c .before .before .h .given .0 .0
 
 -- a refused file has the rows of a header of nothing
-both : (f : List ℕ) (n : ℕ) (c : Outcome) → c ≡ refusedHeader n → refusedFile n ≡ dayFile f → (fileOf f c ≡ dayFile f) × RowsWithin (c .header) (length f)
+both : (f : List ℕ) (n : ℕ) (c : Outcome) → c ≡ refusedHeader n → refusedFile n ≡ dayFile f
+    → (fileOf f c ≡ dayFile f) × RowsWithin (c .header) (length f)
 both f n c e is = rw e (is, record { few = omega arith; participants = omega arith; short = omega arith; routes = omega arith })
 
 -- 1 passed
@@ -48,12 +49,13 @@ place c = sym (c .before .before .check-places .ensures) ∙ c .enum-told4 .give
 placing : (c : tie.After-enum-told4) → let k = c .before .before .before .before .before in InPlace (header k) (length (given k))
 placing c = let k = c .before .before .before .before .before in in-place (header k) (length (given k)) (place c)
 
-ranging : (c : tie.After-enum-told4) → InRange (header (c .before .before .before .before .before) .counts)
-ranging c = in-range (header (c .before .before .before .before .before)) (range (c .before .before .before))
+ranging : (c : tie.After-enum-told4) → CountsInRange (header (c .before .before .before .before .before) .counts)
+ranging c = counts-in-range (header (c .before .before .before .before .before)) (range (c .before .before .before))
 
 -- the file from refusal 4 on
 from-participants : (c : tie.After-check-participants)
-    → let k = c .before .before .before .before .before .before .before .before in dayFile (given k) ≡ fileEnrolled (header k) (given k) (c .check-participants .result)
+    → let k = c .before .before .before .before .before .before .before .before in
+    dayFile (given k) ≡ fileEnrolled (header k) (given k) (c .check-participants .result)
 from-participants c =
     let e = c .before .before .before in
     let k = e .before .before .before .before .before in
@@ -62,13 +64,15 @@ from-participants c =
 
 -- the file from refusal 5 on
 from-routes : (c : tie.After-check-routes)
-    → let k = c .before .before .before .before .before .before .before .before .before .before .before in dayFile (given k) ≡ fileRouted (header k) (given k) (c .check-routes .result)
+    → let k = c .before .before .before .before .before .before .before .before .before .before .before in
+    dayFile (given k) ≡ fileRouted (header k) (given k) (c .check-routes .result)
 from-routes c =
     let p = c .before .before .before in
     let k = p .before .before .before .before .before .before .before .before in
     from-participants p
     ∙ ap (fileEnrolled (header k) (given k)) (c .before .enum-told6 .given .1)
-    ∙ ap (fileRouted (header k) (given k)) {x = routed (header k .counts .participants) (header k .offsets .routes) (header k .counts .routes) (given k)} (sym (c .check-routes .ensures))
+    ∙ ap (fileRouted (header k) (given k)) {x = routed (header k .counts .participants) (header k .offsets .routes)
+    (header k .counts .routes) (given k)} (sym (c .check-routes .ensures))
 
 pub checked-spec : {M : Type 1} → statement M
 unfolding dayFile
@@ -81,7 +85,8 @@ checked-spec =
     (λ c κs. search needs)
     (λ c.
     let r = c .before .before .before in
-    both _ _ _ (c .refused .ensures) (sym (ap (fileHeaded (now (r .before .before .args .f))) (sym (r .read-header .ensures) ∙ c .before .enum-told .given .1))))
+    both _ _ _ (c .refused .ensures)
+    (sym (ap (fileHeaded (now (r .before .before .args .f))) (sym (r .read-header .ensures) ∙ c .before .enum-told .given .1))))
     (λ c κs. search needs)
     (λ c. search needs)
     (λ c. search needs)
@@ -89,8 +94,9 @@ checked-spec =
     (λ c.
     let k = c .before .before .before in
     both _ _ _ (c .refused2 .ensures)
-    (sym (file-headed (given k) (header k) (head k) ∙ ap (fileRanged (header k) (given k)) (sym (k .check-counts .ensures) ∙ c .before .enum-told3 .given .1))))
-    (λ c κs. in-range (header (c .before .before)) (range c))
+    (sym (file-headed (given k) (header k) (head k)
+    ∙ ap (fileRanged (header k) (given k)) (sym (k .check-counts .ensures) ∙ c .before .enum-told3 .given .1))))
+    (λ c κs. counts-in-range (header (c .before .before)) (range c))
     (λ c. search needs)
     (λ c. search needs)
     (λ c κs. search needs)
@@ -108,7 +114,8 @@ checked-spec =
     (λ c.
     let p = c .before .before .before in
     let k = p .before .before .before .before .before .before .before .before in
-    both _ _ _ (c .refused4 .ensures) (sym (from-participants p ∙ ap (fileEnrolled (header k) (given k)) (c .before .enum-told7 .given .1))))
+    both _ _ _ (c .refused4 .ensures)
+    (sym (from-participants p ∙ ap (fileEnrolled (header k) (given k)) (c .before .enum-told7 .given .1))))
     (λ c κs. let e = c .before .before .before .before .before in let p = placing e in (ranging e .routes, omega arith))
     (λ c. search needs)
     (λ c. search needs)

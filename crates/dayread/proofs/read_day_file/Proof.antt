@@ -5,14 +5,14 @@ use Prim.Native.Nat.{ℕ}
 use Rattle.dayfile.specs.DayFile.{dayFile}
 use Rattle.dayfile.specs.Guarantee.{RosterNumbers}
 use Rattle.dayfile.specs.declared.DayFile.{DayFile}
-use Rattle.dayfile.proofs.Accepted.{numbers}
+use Rattle.dayfile.proofs.Accepted.{roster-has-numbers}
 use borrow.Author.Needs.{needs}
 use Rattle.dayread.proofs.read_day_file.Statement.{statement}
 use Rattle.dayread.proofs.read_day_file.Tie as tie
 
 -- the enums of what is read have the numbers that stand in the file
 both : (f : List ℕ) (d : DayFile) → d ≡ dayFile f → (d ≡ dayFile f) × RosterNumbers f (d .roster)
-both f d e = (e, subst (λ (x : DayFile). RosterNumbers f (x .roster)) (sym e) (numbers f))
+both f d e = (e, subst (λ (x : DayFile). RosterNumbers f (x .roster)) (sym e) (roster-has-numbers f))
 
 pub read-day-file-spec : {M : Type 1} → statement M
 read-day-file-spec =

@@ -18,7 +18,8 @@ abbrev μ-loop : tie.MeasureT-loop
 left-over : (c : tie.In-loop Inv-loop μ-loop) → c .before .loop .number < c .before .before .args .inputs
 left-over c =
     let l = c .before in
-    ltb-true (l .loop .number) (l .before .args .inputs) (and-right (l .loop .whole) (ltb (l .loop .number) (l .before .args .inputs)) (c .loop-test .taken))
+    ltb-true (l .loop .number) (l .before .args .inputs)
+    (and-right (l .loop .whole) (ltb (l .loop .number) (l .before .args .inputs)) (c .loop-test .taken))
 
 pub hand-all-spec : {M : Type 1} → statement M
 hand-all-spec =

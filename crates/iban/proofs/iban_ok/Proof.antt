@@ -11,7 +11,7 @@ use Rattle.fields.specs.Text.{unpadded}
 use Rattle.classes.specs.Class.{allIn}
 use Rattle.classes.specs.declared.Class.the-variants.{LetterOrDigit}
 use Rattle.iban.specs.Spelling.{speltMoved, ibanFront}
-use Rattle.iban.proofs.Moved.{iban-tested}
+use Rattle.iban.proofs.Rearranged.{iban-tested}
 use Rattle.iban.proofs.iban_ok.Statement.{statement}
 use Rattle.iban.proofs.iban_ok.Tie as tie
 

@@ -4,8 +4,8 @@ use mathlib.Core.List.{[], _∷_}
 use Prim.Native.Nat.{ℕ}
 use denote.Ref.{now}
 use Rattle.fields.specs.Rows.{firstRow}
-use Rattle.index.specs.Chains.{rowBucket}
-use Rattle.index.proofs.Chaining.{searchable}
+use Rattle.index.specs.RowChains.{rowBucket}
+use Rattle.index.proofs.RowChains.{searchable}
 use borrow.Author.Needs.{needs}
 use Rattle.index.proofs.find_bic.Statement.{statement}
 use Rattle.index.proofs.find_bic.Tie as tie

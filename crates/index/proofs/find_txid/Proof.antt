@@ -4,8 +4,8 @@ use mathlib.Core.List.{List}
 use Prim.Native.Nat.{ℕ}
 use denote.Ref.{now}
 use Rattle.fields.specs.Rows.{firstRow}
-use Rattle.index.specs.Chains.{rowBucket}
-use Rattle.index.proofs.Chaining.{searchable}
+use Rattle.index.specs.RowChains.{rowBucket}
+use Rattle.index.proofs.RowChains.{searchable}
 use Rattle.index.proofs.LittleEndian.{five-words}
 use borrow.Author.Needs.{needs}
 use Rattle.index.proofs.find_txid.Statement.{statement}

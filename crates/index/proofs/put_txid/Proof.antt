@@ -4,7 +4,7 @@ use Prim.Native.Nat.{ℕ, _+_, _*_}
 use denote.Ref.{now}
 use lib.ListN.{getD, set}
 use lib.Seq.{sets}
-use Rattle.index.specs.Chains.{rowBucket}
+use Rattle.index.specs.RowChains.{rowBucket}
 use Rattle.index.proofs.LittleEndian.{five-words}
 use borrow.Author.Needs.{needs}
 use Rattle.index.proofs.put_txid.Statement.{statement}

@@ -4,16 +4,16 @@ use Prim.Native.Nat.{_-_}
 use lib.ListN.{length}
 use Rattle.dayfile.specs.Roster.{rowOf}
 use Rattle.index.specs.Words.{bicWords}
-use Rattle.index.proofs.Filling.{Made, none-made, one-made, all-made}
+use Rattle.index.proofs.RowsFilling.{Made, none-made, one-made, all-made}
 use borrow.Author.Needs.{needs}
 use Rattle.index.proofs.route_bics_of.Statement.{statement}
 use Rattle.index.proofs.route_bics_of.Tie as tie
 
 abbrev Inv-loop : tie.InvT-loop
-Inv-loop rows routes bics₀ i₀ bics i = Made 2 128 rows (λ k. bicWords (rowOf routes k .bic)) i bics
+Inv-loop count routes bics₀ i₀ bics i = Made 2 128 count (λ k. bicWords (rowOf routes k .bic)) i bics
 
 abbrev μ-loop : tie.MeasureT-loop
-μ-loop rows routes bics₀ i₀ bics i = rows - i
+μ-loop count routes bics₀ i₀ bics i = count - i
 
 -- a field is as wide as its row wants
 wide-field : (c : tie.In-loop Inv-loop μ-loop) → length (rowOf (c .before .before .args .t1) (c .before .loop .i) .bic) ≡ 11

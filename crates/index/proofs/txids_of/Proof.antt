@@ -4,7 +4,7 @@ use Prim.Native.Nat.{_-_}
 use lib.ListN.{length}
 use Rattle.rules.specs.Book.{orderOf}
 use Rattle.index.specs.Words.{txidWords}
-use Rattle.index.proofs.Filling.{Made, none-made, one-made, all-made}
+use Rattle.index.proofs.RowsFilling.{Made, none-made, one-made, all-made}
 use borrow.Author.Needs.{needs}
 use Rattle.index.proofs.txids_of.Statement.{statement}
 use Rattle.index.proofs.txids_of.Tie as tie

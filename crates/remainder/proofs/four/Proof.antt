@@ -1,9 +1,9 @@
 -- `remainder::four` meets its contract. Assumes nothing.
-use mathlib.Core.Path.{_≡_, _∙_, ap₂}
+use mathlib.Core.Path.{_∙_, ap₂}
 use Prim.Native.Nat.{_+_, _*_, _^_, _≤_}
 use denote.Ref.{now}
 use native.Mathlib.Omega.{arith}
-use Rattle.remainder.proofs.Carrying.{most, carried-parts}
+use Rattle.remainder.proofs.PairNumber.{most, carried-parts}
 use borrow.Author.Needs.{needs}
 use Rattle.remainder.proofs.four.Statement.{statement}
 use Rattle.remainder.proofs.four.Tie as tie

@@ -1,7 +1,7 @@
 -- `remainder::last` meets its contract. Assumes nothing.
 use Prim.Native.Nat.{_*_, _^_, _≤_}
 use native.Mathlib.Omega.{arith}
-use Rattle.remainder.proofs.Carrying.{most}
+use Rattle.remainder.proofs.PairNumber.{most}
 use borrow.Author.Needs.{needs}
 use Rattle.remainder.proofs.last.Statement.{statement}
 use Rattle.remainder.proofs.last.Tie as tie

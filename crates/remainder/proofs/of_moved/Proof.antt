@@ -1,6 +1,6 @@
 -- `remainder::of_moved` meets its contract. Assumes nothing.
 use denote.Ref.{now}
-use Rattle.remainder.proofs.Carrying.{moved-carried}
+use Rattle.remainder.proofs.PairNumber.{moved-carried}
 use borrow.Author.Needs.{needs}
 use Rattle.remainder.proofs.of_moved.Statement.{statement}
 use Rattle.remainder.proofs.of_moved.Tie as tie

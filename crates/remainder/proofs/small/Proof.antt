@@ -2,8 +2,7 @@
 use mathlib.Core.Path.{refl}
 use Prim.Native.Nat.{_*_, _≤_}
 use native.Mathlib.Omega.{arith}
-use Rattle.remainder.proofs.Carrying.{most}
-use borrow.Author.Needs.{needs}
+use Rattle.remainder.proofs.PairNumber.{most}
 use Rattle.remainder.proofs.small.Statement.{statement}
 use Rattle.remainder.proofs.small.Tie as tie
 

@@ -1,8 +1,8 @@
 -- `remainder::three` meets its contract. Assumes nothing.
-use mathlib.Core.Path.{_≡_, _∙_, ap, ap₂}
-use Prim.Native.Nat.{ℕ, _+_, _*_, _^_, _≤_, _<_}
+use mathlib.Core.Path.{ap₂}
+use Prim.Native.Nat.{_+_, _*_, _^_, _≤_, _<_}
 use native.Mathlib.Omega.{arith}
-use Rattle.remainder.proofs.Carrying.{most}
+use Rattle.remainder.proofs.PairNumber.{most}
 use borrow.Author.Needs.{needs}
 use Rattle.remainder.proofs.three.Statement.{statement}
 use Rattle.remainder.proofs.three.Tie as tie

@@ -1,9 +1,8 @@
 -- `remainder::two` meets its contract. Assumes nothing.
-use mathlib.Core.Path.{_≡_}
 use Prim.Native.Nat.{_+_, _*_, _^_, _≤_, _<_}
 use native.Mathlib.Nat.{zero-mul, zero-add, add-zero}
 use native.Mathlib.Omega.{arith}
-use Rattle.remainder.proofs.Carrying.{most}
+use Rattle.remainder.proofs.PairNumber.{most}
 use borrow.Author.Needs.{needs}
 use Rattle.remainder.proofs.two.Statement.{statement}
 use Rattle.remainder.proofs.two.Tie as tie
@@ -39,6 +38,13 @@ two-spec =
     (λ c κs. search needs)
     (λ c. omega (arith, product (c .before .before), number c))
     (λ c. (
-      simp (add-zero, zero-mul, zero-add, c .before .before .before .before .wide .ensures, c .before .before .wide2 .ensures, c .wide3 .ensures),
+      simp (
+        add-zero,
+        zero-mul,
+        zero-add,
+        c .before .before .before .before .wide .ensures,
+        c .before .before .wide2 .ensures,
+        c .wide3 .ensures,
+      ),
       omega (arith, product (c .before .before), number c),
     )))

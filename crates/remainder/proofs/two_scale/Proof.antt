@@ -1,9 +1,8 @@
 -- `remainder::two_scale` meets its contract. Assumes nothing.
-use mathlib.Core.Path.{_≡_}
 use Prim.Native.Nat.{_+_, _*_, _^_, _≤_}
 use native.Mathlib.Nat.{one-mul, add-zero}
 use native.Mathlib.Omega.{arith}
-use Rattle.remainder.proofs.Carrying.{most}
+use Rattle.remainder.proofs.PairNumber.{most}
 use borrow.Author.Needs.{needs}
 use Rattle.remainder.proofs.two_scale.Statement.{statement}
 use Rattle.remainder.proofs.two_scale.Tie as tie

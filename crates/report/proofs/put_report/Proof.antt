@@ -7,7 +7,7 @@ use denote.Ref.{now}
 use lib.ListN.{length-set}
 use lib.Seq.{sets}
 use Rattle.fields.specs.Number.{bytesOf}
-use Rattle.report.proofs.Laws.{field-by-field}
+use Rattle.report.proofs.ReportLaws.{field-by-field}
 use borrow.Author.Needs.{needs}
 use Rattle.report.proofs.put_report.Statement.{statement}
 use Rattle.report.proofs.put_report.Tie as tie

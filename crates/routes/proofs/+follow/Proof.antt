@@ -28,7 +28,8 @@ below t = and 2 follow-kinds.ps (falls 2 follow-kinds.ps _<_ μ-follow t) follow
 
 -- the row goes on from an earlier one, and what was found from there
 on : (t : ℕ) (c : follow-lts.After-follow (below t, follow.Post) (at t) follow.Post)
-    → let a = c .before .before .before .before .before .before .args in followed (targetBy (now (a .kinds)) (now (a .numbers))) (a .row) ≡ oneMore (c .follow .result)
+    → let a = c .before .before .before .before .before .before .args in
+    followed (targetBy (now (a .kinds)) (now (a .numbers))) (a .row) ≡ oneMore (c .follow .result)
 on t c =
     let e = c .before .before in
     let a = e .before .before .before .before .args in
@@ -46,19 +47,22 @@ pub +follow-spec : {M : Type 1} → statement M
     (at t)
     follow.Post
     -- there is no such row
-    (λ c. sym (followed-out (targetBy (now (c .before .args .kinds)) (now (c .before .args .numbers))) (c .before .args .row) (c .if1 .taken)))
+    (λ c. sym
+    (followed-out (targetBy (now (c .before .args .kinds)) (now (c .before .args .numbers))) (c .before .args .row) (c .if1 .taken)))
     (λ c. search needs)
     (λ c. search needs)
     (λ c. search needs)
     -- it leads to a participant
     (λ c.
     let a = c .before .before .before .before .args in
-    sym (follows-to (targetBy (now (a .kinds)) (now (a .numbers))) (a .row) (search needs) _ (by-participant (now (a .kinds)) (now (a .numbers)) (a .row) (c .if2 .taken))))
+    sym (follows-to (targetBy (now (a .kinds)) (now (a .numbers))) (a .row) (search needs) _
+    (by-participant (now (a .kinds)) (now (a .numbers)) (a .row) (c .if2 .taken))))
     -- it goes on from no earlier one
     (λ c.
     let e = c .before in
     let a = e .before .before .before .before .args in
-    sym (follows-none (targetBy (now (a .kinds)) (now (a .numbers))) (a .row) (search needs) _ (by-row (now (a .kinds)) (now (a .numbers)) (a .row) (e .if2 .left)) (c .if3 .taken)))
+    sym (follows-none (targetBy (now (a .kinds)) (now (a .numbers))) (a .row) (search needs) _
+    (by-row (now (a .kinds)) (now (a .numbers)) (a .row) (e .if2 .left)) (c .if3 .taken)))
     (λ c κs. (omega arith, tt))
     (λ c. search needs)
     (λ c.

@@ -1,5 +1,5 @@
 -- `sight::see` meets its contract: what is asked for was found, and amount and time follow. Assumes nothing.
-use mathlib.Core.Path.{_≡_, sym, _∙_, ap}
+use mathlib.Core.Path.{sym, _∙_, ap}
 use denote.Ref.{now}
 use Rattle.sight.specs.Value.{formedSight}
 use Rattle.sight.specs.declared.Sight.{Sight}

@@ -3,11 +3,11 @@ use mathlib.Core.Path.{sym, _∙_, ap}
 use mathlib.Core.List.{List}
 use Prim.Native.Nat.{ℕ}
 use denote.Ref.{now}
-use Rattle.classes.specs.Answer.{answer}
+use Rattle.classes.specs.CheckAnswer.{answer}
 use Rattle.codes.specs.Txid.{isTxid}
-use Rattle.ticket.specs.Layout.{txidOf}
-use Rattle.ticket.specs.Reading.{txidPart}
-use Rattle.classes.proofs.Answer.{answered-yes, answered-no}
+use Rattle.ticket.specs.TicketLayout.{txidOf}
+use Rattle.ticket.specs.TicketReading.{txidPart}
+use Rattle.classes.proofs.CheckAnswer.{answered-yes, answered-no}
 use borrow.Author.Tests.{eq-eqb, ne-eqb}
 use borrow.Author.Needs.{needs}
 use Rattle.ticket.proofs.txid.Statement.{statement}
@@ -33,10 +33,12 @@ txid-spec =
     (λ c.
     let ok = c .before in
     let u = ok .before in
-    let is = answered-yes (isTxid (txidOf (now (u .before .before .before .before .args .t)))) (ok .zolfigar-txid-ok .ensures ∙ ap (λ (s : List ℕ). answer (isTxid s)) (u .unpadded .ensures)) (c .if2 .taken) in
+    let is = answered-yes (isTxid (txidOf (now (u .before .before .before .before .args .t))))
+    (ok .zolfigar-txid-ok .ensures ∙ ap (λ (s : List ℕ). answer (isTxid s)) (u .unpadded .ensures)) (c .if2 .taken) in
     u .unpadded .ensures ∙ sym (simp (eq-eqb _ _ (u .before .before .if1 .left), is)))
     (λ c.
     let ok = c .before .before in
     let u = ok .before in
-    let is = answered-no (isTxid (txidOf (now (u .before .before .before .before .args .t)))) (ok .zolfigar-txid-ok .ensures ∙ ap (λ (s : List ℕ). answer (isTxid s)) (u .unpadded .ensures)) (c .before .if2 .left) in
+    let is = answered-no (isTxid (txidOf (now (u .before .before .before .before .args .t))))
+    (ok .zolfigar-txid-ok .ensures ∙ ap (λ (s : List ℕ). answer (isTxid s)) (u .unpadded .ensures)) (c .before .if2 .left) in
     simp (eq-eqb _ _ (u .before .before .if1 .left), is)))

@@ -52,7 +52,8 @@ hand-in-spec =
     record {
       outcome =
           ap (λ (r : Handed). handedIn r (now (s .args .buffer))) e
-          ∙ short-outcome (s .args .b) (now (s .args .ticket)) (now (s .args .buffer)) (is-short _ (sym (check .buffer-of .ensures) ∙ c .before .enum-told2 .given .1));
+          ∙ short-outcome (s .args .b) (now (s .args .ticket)) (now (s .args .buffer))
+          (is-short _ (sym (check .buffer-of .ensures) ∙ c .before .enum-told2 .given .1));
       sound = subst (λ (r : Handed). Sound (r .book)) (sym e) (s .pre);
     })
     (λ c κs. search needs)
@@ -62,7 +63,8 @@ hand-in-spec =
     record {
       outcome =
           ap (λ (r : Handed). handedIn r (now (s .args .buffer))) e
-          ∙ other-outcome (s .args .b) (now (s .args .ticket)) (now (s .args .buffer)) (long-enough (c .before .before)) (c .before .if1 .taken);
+          ∙ other-outcome (s .args .b) (now (s .args .ticket)) (now (s .args .buffer))
+          (long-enough (c .before .before)) (c .before .if1 .taken);
       sound = subst (λ (r : Handed). Sound (r .book)) (sym e) (s .pre);
     })
     (λ c. search needs)
@@ -76,7 +78,8 @@ hand-in-spec =
     let s = told .before .before .before .before .before in
     record {
       outcome =
-          one-outcome (s .args .b) (s .pre) (now (s .args .ticket)) (replicate 4 0) (now (s .args .buffer)) refl (ran .before .before .before .if1 .left) (long-enough told)
+          one-outcome (s .args .b) (s .pre) (now (s .args .ticket)) (replicate 4 0) (now (s .args .buffer)) refl
+          (ran .before .before .before .if1 .left) (long-enough told)
           (ran .run .ensures) (c .before .answer-at .result) (c .before .answer-at .ensures);
       sound = ran .run .ensures .sound;
     }))

@@ -4,7 +4,7 @@ use denote.Ref.{now}
 use Rattle.dayfile.specs.declared.DayFile.{DayFile}
 use Rattle.rules.specs.Book.{freshBook}
 use Rattle.rules.specs.Sound.{Sound}
-use Rattle.rules.proofs.Stepping.{file-sound}
+use Rattle.rules.proofs.StepSound.{file-sound}
 use borrow.Author.Needs.{needs}
 use Rattle.book.proofs.opening.open.Statement.{statement}
 use Rattle.book.proofs.opening.open.Tie as tie

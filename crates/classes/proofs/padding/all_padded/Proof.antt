@@ -7,7 +7,7 @@ use native.Mathlib.Omega.{arith}
 use borrow.Author.Needs.{needs}
 use lib.ListN.{length, getD, drop}
 use denote.Ref.{now}
-use Rattle.classes.specs.Padding.{stands}
+use Rattle.classes.specs.PaddedBytes.{stands}
 use Rattle.classes.proofs.Unpadding.{allStand, all-stand, stand-from, stand-last}
 use Rattle.classes.proofs.padding.all_padded.Statement.{statement}
 use Rattle.classes.proofs.padding.all_padded.Tie as tie

@@ -1,10 +1,9 @@
 -- `core::directory::directory_of` meets its contract. Assumes nothing.
-use Prim.Native.Nat.{ℕ}
 use native.Mathlib.Omega.{arith}
 use borrow.Author.Needs.{needs}
-use Rattle.codes.proofs.Whole.{bic-length}
+use Rattle.codes.proofs.WholeCodes.{bic-length}
 use Rattle.dayfile.specs.Roster.{participantIn, rowOf}
-use Rattle.index.proofs.Lending.{bic-rows}
+use Rattle.index.proofs.LentRows.{bic-rows}
 use Rattle.core.proofs.directory.directory_of.Statement.{statement}
 use Rattle.core.proofs.directory.directory_of.Tie as tie
 

@@ -1,5 +1,5 @@
--- `core::taking::take` meets its contract: the list of its needs. What is cited stands in the files of the folder `Proof`, a phase of a turn
--- in each. Assumes nothing.
+-- `core::taking::take` meets its contract: the list of its needs. What is cited stands in the files of the folder `Proof`, a phase of a
+-- turn in each. Assumes nothing.
 -- places by Inv-loop2 μ-loop2 Inv-loop μ-loop
 -- place start: Start
 -- place known: After-shared-slice-known
@@ -36,23 +36,50 @@
 -- place told-all: After-put-answer3
 -- place late: Then4
 -- place late-told: After-put-answer2
-use mathlib.Core.Path.{_≡_}
 use native.Mathlib.Omega.{arith}
 use borrow.Author.Needs.{needs}
-use Rattle.intake.proofs.Running.{ended}
-use Rattle.intake.proofs.Seeking.{total-sum}
+use Rattle.course.proofs.Running.{ended}
+use Rattle.course.proofs.Seeking.{total-sum}
 use Rattle.turns.proofs.Turn.{loop-begun}
 use Rattle.turns.proofs.Done.{answer-is}
-use Rattle.core.proofs.Keeping.{kept-on}
+use Rattle.core.proofs.LoopKeeping.{kept-on}
 use Rattle.core.proofs.Searching.{txids-lent}
 use Rattle.core.proofs.taking.take.Statement.{statement}
 use Rattle.core.proofs.taking.take.Tie as tie
 use Rattle.core.proofs.taking.take.Proof.Invariants.{Inv-loop2, μ-loop2, Inv-loop, μ-loop}
-use Rattle.core.proofs.taking.take.Proof.Starting.{begun}
-use Rattle.core.proofs.taking.take.Proof.Loop.{start, tickets, answers₀, reports₀, sound, long-answers, long-reports, ticket-is, head, more, room, next-fits, whole-ticket, txid-long, last, none-more}
+use Rattle.core.proofs.taking.take.Proof.Starting.{taking-begun}
+use Rattle.core.proofs.taking.take.Proof.Loop.{
+  start,
+  tickets,
+  answers₀,
+  reports₀,
+  sound,
+  long-answers,
+  long-reports,
+  ticket-is,
+  head,
+  more,
+  room,
+  next-fits,
+  whole-ticket,
+  txid-long,
+  last,
+  none-more,
+}
 use Rattle.core.proofs.taking.take.Proof.Seen.{refused-done, refused-is}
-use Rattle.core.proofs.taking.take.Proof.Expiring.{outer, taken, below, number-below, payer-below, payee-below, early, freeable, told-fits, one-expired}
-use Rattle.core.proofs.taking.take.Proof.Judging.{sender-number, order-number, payee-number, all-few, suits}
+use Rattle.core.proofs.taking.take.Proof.Expiring.{
+  outer,
+  taken,
+  below,
+  number-below,
+  payer-below,
+  payee-below,
+  early,
+  freeable,
+  told-fits,
+  one-expired,
+}
+use Rattle.core.proofs.taking.take.Proof.Judging.{sender-number, order-number, payee-number, swept-total-few, suits}
 use Rattle.core.proofs.taking.take.Proof.Refusing.{late-done}
 use Rattle.core.proofs.taking.take.Proof.Carrying.{first-sum, second-has, second-sum, notices-fit}
 use Rattle.core.proofs.taking.take.Proof.Ending.{space, few-participants, cut-fits, uncut-whole, done}
@@ -79,9 +106,12 @@ take-spec =
     μ-loop
     (λ c κs. let s = to.start-from-After-orders c .pre .0 .orders in (s .count, s .padded))
     (λ c. let h = c .before .txids-of .ensures .0 in search needs)
-    (λ c κs. let few = to.start-from-After-txids c .pre .0 .orders .count in let h = c .before .txids-of .ensures .0 in (omega arith, omega arith))
+    (λ c κs.
+    let few = to.start-from-After-txids c .pre .0 .orders .count in
+    let h = c .before .txids-of .ensures .0 in
+    (omega arith, omega arith))
     (λ c κs. let s = to.start-from-After-covers c in (s .pre .0 .roster .size, rw (total-sum (s .args .t1)) (s .pre .0 .limited)))
-    (λ c. begun c)
+    (λ c. taking-begun c)
     (λ c. let g = start c .good in search needs)
     (λ c. let g = start c .good in let h = c .loop .inv .going .ticketsLeft in search needs)
     (λ c. let g = start c .good in search needs)
@@ -104,7 +134,10 @@ take-spec =
     (λ c. search needs)
     (λ c. search needs)
     (λ c κs. search needs)
-    (λ c κs. let h = room (to.room-from-After-refusal-of c) .answer in let e = long-answers (to.head-from-After-refusal-of c) in omega arith)
+    (λ c κs.
+    let h = room (to.room-from-After-refusal-of c) .answer in
+    let e = long-answers (to.head-from-After-refusal-of c) in
+    omega arith)
     (λ c. let h = next-fits (to.room-from-After-slice-known3 c) in omega arith)
     (λ c. let h = room (to.room-from-After-slice-known3 c) .ticket in omega arith)
     (λ c.
@@ -149,7 +182,7 @@ take-spec =
     (λ c. let h = payee-number (c .before .before) in search needs)
     (λ c. payee-number (c .before .before))
     (λ c κs. search needs)
-    (λ c κs. all-few c)
+    (λ c κs. swept-total-few c)
     (λ c. let h = late-done (to.late-from-After-put-answer-arg2 c) .told in omega arith)
     (λ c. let d = late-done (to.late-from-After-put-answer-arg2 c) in let h = d .told in let few = d .fewTold in omega arith)
     (λ c κs.
@@ -212,13 +245,17 @@ take-spec =
     (λ c. let h = done (to.done-from-After-row-known c) .told in omega arith)
     (λ c. let d = done (to.done-from-After-row-known c) in let h = d .told in let few = d .fewTold in omega arith)
     (λ c. let h = done (to.done-from-After-row-known2 c) .fewRows in omega arith)
-    (λ c κs. let h = room (to.room-from-After-row-known2 c) .answer in let e = long-answers (to.head-from-After-row-known2 c) in omega arith)
+    (λ c κs.
+    let h = room (to.room-from-After-row-known2 c) .answer in
+    let e = long-answers (to.head-from-After-row-known2 c) in
+    omega arith)
     (λ c. let h = next-fits (to.room-from-After-slice-known8 c) in omega arith)
     (λ c. let h = room (to.room-from-After-slice-known8 c) .ticket in omega arith)
     (λ c.
     let h = to.head-from-After-slice-known8 c in
     let d = done (to.done-from-After-slice-known8 c) in
-    kept-on (h .loop .inv) (more (to.room-from-After-slice-known8 c)) (ticket-is h) d (answer-is d) (to.told-all-from-After-slice-known8 c .put-answer3 .ensures))
+    kept-on (h .loop .inv) (more (to.room-from-After-slice-known8 c)) (ticket-is h) d (answer-is d)
+    (to.told-all-from-After-slice-known8 c .put-answer3 .ensures))
     (λ c. long-answers (last c))
     (λ c. long-reports (last c))
     (λ c. let l = last c in ended (start l .args .t1) (tickets l) (answers₀ l) (reports₀ l) (l .loop .inv .going) (none-more c)))

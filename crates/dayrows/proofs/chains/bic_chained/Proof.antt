@@ -6,15 +6,15 @@ use native.Mathlib.Omega.{arith}
 use denote.Ref.{now}
 use lib.ListN.{length}
 use Rattle.fields.proofs.Indexing.{row-within}
-use Rattle.dayrows.specs.Chains.{Searchable}
-use Rattle.dayrows.proofs.Chaining.{LeftBelow, left-at-head, left-at-link, link-falls, all-compared}
+use Rattle.dayrows.specs.BicChains.{BicSearchable}
+use Rattle.dayrows.proofs.BicChains.{Comparing, comparing-at-head, comparing-at-link, compared-link-falls, all-compared}
 use borrow.Author.Needs.{needs}
 use Rattle.dayrows.proofs.chains.bic_chained.Statement.{statement}
 use Rattle.dayrows.proofs.chains.bic_chained.Tie as tie
 
 abbrev Inv-loop : tie.InvT-loop
 Inv-loop f start width n own heads links bucket found₀ at₀ found at =
-    (s : Searchable start width n own bucket f heads links) × LeftBelow start width n own bucket f heads links s found at
+    (s : BicSearchable start width n own bucket f heads links) × Comparing start width n own bucket f heads links s found at
 
 abbrev μ-loop : tie.MeasureT-loop
 μ-loop f start width n own heads links bucket found₀ at₀ found at = at
@@ -27,11 +27,11 @@ module _ (c : tie.In-loop Inv-loop μ-loop) where
   abbrev i : ℕ
   i = a .loop .at - 1
 
-  here : LeftBelow _ _ _ _ _ _ _ _ (a .loop .inv .0) (a .loop .found) (i + 1)
+  here : Comparing _ _ _ _ _ _ _ _ (a .loop .inv .0) (a .loop .found) (i + 1)
   here =
       let t = c .loop-test .taken in
       let e : a .loop .at ≡ i + 1 = omega arith in
-      subst (LeftBelow _ _ _ _ _ _ _ _ (a .loop .inv .0) (a .loop .found)) e (a .loop .inv .1)
+      subst (Comparing _ _ _ _ _ _ _ _ (a .loop .inv .0) (a .loop .found)) e (a .loop .inv .1)
 
   below : i < a .before .before .before .before .before .before .args .n
   below = let h = here .few in omega arith
@@ -54,7 +54,7 @@ bic-chained-spec =
     (λ c κs. search needs)
     (λ c.
     let s = c .before .before .before .before .before .pre in
-    (s, subst (LeftBelow _ _ _ _ _ _ _ _ s _) (sym (c .number .ensures)) (left-at-head _ _ _ _ _ _ _ _ s)))
+    (s, subst (Comparing _ _ _ _ _ _ _ _ s _) (sym (c .number .ensures)) (comparing-at-head _ _ _ _ _ _ _ _ s)))
     (λ c. search needs)
     (λ c. let e = row-ends c in search needs)
     (λ c. let e = row-ends c in search needs)
@@ -64,17 +64,18 @@ bic-chained-spec =
     (λ c.
     let l = c .before .before .before in
     let e = c .number2 .ensures in
-    let f = link-falls _ _ _ _ _ _ _ _ (l .before .loop .inv .0) (i l) (here l) in
+    let f = compared-link-falls _ _ _ _ _ _ _ _ (l .before .loop .inv .0) (i l) (here l) in
     let t = l .loop-test .taken in
     omega arith)
     (λ c.
     let l = c .before .before .before in
     let s = l .before .loop .inv .0 in (
       s,
-      subst₂ (LeftBelow _ _ _ _ _ _ _ _ s) (ap (λ (b : Bool). l .before .loop .found || b) (sym (c .before .before .same-bic .ensures)))
-          (sym (c .number2 .ensures)) (left-at-link _ _ _ _ _ _ _ _ s (i l) (here l)),
+      subst₂ (Comparing _ _ _ _ _ _ _ _ s) (ap (λ (b : Bool). l .before .loop .found || b) (sym (c .before .before .same-bic .ensures)))
+          (sym (c .number2 .ensures)) (comparing-at-link _ _ _ _ _ _ _ _ s (i l) (here l)),
     ))
     (λ c.
     let l = c .before in
     let e : l .loop .at ≡ 0 = let t = c .loop-test .left in omega arith in
-    all-compared _ _ _ _ _ _ _ _ (l .loop .inv .0) (subst (LeftBelow _ _ _ _ _ _ _ _ (l .loop .inv .0) (l .loop .found)) e (l .loop .inv .1))))
+    all-compared _ _ _ _ _ _ _ _ (l .loop .inv .0)
+    (subst (Comparing _ _ _ _ _ _ _ _ (l .loop .inv .0) (l .loop .found)) e (l .loop .inv .1))))

@@ -11,17 +11,19 @@ use lib.ListN.{length, take, drop}
 use Rattle.fields.specs.Number.{part}
 use Rattle.fields.proofs.Indexing.{row-within}
 use Rattle.fields.proofs.Stores.{length-part}
-use Rattle.dayrows.specs.Chains.{buckets, bicBucket, bicIn, Chained, bicRepeats}
-use Rattle.dayrows.proofs.Chaining.{none-chained, enchained, more-repeats}
+use Rattle.fields.specs.Chains.{Chained}
+use Rattle.dayrows.specs.BicChains.{bicBuckets, bicBucket, bicIn, bicRepeats}
+use Rattle.fields.proofs.Chaining.{none-chained, enchained}
+use Rattle.dayrows.proofs.BicChains.{more-repeats}
 use borrow.Author.Needs.{needs}
 use Rattle.dayrows.proofs.chains.bic_repeats.Statement.{statement}
 use Rattle.dayrows.proofs.chains.bic_repeats.Tie as tie
 
 -- what the first i rows left
-pub record Looked (start width i : ℕ) (f heads links : List ℕ) (found : Bool) : Type 0 where
-  pub headed : length heads ≡ buckets
+record Looked (start width i : ℕ) (f heads links : List ℕ) (found : Bool) : Type 0 where
+  pub headed : length heads ≡ bicBuckets
   pub linked : length links ≡ 64
-  pub chained : Chained (λ j. bicBucket (bicIn start width f j)) i heads links
+  pub chained : Chained bicBuckets (λ j. bicBucket (bicIn start width f j)) i heads links
   pub told : found ≡ bicRepeats start width i f
 
 abbrev Inv-loop : tie.InvT-loop
@@ -60,7 +62,7 @@ bic-repeats-spec =
     (tie.spec
     Inv-loop
     μ-loop
-    (λ c. (search needs, record { headed = refl; linked = refl; chained = none-chained _ _; told = refl }))
+    (λ c. (search needs, record { headed = refl; linked = refl; chained = none-chained bicBuckets _ _; told = refl }))
     (λ c. let e = row-ends c in search needs)
     (λ c. let e = row-ends c in search needs)
     (λ c. let e = row-ends c in search needs)

@@ -1,4 +1,5 @@
--- `dayrows::check::check_participants` meets its contract. The loop's invariant: whether the first i rows are right by themselves. Assumes nothing.
+-- `dayrows::check::check_participants` meets its contract. The loop's invariant: whether the first i rows are right by themselves.
+-- Assumes nothing.
 use mathlib.Core.Path.{_≡_, sym, _∙_, ap, ap₂}
 use mathlib.Core.Bool.{Bool, _&&_, not, cond}
 use mathlib.Core.List.{List}
@@ -7,12 +8,12 @@ use native.Mathlib.Numerals.{add-one}
 use native.Mathlib.Omega.{arith}
 use denote.Ref.{now}
 use Rattle.fields.specs.UpTo.{allTo}
-use Rattle.dayfile.specs.Limits.{participantLength}
-use Rattle.dayfile.specs.Rows.{participantOk, bicAmong}
+use Rattle.fields.proofs.UpTo.{all-apart}
+use Rattle.dayfile.specs.FileLimits.{participantLength}
+use Rattle.dayfile.specs.FileRows.{participantOk, bicAmong}
 use Rattle.dayfile.specs.Check.{participantsOk}
 use Rattle.dayfile.specs.declared.check.Enrolled.the-variants.{Right, Wrong}
-use Rattle.dayrows.specs.Chains.{bicIn}
-use Rattle.dayrows.proofs.Chaining.{all-apart}
+use Rattle.dayrows.specs.BicChains.{bicIn}
 use borrow.Author.Needs.{needs}
 use Rattle.dayrows.proofs.check.check_participants.Statement.{statement}
 use Rattle.dayrows.proofs.check.check_participants.Tie as tie

@@ -1,7 +1,7 @@
 -- `dayrows::rows::route_ok` meets its contract. Assumes nothing.
 use native.Mathlib.Nat.{add-sub-cancel-left}
-use Rattle.fields.proofs.Reading.{span}
-use Rattle.classes.proofs.Answer.{answer-is-1}
+use Rattle.fields.proofs.FromFront.{span}
+use Rattle.classes.proofs.CheckAnswer.{answer-is-1}
 use borrow.Author.Needs.{needs}
 use Rattle.dayrows.proofs.rows.route_ok.Statement.{statement}
 use Rattle.dayrows.proofs.rows.route_ok.Tie as tie

@@ -20,4 +20,5 @@ u16-at-spec =
     (λ c. search needs)
     (λ c.
     let a = c .before .before .before .before .before .args in
-    ap₂ (λ (x y : ℕ). x * 256 + y) (c .before .before .wide .ensures .0) (c .wide2 .ensures .0) ∙ sym (numberAt-two (a .at) (now (a .s)) (search needs))))
+    ap₂ (λ (x y : ℕ). x * 256 + y) (c .before .before .wide .ensures .0) (c .wide2 .ensures .0)
+    ∙ sym (numberAt-two (a .at) (now (a .s)) (search needs))))

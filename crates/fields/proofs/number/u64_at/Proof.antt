@@ -20,4 +20,5 @@ u64-at-spec =
     (λ c. search needs)
     (λ c.
     let a = c .before .before .before .args in
-    ap₂ (λ (x y : ℕ). x * 4294967296 + y) (c .before .u32-at .ensures) (c .u32-at2 .ensures) ∙ sym (numberAt-join 4 4 (a .at) (now (a .s)) (search needs))))
+    ap₂ (λ (x y : ℕ). x * 4294967296 + y) (c .before .u32-at .ensures) (c .u32-at2 .ensures)
+    ∙ sym (numberAt-join 4 4 (a .at) (now (a .s)) (search needs))))

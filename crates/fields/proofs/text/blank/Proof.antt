@@ -8,7 +8,7 @@ use denote.Ref.{now}
 use lib.Dec.{eqb}
 use lib.ListN.{length, getD, drop, drop-of-length-le}
 use Rattle.fields.specs.Text.{blank}
-use Rattle.fields.proofs.Reading.{left-from}
+use Rattle.fields.proofs.FromFront.{left-from}
 use borrow.Author.Needs.{needs}
 use Rattle.fields.proofs.text.blank.Statement.{statement}
 use Rattle.fields.proofs.text.blank.Tie as tie

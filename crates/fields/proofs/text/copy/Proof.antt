@@ -52,5 +52,6 @@ copy-spec =
     let a = l .before .args in
     let inv = l .loop .inv in
     inv .filled
-    ∙ ap₂ _++_ (take-all (l .loop .i) (now (a .src)) (c .loop-test .left)) (drop-of-length-le (now (a .dst)) {i = l .loop .i} (search needs))
+    ∙ ap₂ _++_ (take-all (l .loop .i) (now (a .src)) (c .loop-test .left))
+    (drop-of-length-le (now (a .dst)) {i = l .loop .i} (search needs))
     ∙ append-nil (now (a .src))))

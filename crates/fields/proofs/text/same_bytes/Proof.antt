@@ -44,5 +44,6 @@ same-bytes-spec =
     (λ c.
     let l = c .before in
     let a = l .before .before .args in
-    let none = ap₂ same (drop-of-length-le (now (a .a)) (c .loop-test .left)) (drop-of-length-le (now (a .b)) {i = l .loop .i} (search needs)) in
+    let none = ap₂ same (drop-of-length-le (now (a .a)) (c .loop-test .left))
+    (drop-of-length-le (now (a .b)) {i = l .loop .i} (search needs)) in
     sym (l .loop .inv .2 ∙ ap (_&&_ (l .loop .equal)) none ∙ and-true (l .loop .equal))))

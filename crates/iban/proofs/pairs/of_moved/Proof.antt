@@ -7,7 +7,7 @@ use denote.Ref.{now}
 use lib.ListN.{length, length-set}
 use borrow.Author.Needs.{needs}
 use Rattle.fields.specs.UpTo.{rowsTo}
-use Rattle.iban.proofs.Carrying.{worthAt, scaleAt, Filled, filled, filled-fits, moved-spelt}
+use Rattle.iban.proofs.BytePairs.{worthAt, scaleAt, FilledPairs, pairs-filled, filled-fits, moved-spelt}
 use Rattle.iban.proofs.pairs.of_moved.Statement.{statement}
 use Rattle.iban.proofs.pairs.of_moved.Tie as tie
 
@@ -25,10 +25,10 @@ abbrev μ-loop : tie.MeasureT-loop
 -- behind the loop
 all-filled : (c : tie.After-scales Inv-loop μ-loop)
     → let l = c .before .before .before in
-    Filled (now (l .before .before .args .s)) (l .loop .numbers) (l .loop .scales)
+    FilledPairs (now (l .before .before .args .s)) (l .loop .numbers) (l .loop .scales)
 all-filled c =
     let l = c .before .before .before in
-    filled (now (l .before .before .args .s)) (l .loop .i) (omega arith) (l .loop .inv .3) (l .loop .inv .4)
+    pairs-filled (now (l .before .before .args .s)) (l .loop .i) (omega arith) (l .loop .inv .3) (l .loop .inv .4)
 
 pub of-moved-spec : {M : Type 1} → statement M
 of-moved-spec =

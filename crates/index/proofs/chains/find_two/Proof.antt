@@ -5,15 +5,15 @@ use Prim.Native.Nat.{ℕ, _+_, _-_, _*_, _≤_, _<_}
 use native.Mathlib.Omega.{arith}
 use denote.Ref.{now}
 use lib.ListN.{length}
-use Rattle.index.specs.Chains.{Searchable}
-use Rattle.index.proofs.Chaining.{LeftBelow, left-at-head, left-at-link, link-falls, found-there, found-nowhere}
+use Rattle.index.specs.RowChains.{RowSearchable}
+use Rattle.index.proofs.RowChains.{LeftBelow, left-at-head, left-at-link, link-falls, found-there, found-nowhere}
 use borrow.Author.Needs.{needs}
 use Rattle.index.proofs.chains.find_two.Statement.{statement}
 use Rattle.index.proofs.chains.find_two.Tie as tie
 
 abbrev Inv-loop : tie.InvT-loop
 Inv-loop heads links rows n bucket a b at₀ at =
-    (s : Searchable 2 n bucket heads links rows (a ∷ b ∷ []))
+    (s : RowSearchable 2 n bucket heads links rows (a ∷ b ∷ []))
     × LeftBelow 2 n bucket heads links rows (a ∷ b ∷ []) s at
 
 abbrev μ-loop : tie.MeasureT-loop
@@ -56,7 +56,8 @@ find-two-spec =
     (λ c κs. row-ends c)
     (λ c.
     let in-loop = c .before .before in
-    sym (found-there _ _ _ _ _ _ _ (in-loop .before .loop .inv .0) (i in-loop) (here in-loop) (sym (c .before .holds-two .ensures) ∙ c .if1 .taken)))
+    sym (found-there _ _ _ _ _ _ _ (in-loop .before .loop .inv .0) (i in-loop) (here in-loop)
+    (sym (c .before .holds-two .ensures) ∙ c .if1 .taken)))
     (λ c. search needs)
     (λ c. let in-loop = c .before .before .before in let b = below in-loop in let k = in-loop .before .loop .inv .0 .linked in omega arith)
     (λ c κs. search needs)
@@ -71,7 +72,8 @@ find-two-spec =
     let s = in-loop .before .loop .inv .0 in (
       s,
       subst (LeftBelow _ _ _ _ _ _ _ s) (sym (c .wide2 .ensures))
-          (left-at-link _ _ _ _ _ _ _ s (i in-loop) (here in-loop) (sym (c .before .before .before .holds-two .ensures) ∙ c .before .before .if1 .left)),
+          (left-at-link _ _ _ _ _ _ _ s (i in-loop) (here in-loop)
+          (sym (c .before .before .before .holds-two .ensures) ∙ c .before .before .if1 .left)),
     ))
     (λ c.
     let l = c .before in

@@ -2,7 +2,7 @@
 use mathlib.Core.Path.{_∙_, ap}
 use Prim.Native.Nat.{ℕ, _%_}
 use native.Mathlib.Omega.{arith}
-use Rattle.index.specs.Chains.{buckets, added}
+use Rattle.index.specs.RowChains.{rowBuckets, added}
 use borrow.Author.Needs.{needs}
 use Rattle.index.proofs.chains.txid_bucket.Statement.{statement}
 use Rattle.index.proofs.chains.txid_bucket.Tie as tie
@@ -19,7 +19,7 @@ txid-bucket-spec =
     let four = c .before in
     let three = four .before in
     let a = three .before .before .args in (
-      ap (λ (n : ℕ). n % buckets)
+      ap (λ (n : ℕ). n % rowBuckets)
           (c .wrapping-add-u644 .ensures
           ∙ ap (λ (n : ℕ). added n (a .e)) (four .wrapping-add-u643 .ensures
           ∙ ap (λ (n : ℕ). added n (a .d)) (three .wrapping-add-u642 .ensures

@@ -5,8 +5,9 @@ use native.Mathlib.Omega.{arith}
 use denote.Ref.{now}
 use lib.ListN.{length}
 use Rattle.fields.specs.Number.{part}
-use Rattle.index.specs.Chains.{buckets, rowBucket, Chained}
-use Rattle.index.proofs.Chaining.{none-chained, enchained}
+use Rattle.fields.specs.Chains.{Chained}
+use Rattle.index.specs.RowChains.{rowBuckets, rowBucket}
+use Rattle.fields.proofs.Chaining.{none-chained, enchained}
 use Rattle.index.proofs.LittleEndian.{part-five}
 use borrow.Author.Needs.{needs}
 use Rattle.index.proofs.chains.txid_chains.Statement.{statement}
@@ -14,7 +15,7 @@ use Rattle.index.proofs.chains.txid_chains.Tie as tie
 
 abbrev Inv-loop : tie.InvT-loop
 Inv-loop rows n heads₀ links₀ i₀ heads links i =
-    (i ≤ n) × (length heads ≡ buckets) × (length links ≡ 256) × Chained (λ k. rowBucket (part 5 (5 * k) rows)) i heads links
+    (i ≤ n) × (length heads ≡ rowBuckets) × (length links ≡ 256) × Chained rowBuckets (λ k. rowBucket (part 5 (5 * k) rows)) i heads links
 
 abbrev μ-loop : tie.MeasureT-loop
 μ-loop rows n heads₀ links₀ i₀ heads links i = n - i
@@ -25,7 +26,7 @@ txid-chains-spec =
     (tie.spec
     Inv-loop
     μ-loop
-    (λ c. (search needs, refl, refl, none-chained _ _))
+    (λ c. (search needs, refl, refl, none-chained rowBuckets _ _))
     (λ c. search needs)
     (λ c. search needs)
     (λ c. search needs)
@@ -60,7 +61,8 @@ txid-chains-spec =
       put .enchain .kept .0 ∙ l .loop .inv .1,
       put .enchain .kept .1 .0 ∙ l .loop .inv .2,
       enchained (l .loop .inv .3) (l .loop .inv .1) (let h = l .loop .inv .2 in omega arith)
-          (told .txid-bucket .ensures .0 ∙ ap rowBucket (sym (part-five (5 * l .loop .i) (now (l .before .before .args .rows)) (omega arith))))
+          (told .txid-bucket .ensures .0
+          ∙ ap rowBucket (sym (part-five (5 * l .loop .i) (now (l .before .before .args .rows)) (omega arith))))
           (told .txid-bucket .ensures .1) (put .enchain .ensures .0) (put .enchain .ensures .1),
     ))
     (λ c.

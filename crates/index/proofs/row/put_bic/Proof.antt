@@ -21,4 +21,5 @@ put-bic-spec =
     let put = c .before .before in
     let a = put .before .before .before .before .before .before .args in
     put .put-two .ensures
-    ∙ ap₂ (λ (x y : ℕ). sets (now (a .rows)) (2 * a .i) (x ∷ y ∷ [])) (put .before .before .word-at .ensures) (put .before .word24-at .ensures)))
+    ∙ ap₂ (λ (x y : ℕ). sets (now (a .rows)) (2 * a .i) (x ∷ y ∷ [])) (put .before .before .word-at .ensures)
+    (put .before .word24-at .ensures)))

@@ -20,4 +20,5 @@ word-at-spec =
     (λ c. search needs)
     (λ c.
     let a = c .before .before .before .args in
-    ap₂ (λ (x y : ℕ). x + y * 4294967296) (c .before .half-at .ensures) (c .half-at2 .ensures) ∙ sym (word-halves (a .at) (now (a .s)) (search needs))))
+    ap₂ (λ (x y : ℕ). x + y * 4294967296) (c .before .half-at .ensures) (c .half-at2 .ensures)
+    ∙ sym (word-halves (a .at) (now (a .s)) (search needs))))

@@ -24,8 +24,13 @@ confirm-spec =
     (λ c.
     let confirming = c .before .before .before in
     let sender = confirming .before .before .before .before in
-    simp
-    (c .refused2 .ensures, c .before .enum-told2 .given .1, ← confirming .confirm-check .ensures, confirming .before .before .p .given .1, ← sender .sender-check .ensures))
+    simp (
+      c .refused2 .ensures,
+      c .before .enum-told2 .given .1,
+      ← confirming .confirm-check .ensures,
+      confirming .before .before .p .given .1,
+      ← sender .sender-check .ensures,
+    ))
     (λ c κs. search needs)
     (λ c. search needs)
     (λ c. search needs)
@@ -35,13 +40,27 @@ confirm-spec =
     let limit = c .before .before .before in
     let confirming = limit .before .before .before .before in
     let sender = confirming .before .before .before .before in
-    simp
-    (c .refused3 .ensures, c .before .enum-told4 .given .1, ← limit .limit-check .ensures, limit .before .before .how .given .1, ← confirming .confirm-check .ensures, confirming .before .before .p .given .1, ← sender .sender-check .ensures))
+    simp (
+      c .refused3 .ensures,
+      c .before .enum-told4 .given .1,
+      ← limit .limit-check .ensures,
+      limit .before .before .how .given .1,
+      ← confirming .confirm-check .ensures,
+      confirming .before .before .p .given .1,
+      ← sender .sender-check .ensures,
+    ))
     (λ c κs. search needs)
     -- none applies
     (λ c.
     let limit = c .before .before .before in
     let confirming = limit .before .before .before .before in
     let sender = confirming .before .before .before .before in
-    simp
-    (c .cover-moved .ensures, c .before .enum-told3 .given .1, ← limit .limit-check .ensures, limit .before .before .how .given .1, ← confirming .confirm-check .ensures, confirming .before .before .p .given .1, ← sender .sender-check .ensures)))
+    simp (
+      c .cover-moved .ensures,
+      c .before .enum-told3 .given .1,
+      ← limit .limit-check .ensures,
+      limit .before .before .how .given .1,
+      ← confirming .confirm-check .ensures,
+      confirming .before .before .p .given .1,
+      ← sender .sender-check .ensures,
+    )))

@@ -24,12 +24,22 @@ cover-out-spec =
     (λ c.
     let funds = c .before .before .before in
     let sender = funds .before .before .before .before in
-    simp
-    (c .refused2 .ensures, c .before .enum-told3 .given .1, ← funds .funds-check .ensures, funds .before .before .p .given .1, ← sender .sender-check .ensures))
+    simp (
+      c .refused2 .ensures,
+      c .before .enum-told3 .given .1,
+      ← funds .funds-check .ensures,
+      funds .before .before .p .given .1,
+      ← sender .sender-check .ensures,
+    ))
     (λ c κs. search needs)
     -- none applies
     (λ c.
     let funds = c .before .before .before in
     let sender = funds .before .before .before .before in
-    simp
-    (c .cover-moved .ensures, c .before .enum-told2 .given .1, ← funds .funds-check .ensures, funds .before .before .p .given .1, ← sender .sender-check .ensures)))
+    simp (
+      c .cover-moved .ensures,
+      c .before .enum-told2 .given .1,
+      ← funds .funds-check .ensures,
+      funds .before .before .p .given .1,
+      ← sender .sender-check .ensures,
+    )))

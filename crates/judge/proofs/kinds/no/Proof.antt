@@ -24,8 +24,13 @@ no-spec =
     (λ c.
     let held = c .before .before .before in
     let sender = held .before .before .before .before in
-    simp
-    (c .refused2 .ensures, c .before .enum-told2 .given .1, ← held .held-check .ensures, held .before .before .p .given .1, ← sender .sender-check .ensures))
+    simp (
+      c .refused2 .ensures,
+      c .before .enum-told2 .given .1,
+      ← held .held-check .ensures,
+      held .before .before .p .given .1,
+      ← sender .sender-check .ensures,
+    ))
     (λ c κs. search needs)
     (λ c. search needs)
     (λ c. search needs)
@@ -35,8 +40,15 @@ no-spec =
     let party = c .before .before .before in
     let held = party .before .before .before .before in
     let sender = held .before .before .before .before in
-    simp
-    (c .refused3 .ensures, c .before .enum-told4 .given .1, ← party .party-check .ensures, party .before .before .i .given .1, ← held .held-check .ensures, held .before .before .p .given .1, ← sender .sender-check .ensures))
+    simp (
+      c .refused3 .ensures,
+      c .before .enum-told4 .given .1,
+      ← party .party-check .ensures,
+      party .before .before .i .given .1,
+      ← held .held-check .ensures,
+      held .before .before .p .given .1,
+      ← sender .sender-check .ensures,
+    ))
     (λ c κs. search needs)
     (λ c. search needs)
     (λ c. search needs)
@@ -47,8 +59,17 @@ no-spec =
     let party = standing .before .before .before in
     let held = party .before .before .before .before in
     let sender = held .before .before .before .before in
-    simp
-    (c .refused4 .ensures, c .before .enum-told6 .given .1, ← standing .waiting-check .ensures, standing .before .enum-told3 .given .1, ← party .party-check .ensures, party .before .before .i .given .1, ← held .held-check .ensures, held .before .before .p .given .1, ← sender .sender-check .ensures))
+    simp (
+      c .refused4 .ensures,
+      c .before .enum-told6 .given .1,
+      ← standing .waiting-check .ensures,
+      standing .before .enum-told3 .given .1,
+      ← party .party-check .ensures,
+      party .before .before .i .given .1,
+      ← held .held-check .ensures,
+      held .before .before .p .given .1,
+      ← sender .sender-check .ensures,
+    ))
     (λ c κs. search needs)
     -- none applies
     (λ c.
@@ -56,5 +77,14 @@ no-spec =
     let party = standing .before .before .before in
     let held = party .before .before .before .before in
     let sender = held .before .before .before .before in
-    simp
-    (c .turned-down .ensures, c .before .enum-told5 .given .1, ← standing .waiting-check .ensures, standing .before .enum-told3 .given .1, ← party .party-check .ensures, party .before .before .i .given .1, ← held .held-check .ensures, held .before .before .p .given .1, ← sender .sender-check .ensures)))
+    simp (
+      c .turned-down .ensures,
+      c .before .enum-told5 .given .1,
+      ← standing .waiting-check .ensures,
+      standing .before .enum-told3 .given .1,
+      ← party .party-check .ensures,
+      party .before .before .i .given .1,
+      ← held .held-check .ensures,
+      held .before .before .p .given .1,
+      ← sender .sender-check .ensures,
+    )))

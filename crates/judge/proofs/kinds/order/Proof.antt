@@ -24,8 +24,13 @@ order-spec =
     (λ c.
     let new = c .before .before .before in
     let sender = new .before .before .before .before in
-    simp
-    (c .refused2 .ensures, c .before .enum-told3 .given .1, ← new .new-check .ensures, new .before .before .p .given .1, ← sender .sender-check .ensures))
+    simp (
+      c .refused2 .ensures,
+      c .before .enum-told3 .given .1,
+      ← new .new-check .ensures,
+      new .before .before .p .given .1,
+      ← sender .sender-check .ensures,
+    ))
     (λ c κs. search needs)
     (λ c. search needs)
     (λ c. search needs)
@@ -35,8 +40,15 @@ order-spec =
     let payee = c .before .before .before in
     let new = payee .before .before .before in
     let sender = new .before .before .before .before in
-    simp
-    (c .refused3 .ensures, c .before .enum-told4 .given .1, ← payee .payee-check .ensures, payee .before .enum-told2 .given .1, ← new .new-check .ensures, new .before .before .p .given .1, ← sender .sender-check .ensures))
+    simp (
+      c .refused3 .ensures,
+      c .before .enum-told4 .given .1,
+      ← payee .payee-check .ensures,
+      payee .before .enum-told2 .given .1,
+      ← new .new-check .ensures,
+      new .before .before .p .given .1,
+      ← sender .sender-check .ensures,
+    ))
     (λ c κs. search needs)
     (λ c. search needs)
     (λ c. search needs)
@@ -47,8 +59,17 @@ order-spec =
     let payee = space .before .before .before .before in
     let new = payee .before .before .before in
     let sender = new .before .before .before .before in
-    simp
-    (c .refused4 .ensures, c .before .enum-told6 .given .1, ← space .space-check .ensures, space .before .before .payee .given .1, ← payee .payee-check .ensures, payee .before .enum-told2 .given .1, ← new .new-check .ensures, new .before .before .p .given .1, ← sender .sender-check .ensures))
+    simp (
+      c .refused4 .ensures,
+      c .before .enum-told6 .given .1,
+      ← space .space-check .ensures,
+      space .before .before .payee .given .1,
+      ← payee .payee-check .ensures,
+      payee .before .enum-told2 .given .1,
+      ← new .new-check .ensures,
+      new .before .before .p .given .1,
+      ← sender .sender-check .ensures,
+    ))
     (λ c κs. search needs)
     (λ c. search needs)
     (λ c. search needs)
@@ -60,8 +81,19 @@ order-spec =
     let payee = space .before .before .before .before in
     let new = payee .before .before .before in
     let sender = new .before .before .before .before in
-    simp
-    (c .refused5 .ensures, c .before .enum-told8 .given .1, ← funds .funds-check .ensures, funds .before .enum-told5 .given .1, ← space .space-check .ensures, space .before .before .payee .given .1, ← payee .payee-check .ensures, payee .before .enum-told2 .given .1, ← new .new-check .ensures, new .before .before .p .given .1, ← sender .sender-check .ensures))
+    simp (
+      c .refused5 .ensures,
+      c .before .enum-told8 .given .1,
+      ← funds .funds-check .ensures,
+      funds .before .enum-told5 .given .1,
+      ← space .space-check .ensures,
+      space .before .before .payee .given .1,
+      ← payee .payee-check .ensures,
+      payee .before .enum-told2 .given .1,
+      ← new .new-check .ensures,
+      new .before .before .p .given .1,
+      ← sender .sender-check .ensures,
+    ))
     (λ c κs. search needs)
     -- none applies
     (λ c.
@@ -70,5 +102,16 @@ order-spec =
     let payee = space .before .before .before .before in
     let new = payee .before .before .before in
     let sender = new .before .before .before .before in
-    simp
-    (c .opened .ensures, c .before .enum-told7 .given .1, ← funds .funds-check .ensures, funds .before .enum-told5 .given .1, ← space .space-check .ensures, space .before .before .payee .given .1, ← payee .payee-check .ensures, payee .before .enum-told2 .given .1, ← new .new-check .ensures, new .before .before .p .given .1, ← sender .sender-check .ensures)))
+    simp (
+      c .opened .ensures,
+      c .before .enum-told7 .given .1,
+      ← funds .funds-check .ensures,
+      funds .before .enum-told5 .given .1,
+      ← space .space-check .ensures,
+      space .before .before .payee .given .1,
+      ← payee .payee-check .ensures,
+      payee .before .enum-told2 .given .1,
+      ← new .new-check .ensures,
+      new .before .before .p .given .1,
+      ← sender .sender-check .ensures,
+    )))

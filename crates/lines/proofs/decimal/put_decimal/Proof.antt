@@ -2,8 +2,8 @@
 use Prim.Native.Nat.{_+_}
 use native.Mathlib.Omega.{arith}
 use denote.Ref.{now}
-use Rattle.lines.proofs.Digits.{shown-one, length-one}
-use Rattle.lines.proofs.Writing.{written-byte}
+use Rattle.lines.proofs.Digits.{decimal-one, decimal-length-one}
+use Rattle.lines.proofs.WritingParts.{written-byte}
 use borrow.Author.Needs.{needs}
 use Rattle.lines.proofs.decimal.put_decimal.Statement.{statement}
 use Rattle.lines.proofs.decimal.put_decimal.Tie as tie
@@ -15,12 +15,12 @@ put-decimal-spec =
     -- one digit
     (λ c. search needs)
     (λ c. search needs)
-    (λ c. let l = length-one (c .before .before .args .n) (c .if1 .taken) in omega arith)
+    (λ c. let l = decimal-length-one (c .before .before .args .n) (c .if1 .taken) in omega arith)
     (λ c. search needs)
     (λ c. search needs)
     (λ c.
     let a = c .before .before .args in
-    rw (shown-one (a .n) (c .if1 .taken)) (written-byte (now (a .text)) (a .at) (48 + a .n)))
+    rw (decimal-one (a .n) (c .if1 .taken)) (written-byte (now (a .text)) (a .at) (48 + a .n)))
     -- more digits
     (λ c κs. search needs)
     (λ c. search needs)

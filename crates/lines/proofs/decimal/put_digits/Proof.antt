@@ -3,7 +3,7 @@
 use mathlib.Core.Path.{refl}
 use native.Mathlib.Omega.{arith}
 use lib.ListN.{length-set}
-use Rattle.lines.proofs.Filling.{Ending, last-place, last-more, first-room, first-written}
+use Rattle.lines.proofs.DigitsFilling.{Ending, last-place, last-more, first-room, first-written}
 use borrow.Author.Needs.{needs}
 use Rattle.lines.proofs.decimal.put_digits.Statement.{statement}
 use Rattle.lines.proofs.decimal.put_digits.Tie as tie

@@ -4,14 +4,14 @@ use Prim.Native.Nat.{_*_, _-_, _≤_}
 use native.Mathlib.Numerals.{add-one}
 use native.Mathlib.Omega.{arith}
 use denote.Ref.{now}
-use Rattle.lines.specs.Lines.{coversTo, mostCover}
-use Rattle.lines.proofs.Writing.{Filled, filled-none, filled-more}
+use Rattle.lines.specs.Lines.{coversTo, longestCoverLine}
+use Rattle.lines.proofs.WritingParts.{Filled, filled-none, filled-behind}
 use borrow.Author.Needs.{needs}
 use Rattle.lines.proofs.others.put_covers.Statement.{statement}
 use Rattle.lines.proofs.others.put_covers.Tie as tie
 
 abbrev Inv-loop : tie.InvT-loop
-Inv-loop size text₀ covers at₀ p₀ text at p = (p ≤ size) × Filled text₀ text 0 (coversTo covers p) at × (at ≤ mostCover * p)
+Inv-loop size text₀ covers at₀ p₀ text at p = (p ≤ size) × Filled text₀ text 0 (coversTo covers p) at × (at ≤ longestCoverLine * p)
 
 abbrev μ-loop : tie.MeasureT-loop
 μ-loop size text₀ covers at₀ p₀ text at p = size - p
@@ -30,8 +30,11 @@ put-covers-spec =
     (λ c. search needs)
     (λ c.
     let k = c .before .before in
-    let l = k .before .before .before .before in
-    (search needs, rw (add-one (l .loop .p)) (filled-more (l .loop .inv .1) (k .put-cover .ensures .0) (k .put-cover .kept .0)), search needs))
+    let l = k .before .before .before .before in (
+      search needs,
+      rw (add-one (l .loop .p)) (filled-behind (l .loop .inv .1) (k .put-cover .ensures .0) (k .put-cover .kept .0)),
+      search needs,
+    ))
     (λ c. c .before .loop .inv .1 .kept)
     (λ c.
     let l = c .before in

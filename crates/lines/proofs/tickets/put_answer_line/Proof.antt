@@ -1,6 +1,6 @@
 -- `lines::tickets::put_answer_line` meets its contract. Assumes nothing.
 use native.Mathlib.Omega.{arith}
-use Rattle.lines.proofs.Longest.{answer-most}
+use Rattle.lines.proofs.Longest.{answer-line-most}
 use borrow.Author.Needs.{needs}
 use Rattle.lines.proofs.tickets.put_answer_line.Statement.{statement}
 use Rattle.lines.proofs.tickets.put_answer_line.Tie as tie
@@ -13,11 +13,14 @@ put-answer-line-spec =
     (λ c. search needs)
     (λ c. search needs)
     (λ c. search needs)
-    (λ c κs. let a = c .before .before .before .before .before .before .args in let most = answer-most (a .n) (a .a) (search needs) (search needs) (search needs) in omega arith)
+    (λ c κs.
+    let a = c .before .before .before .before .before .before .args in
+    let most = answer-line-most (a .n) (a .a) (search needs) (search needs) (search needs) in
+    omega arith)
     (λ c. search needs)
     (λ c.
     let k = c .before .before in
     let a = k .before .before .before .before .before .before .before .args in
-    let most = answer-most (a .n) (a .a) (search needs) (search needs) (search needs) in
+    let most = answer-line-most (a .n) (a .a) (search needs) (search needs) (search needs) in
     let e = k .put-line .ensures .end in
     (k .put-line .ensures, omega arith)))

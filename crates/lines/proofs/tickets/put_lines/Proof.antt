@@ -6,9 +6,9 @@ use native.Mathlib.Omega.{arith}
 use denote.Ref.{now}
 use Rattle.report.specs.Answer.{answerAt}
 use Rattle.report.specs.declared.answer.Answer.{Answer}
-use Rattle.lines.specs.Lines.{startOf, ticketText, linesTo, mostLine}
+use Rattle.lines.specs.Lines.{startOf, ticketText, linesTo, longestLine}
 use Rattle.lines.proofs.Starts.{start-next, start-within}
-use Rattle.lines.proofs.Writing.{Filled, filled-none, filled-more}
+use Rattle.lines.proofs.WritingParts.{Filled, filled-none, filled-behind}
 use borrow.Author.Needs.{needs}
 use Rattle.lines.proofs.tickets.put_lines.Statement.{statement}
 use Rattle.lines.proofs.tickets.put_lines.Tie as tie
@@ -18,7 +18,7 @@ Inv-loop k taken answers reports text₀ at₀ from₀ i₀ text at from i =
     (i ≤ taken)
     × (from ≡ startOf answers i)
     × Filled text₀ text 0 (linesTo k i answers reports) at
-    × (at ≤ mostLine * (i + startOf answers i))
+    × (at ≤ longestLine * (i + startOf answers i))
 
 abbrev μ-loop : tie.MeasureT-loop
 μ-loop k taken answers reports text₀ at₀ from₀ i₀ text at from i = taken - i
@@ -59,9 +59,14 @@ put-lines-spec =
     let e = ap (λ (x : Answer). x .reports) (r .answer-at .ensures) in
     let next = start-next (now (a .answers)) (l .loop .i) in
     let w = rw (r .answer-at .ensures, l .loop .inv .1) at (k .put-ticket .ensures .0) in
-    let text = ticketText (a .k + l .loop .i) (answerAt (now (a .answers)) (l .loop .i)) (now (a .reports)) (startOf (now (a .answers)) (l .loop .i)) in
-    let most = k .put-ticket .ensures .1 in
-    (search needs, omega arith, rw (add-one (l .loop .i)) (filled-more {b = text} (l .loop .inv .2) w (k .put-ticket .kept .0)), omega arith))
+    let text = ticketText (a .k + l .loop .i) (answerAt (now (a .answers)) (l .loop .i)) (now (a .reports))
+    (startOf (now (a .answers)) (l .loop .i)) in
+    let most = k .put-ticket .ensures .1 in (
+      search needs,
+      omega arith,
+      rw (add-one (l .loop .i)) (filled-behind {b = text} (l .loop .inv .2) w (k .put-ticket .kept .0)),
+      omega arith,
+    ))
     (λ c. c .before .loop .inv .2 .kept)
     (λ c.
     let l = c .before in

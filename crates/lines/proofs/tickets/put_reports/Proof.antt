@@ -4,14 +4,15 @@ use Prim.Native.Nat.{_+_, _*_, _-_, _≤_}
 use native.Mathlib.Numerals.{add-one}
 use native.Mathlib.Omega.{arith}
 use denote.Ref.{now}
-use Rattle.lines.specs.Lines.{reportsTo, mostLine}
-use Rattle.lines.proofs.Writing.{Filled, filled-none, filled-more}
+use Rattle.lines.specs.Lines.{reportsTo, longestLine}
+use Rattle.lines.proofs.WritingParts.{Filled, filled-none, filled-behind}
 use borrow.Author.Needs.{needs}
 use Rattle.lines.proofs.tickets.put_reports.Statement.{statement}
 use Rattle.lines.proofs.tickets.put_reports.Tie as tie
 
 abbrev Inv-loop : tie.InvT-loop
-Inv-loop text₀ at reports from n end₀ i₀ text end i = (i ≤ n) × Filled text₀ text at (reportsTo reports from i) end × (end ≤ at + mostLine * i)
+Inv-loop text₀ at reports from n end₀ i₀ text end i =
+    (i ≤ n) × Filled text₀ text at (reportsTo reports from i) end × (end ≤ at + longestLine * i)
 
 abbrev μ-loop : tie.MeasureT-loop
 μ-loop text₀ at reports from n end₀ i₀ text end i = n - i
@@ -32,7 +33,7 @@ put-reports-spec =
     let k = c .before .before in
     let l = k .before .before .before .before in
     let w = rw (k .before .report-at .ensures) at (k .put-report-line .ensures .0) in
-    (search needs, rw (add-one (l .loop .i)) (filled-more (l .loop .inv .1) w (k .put-report-line .kept .0)), search needs))
+    (search needs, rw (add-one (l .loop .i)) (filled-behind (l .loop .inv .1) w (k .put-report-line .kept .0)), search needs))
     (λ c. c .before .loop .inv .1 .kept)
     (λ c.
     let l = c .before in

@@ -1,5 +1,5 @@
 -- `lines::tickets::put_ticket` meets its contract. Assumes nothing.
-use Rattle.lines.proofs.Writing.{written-more}
+use Rattle.lines.proofs.WritingParts.{written-more}
 use borrow.Author.Needs.{needs}
 use Rattle.lines.proofs.tickets.put_ticket.Statement.{statement}
 use Rattle.lines.proofs.tickets.put_ticket.Tie as tie

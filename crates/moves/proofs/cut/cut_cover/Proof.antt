@@ -13,7 +13,16 @@ cut-cover-spec =
     (λ c. search needs)
     (λ c. search needs)
     (λ c κs. search needs)
-    (λ c. rw (c .before .before .before .before .before .opening .given .1, lt-ltb _ _ (c .before .before .if1 .taken)) (c .with-held .ensures))
+    (λ c. rw (c .before .before .before .before .before .opening .given .1, lt-ltb _ _ (c .before .before .if1 .taken))
+    (c .with-held .ensures))
     (λ c κs. search needs)
-    (λ c. rw (c .before .before .before .before .before .before .before .opening .given .1, le-ltb _ _ (c .before .before .before .before .if1 .left), lt-ltb _ _ (c .before .before .if2 .taken)) (c .with-debit .ensures))
-    (λ c. rw (c .before .before .before .before .before .opening .given .1, le-ltb _ _ (c .before .before .if1 .left), le-ltb _ _ (c .if2 .left))))
+    (λ c. rw (
+      c .before .before .before .before .before .before .before .opening .given .1,
+      le-ltb _ _ (c .before .before .before .before .if1 .left),
+      lt-ltb _ _ (c .before .before .if2 .taken),
+    ) (c .with-debit .ensures))
+    (λ c. rw (
+      c .before .before .before .before .before .opening .given .1,
+      le-ltb _ _ (c .before .before .if1 .left),
+      le-ltb _ _ (c .if2 .left),
+    )))

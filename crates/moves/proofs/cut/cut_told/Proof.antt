@@ -13,7 +13,17 @@ cut-told-spec =
     (λ c. search needs)
     (λ c. search needs)
     (λ c κs. search needs)
-    (λ c. rw (c .before .before .before .before .before .opening .given .1, lt-ltb _ _ (c .before .before .if1 .taken), c .tell-cut .ensures))
+    (λ c.
+    rw (c .before .before .before .before .before .opening .given .1, lt-ltb _ _ (c .before .before .if1 .taken), c .tell-cut .ensures))
     (λ c κs. search needs)
-    (λ c. rw (c .before .before .before .before .before .before .before .opening .given .1, le-ltb _ _ (c .before .before .before .before .if1 .left), lt-ltb _ _ (c .before .before .if2 .taken), c .tell-cut2 .ensures))
-    (λ c. rw (c .before .before .before .before .before .opening .given .1, le-ltb _ _ (c .before .before .if1 .left), le-ltb _ _ (c .if2 .left))))
+    (λ c. rw (
+      c .before .before .before .before .before .before .before .opening .given .1,
+      le-ltb _ _ (c .before .before .before .before .if1 .left),
+      lt-ltb _ _ (c .before .before .if2 .taken),
+      c .tell-cut2 .ensures,
+    ))
+    (λ c. rw (
+      c .before .before .before .before .before .opening .given .1,
+      le-ltb _ _ (c .before .before .if1 .left),
+      le-ltb _ _ (c .if2 .left),
+    )))

@@ -6,7 +6,7 @@ use native.Mathlib.Omega.{arith}
 use denote.Ref.{now}
 use lib.ListN.{length}
 use lib.Seq.{sets}
-use Rattle.report.specs.Layout.{reportsBytes}
+use Rattle.report.specs.ReportLayout.{reportsBytes}
 use Rattle.report.specs.declared.Report.{Report}
 use Rattle.rules.specs.Cut.{cutReportsTo}
 use Rattle.rules.specs.Tell.{listed}
@@ -57,7 +57,8 @@ put-cut-spec =
           ∙ count-on (a .t3) (a .t4) (l .loop .p) (a .n) (l .loop .m) (l .loop .inv .2),
       put .put-told .ensures .0
           ∙ ap (λ (rs : List Report). sets (l .loop .buffer) (12 * l .loop .m) (reportsBytes rs)) is
-          ∙ reports-on (a .t3) (a .t4) (l .loop .p) (a .n) (l .loop .m) (now (a .buffer)) (l .loop .buffer) (l .loop .inv .2) (l .loop .inv .3),
+          ∙ reports-on (a .t3) (a .t4) (l .loop .p) (a .n) (l .loop .m) (now (a .buffer)) (l .loop .buffer)
+          (l .loop .inv .2) (l .loop .inv .3),
     ))
     (λ c. search needs)
     (λ c.

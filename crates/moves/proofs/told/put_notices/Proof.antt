@@ -8,20 +8,20 @@ use denote.Ref.{now}
 use lib.Dec.{eqb}
 use lib.ListN.{length}
 use lib.Seq.{sets}
-use Rattle.report.specs.Layout.{reportBytes, reportsBytes}
+use Rattle.report.specs.ReportLayout.{reportBytes, reportsBytes}
 use Rattle.report.specs.declared.Report.{Report}
-use Rattle.report.proofs.Laws.{put-one, put-two}
+use Rattle.report.proofs.ReportLaws.{put-one, put-two}
 use Rattle.rules.specs.Tell.{listed}
 use Rattle.rules.specs.declared.decision.Told.the-variants.{One, Two}
 use Rattle.rules.specs.declared.verdict.Notice.{Notice}
-use Rattle.verdict.specs.Meaning.{reportBy, toldBy}
-use Rattle.verdict.proofs.Moving.{told-none, told-one, told-two}
+use Rattle.verdict.specs.Meaning.{reportBy, noticesTold}
+use Rattle.verdict.proofs.VerdictMoving.{told-none, told-one, told-two}
 use borrow.Author.Needs.{needs}
 use Rattle.moves.proofs.told.put_notices.Statement.{statement}
 use Rattle.moves.proofs.told.put_notices.Tie as tie
 
 -- with a code, there is a report
-some : (a b : Notice) (i n : ℕ) → eqb (a .code) 0 ≡ false → 1 ≤ length (listed (toldBy a b i n))
+some : (a b : Notice) (i n : ℕ) → eqb (a .code) 0 ≡ false → 1 ≤ length (listed (noticesTold a b i n))
 some a b i n e = rw e (go (eqb (b .code) 0))
   where
     go : (z : Bool) → 1 ≤ length (listed (cond z (One (reportBy a i n)) (Two (reportBy a i n) (reportBy b i n))))
@@ -30,8 +30,12 @@ some a b i n e = rw e (go (eqb (b .code) 0))
 
 -- the first is to be written
 module _ (c : tie.After-report-by) where
-  told-some : 1 ≤ length (listed (toldBy (c .before .before .before .before .before .args .told) (c .before .before .before .before .before .args .also) (c .before .before .before .before .before .args .i) (c .before .before .before .before .before .args .amount)))
-  told-some = let a = c .before .before .before .before .before .args in some (a .told) (a .also) (a .i) (a .amount) (c .before .before .if1 .left)
+  told-some : 1 ≤ length (listed
+      (noticesTold (c .before .before .before .before .before .args .told) (c .before .before .before .before .before .args .also)
+      (c .before .before .before .before .before .args .i) (c .before .before .before .before .before .args .amount)))
+  told-some =
+      let a = c .before .before .before .before .before .args in
+      some (a .told) (a .also) (a .i) (a .amount) (c .before .before .if1 .left)
 
 -- it is written
 module _ (c : tie.After-put-report) where
@@ -40,7 +44,8 @@ module _ (c : tie.After-put-report) where
 
   first-text : c .put-report .last .0
       ≡ sets (now (from .before .before .before .args .buffer)) (12 * from .before .before .before .args .n)
-      (reportsBytes (reportBy (from .before .before .before .args .told) (from .before .before .before .args .i) (from .before .before .before .args .amount) ∷ []))
+      (reportsBytes (reportBy (from .before .before .before .args .told) (from .before .before .before .args .i)
+      (from .before .before .before .args .amount) ∷ []))
   first-text =
       let a = from .before .before .before .args in
       c .put-report .ensures
@@ -52,7 +57,9 @@ put-notices-spec =
     tie.close
     (tie.spec
     -- none
-    (λ c. let a = c .before .before .before .args in rw (told-none (a .told) (a .also) (a .i) (a .amount) (c .if1 .taken)) (refl, search needs))
+    (λ c.
+    let a = c .before .before .before .args in
+    rw (told-none (a .told) (a .also) (a .i) (a .amount) (c .if1 .taken)) (refl, search needs))
     (λ c κs. search needs)
     (λ c κs. let h = told-some c in let p = c .before .before .before .before .before .pre .3 in search needs)
     (λ c. search needs)

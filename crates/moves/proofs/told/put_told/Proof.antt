@@ -4,8 +4,8 @@ use mathlib.Core.List.{List}
 use Prim.Native.Nat.{ℕ, _+_, _*_}
 use denote.Ref.{now}
 use lib.Seq.{sets}
-use Rattle.report.specs.Layout.{reportBytes}
-use Rattle.report.proofs.Laws.{put-one, put-two}
+use Rattle.report.specs.ReportLayout.{reportBytes}
+use Rattle.report.proofs.ReportLaws.{put-one, put-two}
 use borrow.Author.Needs.{needs}
 use Rattle.moves.proofs.told.put_told.Statement.{statement}
 use Rattle.moves.proofs.told.put_told.Tie as tie
@@ -21,7 +21,10 @@ put-told-spec =
     (λ c. search needs)
     (λ c κs. let t = c .before .before in let h = rw (t .told2 .given .1) at (t .before .before .before .pre) in search needs)
     (λ c. search needs)
-    (λ c κs. let t = c .before .before .before .before .before .before in let h = rw (t .told2 .given .1) at (t .before .before .before .pre) in search needs)
+    (λ c κs.
+    let t = c .before .before .before .before .before .before in
+    let h = rw (t .told2 .given .1) at (t .before .before .before .pre) in
+    search needs)
     (λ c. search needs)
     -- nobody
     (λ c. rw (c .enum-told .given .1) (refl, search needs))

@@ -13,5 +13,12 @@ expire-spec =
     (λ c κs. search needs)
     (λ c κs. search needs)
     (λ c κs. search needs)
-    (λ c. rw (← c .before .before .before .before .before .due .ensures, c .before .before .before .before .if1 .taken, c .before .before .before .with-status .ensures, c .before .before .freed .ensures, c .before .tell-order .ensures, c .tell-order2 .ensures))
+    (λ c. rw (
+      ← c .before .before .before .before .before .due .ensures,
+      c .before .before .before .before .if1 .taken,
+      c .before .before .before .with-status .ensures,
+      c .before .before .freed .ensures,
+      c .before .tell-order .ensures,
+      c .tell-order2 .ensures,
+    ))
     (λ c. rw (← c .before .before .due .ensures, c .before .if1 .left, c .nobody .ensures)))

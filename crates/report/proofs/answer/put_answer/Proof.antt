@@ -5,7 +5,7 @@ use Prim.Native.Nat.{ℕ, _+_, _*_}
 use native.Mathlib.Omega.{arith}
 use denote.Ref.{now}
 use lib.ListN.{set, length-set}
-use Rattle.report.proofs.Answers.{answer-by-field}
+use Rattle.report.proofs.AnswerLaws.{answer-by-field}
 use borrow.Author.Needs.{needs}
 use Rattle.report.proofs.answer.put_answer.Statement.{statement}
 use Rattle.report.proofs.answer.put_answer.Tie as tie

@@ -1,6 +1,6 @@
 -- `shapes::blanks::from_amount` meets its contract. Assumes nothing.
 use denote.Ref.{now}
-use Rattle.shapes.proofs.Words as words
+use Rattle.shapes.proofs.BlankWords as words
 use borrow.Author.Needs.{needs}
 use Rattle.shapes.proofs.blanks.from_amount.Statement.{statement}
 use Rattle.shapes.proofs.blanks.from_amount.Tie as tie

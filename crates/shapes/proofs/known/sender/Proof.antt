@@ -1,7 +1,7 @@
 -- `shapes::known::sender` meets its contract. Assumes nothing.
 use mathlib.Core.Path.{sym, ap}
 use Rattle.fields.specs.Search.{isFound}
-use Rattle.classes.proofs.Answer.{answer-is-1}
+use Rattle.classes.proofs.CheckAnswer.{answer-is-1}
 use borrow.Author.Needs.{needs}
 use Rattle.shapes.proofs.known.sender.Statement.{statement}
 use Rattle.shapes.proofs.known.sender.Tie as tie

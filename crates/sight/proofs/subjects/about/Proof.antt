@@ -24,4 +24,5 @@ about-spec =
     let shape = c .before .before in
     let s = shape .before .before in
     let a = s .args in
-    sym (sight-formed clock (now (a .t)) (a .sender) (a .order) route HeldOrder (a .kind) (s .pre .0) refl _ (sym (shape .about .ensures) ∙ c .enum-told .given .1))))
+    sym (sight-formed clock (now (a .t)) (a .sender) (a .order) route HeldOrder (a .kind) (s .pre .0) refl _
+    (sym (shape .about .ensures) ∙ c .enum-told .given .1))))

@@ -24,4 +24,5 @@ cover-spec =
     let shape = c .before .before in
     let s = shape .before .before in
     let a = s .args in
-    sym (sight-formed clock (now (a .t)) (a .sender) order route Sender (a .kind) (s .pre .0) refl _ (sym (shape .cover .ensures) ∙ c .enum-told .given .1))))
+    sym (sight-formed clock (now (a .t)) (a .sender) order route Sender (a .kind) (s .pre .0) refl _
+    (sym (shape .cover .ensures) ∙ c .enum-told .given .1))))

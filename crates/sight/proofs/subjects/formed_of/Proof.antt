@@ -1,4 +1,5 @@
--- `sight::subjects::formed_of` meets its contract: each class finds what the ticket shows, and what was found is well formed. Assumes nothing.
+-- `sight::subjects::formed_of` meets its contract: each class finds what the ticket shows, and what was found is well formed.
+-- Assumes nothing.
 use mathlib.Core.Path.{_≡_, refl, sym, _∙_, ap}
 use mathlib.Core.List.{List}
 use Prim.Native.Nat.{ℕ}
@@ -7,19 +8,18 @@ use denote.Ref.{now}
 use lib.ListN.{length}
 use Rattle.fields.specs.Rows.{firstRow}
 use Rattle.fields.specs.declared.search.Found.{Found}
-use Rattle.ticket.specs.Layout.{ticketLength, senderOf, payeeOf, txidField}
+use Rattle.ticket.specs.TicketLayout.{ticketLength, senderOf, payeeOf, txidField}
 use Rattle.ticket.specs.declared.kinds.Kind.{Kind}
 use Rattle.ticket.specs.declared.kinds.Kind.the-variants.{Order}
 use Rattle.ticket.specs.declared.kinds.Kinded.the-variants.{As}
 use Rattle.rules.specs.declared.terms.Subject.{Subject}
-use Rattle.rules.specs.declared.terms.Subject.the-variants.{Nothing, Sender, NewOrder, HeldOrder}
+use Rattle.rules.specs.declared.terms.Subject.the-variants.{Sender, NewOrder, HeldOrder}
 use Rattle.shapes.specs.Subject.{TicketNaming}
 use Rattle.shapes.proofs.Forms.{only-order}
 use Rattle.index.specs.Words.{Bytes, bicWords, txidWords}
 use Rattle.sight.specs.Sight.{sightOf}
 use Rattle.sight.specs.Value.{formedSight}
 use Rattle.sight.specs.declared.Sight.{Sight}
-use Rattle.sight.specs.declared.subjects.Formed.{Formed}
 use Rattle.sight.proofs.Knowing.{known-sender, known-payee, known-order}
 use borrow.Author.Needs.{needs}
 use Rattle.sight.proofs.subjects.formed_of.Statement.{statement}
@@ -43,7 +43,7 @@ module _ (c : tie.After-subject-of) where
   order = firstRow 5 (first .before .args .count) (txidWords (txidField t)) (now (first .before .args .txids))
 
   abbrev route : Found
-  route = firstRow 2 (first .before .args .rows) (bicWords (payeeOf t)) (now (first .before .args .routes))
+  route = firstRow 2 (first .before .args .route-rows) (bicWords (payeeOf t)) (now (first .before .args .routes))
 
   whole : length t ≡ ticketLength
   whole = first .before .pre .0
@@ -86,8 +86,10 @@ formed-of-spec =
     -- kinds 1, 2 and 10
     (λ c κs.
     let told = c .before .before in
-    let s = told .before .before in
-    (naming s Sender (told .enum-told2 .given .1), known-sender (t s) (whole s) (bytes s) (first s .before .pre .2) _ (c .find-bic .ensures)))
+    let s = told .before .before in (
+      naming s Sender (told .enum-told2 .given .1),
+      known-sender (t s) (whole s) (bytes s) (first s .before .pre .2) _ (c .find-bic .ensures),
+    ))
     (λ c. search needs)
     (λ c. search needs)
     (λ c. search needs)

@@ -24,4 +24,5 @@ nothing-spec =
     let shape = c .before .before in
     let s = shape .before .before in
     let a = s .args in
-    sym (sight-formed clock (now (a .t)) sender order route Nothing (a .kind) (s .pre) refl _ (sym (shape .nothing .ensures) ∙ c .enum-told .given .1))))
+    sym (sight-formed clock (now (a .t)) sender order route Nothing (a .kind) (s .pre) refl _
+    (sym (shape .nothing .ensures) ∙ c .enum-told .given .1))))

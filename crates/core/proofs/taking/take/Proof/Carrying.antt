@@ -1,17 +1,16 @@
 -- The moves of the verdict and its reports. Assumes nothing.
-use mathlib.Core.Path.{_≡_}
 use mathlib.Core.List.{List}
-use Prim.Native.Nat.{ℕ, _+_, _*_, _≤_}
+use Prim.Native.Nat.{_+_, _*_, _≤_}
 use native.Mathlib.Omega.{arith}
 use lib.ListN.{length, set}
 use Rattle.rules.specs.Book.{coverOf}
 use Rattle.rules.specs.Cover.{whole}
 use Rattle.rules.specs.declared.Cover.{Cover}
-use Rattle.intake.specs.Room.{mostNumber, Room}
-use Rattle.turns.proofs.Fitting.{reportsOf}
-use Rattle.turns.proofs.Carrying.{Carried, first-fits, second-room, second-fits, carried, told-room}
-use Rattle.core.proofs.taking.take.Proof.Loop.{reports₀, long-reports, room}
-use Rattle.core.proofs.taking.take.Proof.Expiring.{hd, swept-book, expired}
+use Rattle.course.specs.Room.{mostNumber, Room}
+use Rattle.turns.proofs.VerdictFitting.{verdictReports}
+use Rattle.turns.proofs.CarryingOut.{CarriedOut, first-fits, second-room, second-fits, moves-carried-out, told-room}
+use Rattle.core.proofs.taking.take.Proof.Loop.{long-reports, room}
+use Rattle.core.proofs.taking.take.Proof.Expiring.{loop-head, swept-book, expired}
 use Rattle.core.proofs.taking.take.Proof.Judging.{swept-at, v, suits}
 use Rattle.core.proofs.taking.take.Proof.Places as at
 use Rattle.core.proofs.taking.take.Proof.Ways as to
@@ -24,9 +23,9 @@ module _ (c : at.After-moved2) where
   abbrev swept-1 : at.Left-loop2
   swept-1 = swept-at judged-1
 
-  pub first-sum : (whole (coverOf (swept-book swept-1 .covers) (v judged-1 .first .who)) ≤ hd swept-1 .loop .total)
-      × (hd swept-1 .loop .total + whole (c .moved2 .result) ≤ mostNumber)
-  first-sum = first-fits (expired swept-1) (suits judged-1) (c .moved2 .ensures) (hd swept-1 .loop .inv .sum)
+  pub first-sum : (whole (coverOf (swept-book swept-1 .covers) (v judged-1 .first .who)) ≤ loop-head swept-1 .loop .total)
+      × (loop-head swept-1 .loop .total + whole (c .moved2 .result) ≤ mostNumber)
+  first-sum = first-fits (expired swept-1) (suits judged-1) (c .moved2 .ensures) (loop-head swept-1 .loop .inv .sum)
 
 -- the second is about to
 module _ (c : at.After-old2) where
@@ -39,7 +38,7 @@ module _ (c : at.After-old2) where
   pub second-has : Room (v judged-2 .second .how) (v judged-2 .amount)
       (coverOf (set (swept-book (swept-at judged-2) .covers) (v judged-2 .first .who) (moved-2 .moved2 .result)) (v judged-2 .second .who))
   second-has =
-      second-room (expired (swept-at judged-2)) (suits judged-2) (moved-2 .moved2 .ensures) (hd (swept-at judged-2) .loop .inv .sum)
+      second-room (expired (swept-at judged-2)) (suits judged-2) (moved-2 .moved2 .ensures) (loop-head (swept-at judged-2) .loop .inv .sum)
 
 -- it has
 module _ (c : at.After-moved3) where
@@ -52,11 +51,12 @@ module _ (c : at.After-moved3) where
   abbrev sum-3 : at.After-total-with
   sum-3 = to.sum-from-After-moved3 c
 
-  pub second-sum : (whole (coverOf (set (swept-book (swept-at judged-3) .covers) (v judged-3 .first .who) (first-3 .moved2 .result)) (v judged-3 .second .who))
+  pub second-sum : (whole
+      (coverOf (set (swept-book (swept-at judged-3) .covers) (v judged-3 .first .who) (first-3 .moved2 .result)) (v judged-3 .second .who))
       ≤ sum-3 .total-with .result)
       × (sum-3 .total-with .result + whole (c .moved3 .result) ≤ mostNumber)
   second-sum =
-      second-fits (expired (swept-at judged-3)) (suits judged-3) (first-3 .moved2 .ensures) (hd (swept-at judged-3) .loop .inv .sum)
+      second-fits (expired (swept-at judged-3)) (suits judged-3) (first-3 .moved2 .ensures) (loop-head (swept-at judged-3) .loop .inv .sum)
       (sum-3 .total-with .ensures) (c .moved3 .ensures)
 
 -- there is room for what is told
@@ -64,10 +64,11 @@ module _ (c : at.After-put-notices-arg) where
   abbrev judged-4 : at.After-judge
   judged-4 = to.judged-from-After-put-notices-arg c
 
-  pub notices-fit : 12 * swept-at judged-4 .before .loop2 .n + 12 * length (reportsOf (v judged-4)) ≤ length (swept-at judged-4 .before .loop2 .reports)
+  pub notices-fit : 12 * swept-at judged-4 .before .loop2 .n + 12 * length (verdictReports (v judged-4))
+      ≤ length (swept-at judged-4 .before .loop2 .reports)
   notices-fit =
       let has = room (to.room-from-After-put-notices-arg c) .report in
-      let long = long-reports (hd (swept-at judged-4)) in
+      let long = long-reports (loop-head (swept-at judged-4)) in
       told-room (expired (swept-at judged-4)) (suits judged-4) (omega arith)
 
 -- told
@@ -78,21 +79,22 @@ module _ (c : at.After-slice-known6) where
   abbrev pub left-at : at.Left-loop2
   left-at = swept-at judged-at
 
-  abbrev pub first-new : Cover
+  abbrev first-new : Cover
   first-new = to.first-from-After-slice-known6 c .moved2 .result
 
-  abbrev pub second-new : Cover
+  abbrev second-new : Cover
   second-new = to.second-from-After-slice-known6 c .moved3 .result
 
   -- the covers as the code has them
   abbrev pub both : List Cover
   both = set (set (swept-book left-at .covers) (v judged-at .first .who) first-new) (v judged-at .second .who) second-new
 
-  pub carried-out : Carried (swept-book left-at) (v judged-at) (left-at .before .loop2 .n) (left-at .before .loop2 .reports) both
+  pub carried-out : CarriedOut (swept-book left-at) (v judged-at) (left-at .before .loop2 .n) (left-at .before .loop2 .reports) both
       (to.total-from-After-slice-known6 c .total-with2 .result) (to.told-from-After-slice-known6 c .put-notices .result)
       (to.told-from-After-slice-known6 c .put-notices .last .0)
   carried-out =
-      carried (expired left-at) (suits judged-at) (to.first-from-After-slice-known6 c .moved2 .ensures) (hd left-at .loop .inv .sum)
+      moves-carried-out (expired left-at) (suits judged-at) (to.first-from-After-slice-known6 c .moved2 .ensures)
+      (loop-head left-at .loop .inv .sum)
       (to.sum-from-After-slice-known6 c .total-with .ensures) (to.second-from-After-slice-known6 c .moved3 .ensures)
       (to.total-from-After-slice-known6 c .total-with2 .ensures) (to.told-from-After-slice-known6 c .put-notices .ensures .1)
       (to.told-from-After-slice-known6 c .put-notices .ensures .0)

@@ -1,5 +1,5 @@
 -- The end of a turn, whatever becomes of the order: nothing, opened, another status, a cut. It was one step of the rules. Assumes nothing.
-use mathlib.Core.Path.{_≡_, refl, sym, _∙_, ap}
+use mathlib.Core.Path.{refl, sym, _∙_, ap}
 use mathlib.Core.List.{List}
 use mathlib.Core.Logic.{⊎-elim}
 use Prim.Native.Nat.{ℕ, _+_, _*_, _≤_, _<_}
@@ -13,16 +13,16 @@ use Rattle.rules.specs.declared.Order.{Order}
 use Rattle.rules.specs.declared.Status.the-variants.{Waiting}
 use Rattle.rules.specs.declared.Book.{Book}
 use Rattle.index.specs.Words.{txidWords}
-use Rattle.index.specs.Chains.{rowBucket}
-use Rattle.index.proofs.Lending.{bucket-inside}
-use Rattle.ticket.specs.Layout.{txidField}
-use Rattle.turns.proofs.Facts.{Searched, number-is, way-is, new-order}
-use Rattle.turns.proofs.Carrying.{cut-size, cut-room, cut-whole}
+use Rattle.index.specs.RowChains.{rowBucket}
+use Rattle.index.proofs.LentRows.{bucket-inside}
+use Rattle.ticket.specs.TicketLayout.{txidField}
+use Rattle.turns.proofs.Facts.{number-is, way-is, new-order}
+use Rattle.turns.proofs.CarryingOut.{cut-size, cut-room, cut-whole}
 use Rattle.turns.proofs.Done.{Done}
-use Rattle.turns.proofs.Ending.{did-nothing, changed, opened, cut}
-use Rattle.core.proofs.Keeping.{done-as}
+use Rattle.turns.proofs.TurnEnds.{did-nothing, changed, order-opened, cut}
+use Rattle.core.proofs.LoopKeeping.{done-as}
 use Rattle.core.proofs.taking.take.Proof.Loop.{start, b, long-reports, ticket, room}
-use Rattle.core.proofs.taking.take.Proof.Expiring.{saw, seen-at, hd, swept-book, expired}
+use Rattle.core.proofs.taking.take.Proof.Expiring.{saw, seen-at, loop-head, swept-book, expired}
 use Rattle.core.proofs.taking.take.Proof.Judging.{follows, searched, v, verdict-is, suits}
 use Rattle.core.proofs.taking.take.Proof.Carrying.{judged-at, left-at, both, carried-out}
 use Rattle.core.proofs.taking.take.Proof.Places as at
@@ -30,40 +30,44 @@ use Rattle.core.proofs.taking.take.Proof.Ways as to
 
 -- an order is opened: there is space
 module _ (c : at.After-enum-told3) where
-  abbrev told-o : at.After-slice-known6
-  told-o = to.carried-from-After-enum-told3 c
+  abbrev opens-told : at.After-slice-known6
+  opens-told = to.carried-from-After-enum-told3 c
 
-  pub space : swept-book (left-at told-o) .count < 256
-  space = suits (judged-at told-o) .opens (c .enum-told3 .given .1)
+  pub space : swept-book (left-at opens-told) .count < 256
+  space = suits (judged-at opens-told) .opens (c .enum-told3 .given .1)
 
 -- a cut: there is room for its reports, and no cover is above the limit
 module _ (c : at.After-put-cut-arg) where
-  abbrev told-c : at.After-slice-known6
-  told-c = to.carried-from-After-put-cut-arg c
+  abbrev cut-told : at.After-slice-known6
+  cut-told = to.carried-from-After-put-cut-arg c
 
-  abbrev j-c : at.After-judge
-  j-c = judged-at told-c
+  abbrev cut-judged : at.After-judge
+  cut-judged = judged-at cut-told
 
-  abbrev h-c : at.At-loop
-  h-c = hd (left-at told-c)
+  abbrev cut-head : at.At-loop
+  cut-head = loop-head (left-at cut-told)
 
-  abbrev r-c : Roster
-  r-c = start h-c .args .t1 .roster
+  abbrev cut-roster : Roster
+  cut-roster = start cut-head .args .t1 .roster
 
-  pub few-participants : r-c .size ≤ 32
+  pub few-participants : cut-roster .size ≤ 32
   few-participants =
-      cut-size (expired (left-at told-c)) (suits j-c) (carried-out told-c) (to.cuts-from-After-put-cut-arg c .enum-told4 .given .1) (sym (h-c .loop .inv .roster))
+      cut-size (expired (left-at cut-told)) (suits cut-judged) (carried-out cut-told)
+      (to.cuts-from-After-put-cut-arg c .enum-told4 .given .1) (sym (cut-head .loop .inv .roster))
 
-  pub cut-fits : 12 * to.told-from-After-put-cut-arg c .put-notices .result + 12 * r-c .size ≤ length (to.told-from-After-put-cut-arg c .put-notices .last .0)
+  pub cut-fits : 12 * to.told-from-After-put-cut-arg c .put-notices .result + 12 * cut-roster .size
+      ≤ length (to.told-from-After-put-cut-arg c .put-notices .last .0)
   cut-fits =
       let has = room (to.room-from-After-put-cut-arg c) .report in
-      let long = long-reports h-c in
-      cut-room (expired (left-at told-c)) (suits j-c) (carried-out told-c) (to.cuts-from-After-put-cut-arg c .enum-told4 .given .1) (sym (h-c .loop .inv .roster))
+      let long = long-reports cut-head in
+      cut-room (expired (left-at cut-told)) (suits cut-judged) (carried-out cut-told)
+      (to.cuts-from-After-put-cut-arg c .enum-told4 .given .1) (sym (cut-head .loop .inv .roster))
       (omega arith)
 
-  pub uncut-whole : (p : ℕ) → p < r-c .size → whole (coverOf (both told-c) p) ≤ mostTotal
+  pub uncut-whole : (p : ℕ) → p < cut-roster .size → whole (coverOf (both cut-told) p) ≤ mostTotal
   uncut-whole =
-      cut-whole (expired (left-at told-c)) (suits j-c) (carried-out told-c) (to.cuts-from-After-put-cut-arg c .enum-told4 .given .1) (sym (h-c .loop .inv .roster))
+      cut-whole (expired (left-at cut-told)) (suits cut-judged) (carried-out cut-told)
+      (to.cuts-from-After-put-cut-arg c .enum-told4 .given .1) (sym (cut-head .loop .inv .roster))
 
 module _ (c : at.At-match2-came) where
   abbrev told-at : at.After-slice-known6
@@ -72,8 +76,8 @@ module _ (c : at.At-match2-came) where
   abbrev left : at.Left-loop2
   left = left-at told-at
 
-  abbrev pub hh : at.At-loop
-  hh = hd left
+  abbrev pub done-head : at.At-loop
+  done-head = loop-head left
 
   abbrev j : at.After-judge
   j = judged-at told-at
@@ -100,15 +104,16 @@ module _ (c : at.At-match2-came) where
   with-order i count o =
       record { clock = book .clock; covers = both told-at; orders = set (book .orders) i o; count = count; roster = book .roster }
 
-  pub done : Done txidWords rowBucket (b hh) (ticket hh) (hh .loop .n) (hh .loop .reports) (c .match2 .b) (v j .refusal) (c .match2 .followed) (c .match2 .n)
+  pub done : Done txidWords rowBucket (b done-head) (ticket done-head) (done-head .loop .n) (done-head .loop .reports) (c .match2 .b)
+      (v j .refusal) (c .match2 .followed) (c .match2 .n)
       (c .match2 .reports) (left .before .loop2 .next) (c .match2 .txids) (c .match2 .heads) (c .match2 .links)
       (to.total-from-At-match2-came c .total-with2 .result)
   done =
       let w = expired left in
       let is = verdict-is j in
       let k = carried-out told-at in
-      let index = hh .loop .inv .index in
-      let ours = sym (hh .loop .inv .roster) in
+      let index = done-head .loop .inv .index in
+      let ours = sym (done-head .loop .inv .roster) in
       let found = searched numbers in
       let way = follows (to.way-from-At-match2-came c) in
       ⊎-elim
@@ -116,9 +121,10 @@ module _ (c : at.At-match2-came) where
       (⊎-elim
       (λ x.
       done-as
-      (opened w is k index (x .1 .given .1)
+      (order-opened w is k index (x .1 .given .1)
       (ap (newly _) (x .15 .ensures) ∙ new-order w found ours way (x .4 .ensures))
-      (x .17) (x .14 .ensures ∙ ap rowsFollowed (way-is w found ours way)) (λ s long. refl) refl (bucket-inside (txidWords (txidField (ticket hh))))
+      (x .17) (x .14 .ensures ∙ ap rowsFollowed (way-is w found ours way)) (λ s long. refl) refl
+      (bucket-inside (txidWords (txidField (ticket done-head))))
       (x .10 .ensures .0) (x .10 .ensures .1) (x .10 .ensures .2))
       (x .16) (x .18) (x .19) (x .20) (x .21) (x .22))
       (⊎-elim

@@ -1,14 +1,13 @@
 -- The ticket passes 7 to 11, and the loop over orders: each order's expiry, and the end, where all are done. Assumes nothing.
 use mathlib.Core.Path.{_≡_, refl, sym, _∙_, ap, subst}
 use mathlib.Core.Bool.{Bool}
-use mathlib.Core.List.{List}
 use mathlib.Core.Logic.{_⊎_, inl, inr, ⊎-elim}
 use Prim.Native.Nat.{ℕ, _+_, _-_, _*_, _≤_, _<_}
 use native.Mathlib.Omega.{arith}
 use borrow.Author.Tests.{ltb-true, ltb-false}
-use lib.ListN.{length, set, length-set}
+use lib.ListN.{length, set}
 use lib.Seq.{sets, length-sets}
-use Rattle.report.specs.Layout.{reportsBytes}
+use Rattle.report.specs.ReportLayout.{reportsBytes}
 use Rattle.dayfile.specs.declared.roster.Roster.{Roster}
 use Rattle.rules.specs.Book.{orderOf, isBank}
 use Rattle.rules.specs.Tick.{atTime}
@@ -16,15 +15,15 @@ use Rattle.rules.specs.Tell.{listed}
 use Rattle.rules.specs.Sound.{Sound}
 use Rattle.rules.specs.declared.Book.{Book}
 use Rattle.rules.specs.declared.Cover.{Cover}
-use Rattle.intake.specs.Expiry.{expiryOf, expiryIn, lapsed, Passed}
-use Rattle.intake.specs.declared.Entry.{Entry}
-use Rattle.intake.specs.declared.Expiry.{Expiry}
-use Rattle.intake.proofs.Looping.{Sweeping, at-sound, at-count, at-roster, at-few, one-more}
-use Rattle.intake.proofs.Fitting.{Freeable, expiry-fits}
-use Rattle.intake.proofs.Applying.{listed-few}
+use Rattle.course.specs.Expiry.{expiryOf, expiryIn, lapsed}
+use Rattle.course.specs.declared.Entry.{Entry}
+use Rattle.course.specs.declared.Expiry.{Expiry}
+use Rattle.course.proofs.Looping.{Sweeping, at-sound, at-roster, at-few, one-more}
+use Rattle.course.proofs.SoughtFitting.{Freeable, expiry-fits}
+use Rattle.course.proofs.Applying.{listed-few}
 use Rattle.sight.specs.declared.Seen.{Seen}
-use Rattle.turns.proofs.Turn.{Taken, start-sound, loop-count, Expired, expiries-done}
-use Rattle.core.proofs.Seeing.{entryBy, Sighted, sight-read}
+use Rattle.turns.proofs.Turn.{TakenUp, clocked-sound, loop-count, Expired, expiries-done}
+use Rattle.core.proofs.SeenEntry.{entryBy, Sighted, sight-read}
 use Rattle.core.proofs.taking.take.Proof.Loop.{start, b, reports₀, sound, long-reports, ticket, room}
 use Rattle.core.proofs.taking.take.Proof.Seen.{top, seen-is}
 use Rattle.core.proofs.taking.take.Tie as tie
@@ -46,14 +45,14 @@ module _ (c : at.After-known-told) where
   pub sighted : Sighted (b outer) (ticket outer) saw
   sighted = sight-read (b outer) (ticket outer) (sym (seen-is (to.seen-from-After-known-told c)) ∙ c .before .sight .given .1)
 
-  pub taken : Taken (b outer) (ticket outer) entry
+  pub taken : TakenUp (b outer) (ticket outer) entry
   taken = record { sound = sound outer; is = sighted .is; passes = refl }
 
-  abbrev pub begins : Book
+  abbrev begins : Book
   begins = atTime (b outer) (entry .time)
 
-  pub begins-sound : Sound begins
-  begins-sound = start-sound taken
+  begins-sound : Sound begins
+  begins-sound = clocked-sound taken
 
 -- an order is looked at
 module _ (c : at.In-loop2) where
@@ -66,22 +65,23 @@ module _ (c : at.In-loop2) where
   abbrev pub number : ℕ
   number = c .before .loop2 .next
 
-  sweeping : Sweeping (begins passed) (outer passed .loop .n) (outer passed .loop .reports) now-book number (c .before .loop2 .n) (c .before .loop2 .reports)
+  sweeping : Sweeping (begins passed) (outer passed .loop .n) (outer passed .loop .reports) now-book number (c .before .loop2 .n)
+      (c .before .loop2 .reports)
   sweeping = c .before .loop2 .inv .0
 
-  pub now-count : now-book .count ≡ b (outer passed) .count
+  now-count : now-book .count ≡ b (outer passed) .count
   now-count = loop-count (taken passed) sweeping (c .before .loop2 .inv .2)
 
   pub below : number < b (outer passed) .count
   below = let t = c .loop2-test .taken in let e = now-count in omega arith
 
-  pub now-sound : Sound now-book
+  now-sound : Sound now-book
   now-sound = at-sound (begins passed) (begins-sound passed) _ _ sweeping below
 
   pub number-below : number < 256
   number-below = let h = below in let s = sound (outer passed) .orders .count in omega arith
 
-  pub in-use : number < now-book .count
+  in-use : number < now-book .count
   in-use = c .loop2-test .taken
 
   -- the order's parties are participants
@@ -109,9 +109,10 @@ module _ (c : at.After-expire) where
   h = outer (passed in-loop)
 
   roster-is : book .roster ≡ start h .args .t1 .roster
-  roster-is = at-roster (begins (passed in-loop)) (begins-sound (passed in-loop)) _ _ (sweeping in-loop) (below in-loop) ∙ h .loop .inv .roster
+  roster-is =
+      at-roster (begins (passed in-loop)) (begins-sound (passed in-loop)) _ _ (sweeping in-loop) (below in-loop) ∙ h .loop .inv .roster
 
-  pub lapse-is : c .expire .result ≡ expiryIn book i
+  lapse-is : c .expire .result ≡ expiryIn book i
   lapse-is =
       c .expire .ensures
       ∙ ap (λ (z : Bool). expiryOf (book .clock) i (orderOf (book .orders) i) z)
@@ -156,7 +157,8 @@ one-expired c =
           ∙ ap (lapsed (now-book l) (number l)) (lapse-is x))
           (put .put-told .ensures .1 ∙ ap (λ (y : Expiry). l .before .loop2 .n + length (listed (y .told))) (lapse-is x))
           (put .put-told .ensures .0
-          ∙ ap (λ (y : Expiry). sets (l .before .loop2 .reports) (12 * l .before .loop2 .n) (reportsBytes (listed (y .told)))) (lapse-is x)),
+          ∙ ap (λ (y : Expiry). sets (l .before .loop2 .reports) (12 * l .before .loop2 .n)
+          (reportsBytes (listed (y .told)))) (lapse-is x)),
       let h = w .1 in omega arith,
       let h = below l in omega arith,
     )
@@ -166,15 +168,19 @@ module _ (c : at.Left-loop2) where
   abbrev pub seen-at : at.After-known-told
   seen-at = to.passed-from-Left-loop2 c
 
-  abbrev pub hd : at.At-loop
-  hd = outer seen-at
+  abbrev pub loop-head : at.At-loop
+  loop-head = outer seen-at
 
   abbrev pub swept-book : Book
   swept-book = c .before .loop2 .b
 
-  stops : (swept-book .count ≤ c .before .loop2 .next) ⊎ (swept-book .clock - orderOf (swept-book .orders) (c .before .loop2 .next) .time < 20)
-  stops = ⊎-elim (λ x. inl (let h = x .left in omega arith)) (λ x. inr (ltb-true _ _ (sym (x .2 .ensures) ∙ x .3 .taken))) (c .loop2-test .came)
+  stops : (swept-book .count ≤ c .before .loop2 .next)
+      ⊎ (swept-book .clock - orderOf (swept-book .orders) (c .before .loop2 .next) .time < 20)
+  stops =
+      ⊎-elim (λ x. inl (let h = x .left in omega arith)) (λ x. inr (ltb-true _ _ (sym (x .2 .ensures) ∙ x .3 .taken))) (c .loop2-test .came)
 
-  pub expired : Expired (b hd) (ticket hd) (entry seen-at) (hd .loop .n) (hd .loop .reports) swept-book (c .before .loop2 .next) (c .before .loop2 .n)
+  pub expired : Expired (b loop-head) (ticket loop-head) (entry seen-at) (loop-head .loop .n) (loop-head .loop .reports) swept-book
+      (c .before .loop2 .next) (c .before .loop2 .n)
       (c .before .loop2 .reports)
-  expired = expiries-done (taken seen-at) (hd .loop .inv .passed) (c .before .loop2 .inv .0) (c .before .loop2 .inv .1) (c .before .loop2 .inv .2) stops
+  expired = expiries-done (taken seen-at) (loop-head .loop .inv .passed) (c .before .loop2 .inv .0) (c .before .loop2 .inv .1)
+      (c .before .loop2 .inv .2) stops

@@ -15,13 +15,13 @@ use Rattle.rules.specs.Find.{isOpen}
 use Rattle.rules.specs.Terms.{termsOf}
 use Rattle.rules.specs.declared.verdict.Facts.{Facts}
 use Rattle.rules.specs.declared.verdict.Verdict.{Verdict}
-use Rattle.intake.specs.Seeking.{seeksOpen, sought}
+use Rattle.course.specs.Seeking.{seeksOpen, sought}
 use Rattle.verdict.specs.Judgement.{verdictOf}
-use Rattle.verdict.specs.Meaning.{aboutOf, factsOf}
+use Rattle.verdict.specs.Meaning.{factsOf}
 use Rattle.turns.proofs.Facts.{Searched, total-few, sender-in, order-in, payee-in, facts-are}
-use Rattle.turns.proofs.Fitting.{Fits, fits}
+use Rattle.turns.proofs.VerdictFitting.{Fits, fits}
 use Rattle.core.proofs.taking.take.Proof.Loop.{start, b, ticket}
-use Rattle.core.proofs.taking.take.Proof.Expiring.{saw, entry, sighted, seen-at, hd, swept-book, expired}
+use Rattle.core.proofs.taking.take.Proof.Expiring.{saw, entry, sighted, seen-at, loop-head, swept-book, expired}
 use Rattle.core.proofs.taking.take.Proof.Places as at
 use Rattle.core.proofs.taking.take.Proof.Ways as to
 
@@ -31,7 +31,7 @@ module _ (c : at.After-end-of) where
   from = to.swept-from-After-end-of c
 
   abbrev begun : at.Start
-  begun = start (hd from)
+  begun = start (loop-head from)
 
   pub follows : c .end-of .result ≡ followedFrom (begun .args .t1 .roster) (saw (seen-at from) .route)
   follows =
@@ -45,7 +45,7 @@ module _ (c : at.Joined3) where
   at-cut = to.swept-from-Joined3 c
 
   abbrev r : Roster
-  r = start (hd at-cut) .args .t1 .roster
+  r = start (loop-head at-cut) .args .t1 .roster
 
   abbrev seeks : Bool
   seeks = seeksOpen (termsOf (entry (seen-at at-cut) .kind) .flow)
@@ -53,7 +53,7 @@ module _ (c : at.Joined3) where
   abbrev anywhere : Bool
   anywhere = anyTo (λ q. isOpen (coverOf (swept-book at-cut .covers) q)) (r .size)
 
-  pub open-is : c .if3 .unconfirmed ≡ cond seeks anywhere false
+  open-is : c .if3 .unconfirmed ≡ cond seeks anywhere false
   open-is =
       ⊎-elim
       (λ x. x .3 ∙ x .2 .ensures ∙ ap (λ (z : Bool). cond z anywhere false) (sym (x .0 .taken) ∙ c .before .is-cut .ensures))
@@ -65,7 +65,8 @@ module _ (c : at.After-number-of2) where
   abbrev swept-n : at.Left-loop2
   swept-n = to.swept-from-After-number-of2 c
 
-  pub searched : Searched (b (hd swept-n)) (ticket (hd swept-n)) (entry (seen-at swept-n)) (saw (seen-at swept-n) .sender) (saw (seen-at swept-n) .order)
+  pub searched : Searched (b (loop-head swept-n)) (ticket (loop-head swept-n)) (entry (seen-at swept-n)) (saw (seen-at swept-n) .sender)
+      (saw (seen-at swept-n) .order)
       (saw (seen-at swept-n) .route) (c .before .number-of .result) (c .number-of2 .result)
   searched =
       let s = sighted (seen-at swept-n) in
@@ -85,14 +86,15 @@ module _ (c : at.After-is-bank2) where
   abbrev swept-f : at.Left-loop2
   swept-f = to.swept-from-After-is-bank2 c
 
-  pub all-few : hd swept-f .loop .total ≤ mostTotal
-  all-few = total-few (expired swept-f) (hd swept-f .loop .inv .sum)
+  pub swept-total-few : loop-head swept-f .loop .total ≤ mostTotal
+  swept-total-few = total-few (expired swept-f) (loop-head swept-f .loop .inv .sum)
 
-  abbrev pub facts : (x : Facts) × (x ≡ factsOf (sought (swept-book swept-f) (entry (seen-at swept-f)) (ticket (hd swept-f))))
+  abbrev facts : (x : Facts) × (x ≡ factsOf (sought (swept-book swept-f) (entry (seen-at swept-f)) (ticket (loop-head swept-f))))
   facts = (
     _,
-    facts-are (expired swept-f) (searched (to.numbers-from-After-is-bank2 c)) (sym (hd swept-f .loop .inv .roster))
-        (follows (to.way-from-After-is-bank2 c)) (c .is-bank2 .ensures) (open-is (to.joined-from-After-is-bank2 c)) (hd swept-f .loop .inv .sum),
+    facts-are (expired swept-f) (searched (to.numbers-from-After-is-bank2 c)) (sym (loop-head swept-f .loop .inv .roster))
+        (follows (to.way-from-After-is-bank2 c)) (c .is-bank2 .ensures) (open-is (to.joined-from-After-is-bank2 c))
+        (loop-head swept-f .loop .inv .sum),
   )
 
 -- the verdict
@@ -103,7 +105,7 @@ module _ (c : at.After-judge) where
   abbrev pub v : Verdict
   v = c .judge .result
 
-  pub verdict-is : v ≡ verdictOf (factsOf (sought (swept-book swept-at) (entry (seen-at swept-at)) (ticket (hd swept-at))))
+  pub verdict-is : v ≡ verdictOf (factsOf (sought (swept-book swept-at) (entry (seen-at swept-at)) (ticket (loop-head swept-at))))
   verdict-is = c .judge .ensures ∙ ap verdictOf (facts (c .before) .1)
 
   pub suits : Fits (swept-book swept-at) v

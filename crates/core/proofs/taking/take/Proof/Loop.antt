@@ -8,11 +8,11 @@ use borrow.Author.Needs.{needs}
 use denote.Ref.{now}
 use lib.ListN.{length, take, drop}
 use Rattle.fields.proofs.Stores.{length-part}
-use Rattle.ticket.specs.Layout.{txidField}
+use Rattle.ticket.specs.TicketLayout.{txidField}
 use Rattle.rules.specs.Sound.{Sound}
 use Rattle.rules.specs.declared.Book.{Book}
-use Rattle.intake.specs.Running.{roomLeft}
-use Rattle.intake.proofs.Running.{RoomFor, room-left, answers-long, reports-long}
+use Rattle.course.specs.Running.{roomLeft}
+use Rattle.course.proofs.Running.{RoomFor, room-left, answers-long, reports-long}
 use Rattle.index.specs.Words.{Bytes}
 use Rattle.index.proofs.Comparing.{part-bytes, slice-bytes}
 use Rattle.core.proofs.taking.take.Proof.Places as at
@@ -50,25 +50,30 @@ module _ (l : at.At-loop) where
   ticket = take (108 * l .loop .taken + 108 - 108 * l .loop .taken) (drop (108 * l .loop .taken) tickets)
 
   pub ticket-is : ticket ≡ take 108 (drop (108 * l .loop .taken) tickets)
-  ticket-is = let e : 108 * l .loop .taken + 108 - 108 * l .loop .taken ≡ 108 = omega arith in ap (λ (n : ℕ). take n (drop (108 * l .loop .taken) tickets)) e
+  ticket-is =
+      let e : 108 * l .loop .taken + 108 - 108 * l .loop .taken ≡ 108 = omega arith in
+      ap (λ (n : ℕ). take n (drop (108 * l .loop .taken) tickets)) e
 
   pub ticket-bytes : Bytes ticket
   ticket-bytes =
-      part-bytes (slice-bytes tickets (to.known-from-At-loop l .shared-slice-known .given)) (108 * l .loop .taken + 108 - 108 * l .loop .taken) (108 * l .loop .taken)
+      part-bytes (slice-bytes tickets (to.known-from-At-loop l .shared-slice-known .given))
+      (108 * l .loop .taken + 108 - 108 * l .loop .taken) (108 * l .loop .taken)
 
 -- there is room for it
 module _ (c : at.Then1) where
   abbrev pub head : at.At-loop
   head = to.head-from-Then1 c
 
-  pub more : roomLeft (length (tickets head) - 108 * head .loop .taken) (length (answers₀ head) - 4 * head .loop .taken) (length (reports₀ head) - 12 * head .loop .n) ≡ true
+  pub more : roomLeft (length (tickets head) - 108 * head .loop .taken) (length (answers₀ head) - 4 * head .loop .taken)
+      (length (reports₀ head) - 12 * head .loop .n) ≡ true
   more =
       ap₂ (λ (a r : ℕ). roomLeft (length (tickets head) - 108 * head .loop .taken) (a - 4 * head .loop .taken) (r - 12 * head .loop .n))
       (sym (long-answers head)) (sym (long-reports head))
       ∙ sym (c .before .room-left .ensures)
       ∙ c .if1 .taken
 
-  pub room : RoomFor (length (tickets head) - 108 * head .loop .taken) (length (answers₀ head) - 4 * head .loop .taken) (length (reports₀ head) - 12 * head .loop .n)
+  pub room : RoomFor (length (tickets head) - 108 * head .loop .taken) (length (answers₀ head) - 4 * head .loop .taken)
+      (length (reports₀ head) - 12 * head .loop .n)
   room = room-left _ _ _ more
 
   pub next-fits : head .loop .taken + 1 < 18_446_744_073_709_551_616
@@ -86,7 +91,8 @@ module _ (c : at.Else1) where
   abbrev pub last : at.At-loop
   last = to.head-from-Else1 c
 
-  pub none-more : roomLeft (length (tickets last) - 108 * last .loop .taken) (length (answers₀ last) - 4 * last .loop .taken) (length (reports₀ last) - 12 * last .loop .n) ≡ false
+  pub none-more : roomLeft (length (tickets last) - 108 * last .loop .taken) (length (answers₀ last) - 4 * last .loop .taken)
+      (length (reports₀ last) - 12 * last .loop .n) ≡ false
   none-more =
       ap₂ (λ (a r : ℕ). roomLeft (length (tickets last) - 108 * last .loop .taken) (a - 4 * last .loop .taken) (r - 12 * last .loop .n))
       (sym (long-answers last)) (sym (long-reports last))

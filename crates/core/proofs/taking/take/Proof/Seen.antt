@@ -1,20 +1,18 @@
 -- What was seen of the ticket: the turn of one that 7 to 11 refuse is done. Assumes nothing.
 use mathlib.Core.Path.{_≡_, sym, _∙_, ap}
 use mathlib.Core.Bool.{false}
-use mathlib.Core.List.{List}
-use Prim.Native.Nat.{ℕ, _+_, _*_}
+use Prim.Native.Nat.{ℕ}
 use lib.Dec.{eqb}
 use Rattle.report.specs.declared.answer.Answer.{Answer}
 use Rattle.rules.specs.Find.{senderIn, orderIn, routeIn}
 use Rattle.rules.specs.Step.{stepOf}
 use Rattle.rules.specs.Taken.{answerOf}
-use Rattle.intake.specs.Entry.{entryOf}
+use Rattle.course.specs.Entry.{entryOf}
 use Rattle.index.specs.Words.{txidWords}
-use Rattle.index.specs.Chains.{rowBucket}
+use Rattle.index.specs.RowChains.{rowBucket}
 use Rattle.sight.specs.Sight.{sightOf, sightRefusal}
-use Rattle.sight.specs.declared.Sight.{Sight}
 use Rattle.turns.proofs.Done.{Done, turned-down, refused-answer}
-use Rattle.core.proofs.Seeing.{sight-refused}
+use Rattle.core.proofs.SeenEntry.{sight-refused}
 use Rattle.core.proofs.Searching.{all-found}
 use Rattle.core.proofs.taking.take.Proof.Loop.{start, b, sound, ticket, ticket-bytes, whole-ticket}
 use Rattle.core.proofs.taking.take.Proof.Places as at
@@ -30,7 +28,8 @@ module _ (c : at.After-see) where
   seen-is =
       let s = start top in
       c .see .ensures
-      ∙ all-found (s .pre .0 .roster) (s .pre .1) (ticket top) (whole-ticket (to.room-from-After-see c)) (ticket-bytes top) (sound top) (top .loop .inv .index)
+      ∙ all-found (s .pre .0 .roster) (s .pre .1) (ticket top) (whole-ticket (to.room-from-After-see c)) (ticket-bytes top)
+      (sound top) (top .loop .inv .index)
       (top .loop .inv .roster)
 
 -- refused
@@ -47,10 +46,12 @@ module _ (c : at.After-enum-told) where
   refusal-is : (entryOf (b h .clock) (ticket h) .refusal ≡ number) × (eqb number 0 ≡ false)
   refusal-is = sight-refused (b h) (ticket h) (sym (seen-is seen) ∙ c .enum-told .given .1)
 
-  pub refused-done : Done txidWords rowBucket (b h) (ticket h) (h .loop .n) (h .loop .reports) (b h) number 0 (h .loop .n) (h .loop .reports) (h .loop .next)
+  pub refused-done : Done txidWords rowBucket (b h) (ticket h) (h .loop .n) (h .loop .reports) (b h) number 0 (h .loop .n)
+      (h .loop .reports) (h .loop .next)
       (h .loop .txids) (h .loop .heads) (h .loop .links) (h .loop .total)
   refused-done =
-      turned-down (sound h) (refusal-is .0) (refusal-is .1) (h .loop .inv .passed) (h .loop .inv .few) (h .loop .inv .index) (h .loop .inv .sum)
+      turned-down (sound h) (refusal-is .0) (refusal-is .1) (h .loop .inv .passed) (h .loop .inv .few)
+      (h .loop .inv .index) (h .loop .inv .sum)
 
 -- its answer
 module _ (c : at.After-refusal-of) where

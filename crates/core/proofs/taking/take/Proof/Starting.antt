@@ -3,17 +3,16 @@ use mathlib.Core.Path.{refl, sym, _∙_}
 use native.Mathlib.Nat.{not-suc-le-zero}
 use native.Mathlib.Omega.{arith}
 use denote.Ref.{now}
-use Rattle.rules.specs.Book.{orderOf}
-use Rattle.intake.proofs.Running.{started}
-use Rattle.intake.proofs.Seeking.{total-sum}
-use Rattle.intake.proofs.Summing.{all-total}
-use Rattle.index.proofs.Lending.{chained-fields}
+use Rattle.course.proofs.Running.{started}
+use Rattle.course.proofs.Seeking.{total-sum}
+use Rattle.course.proofs.Summing.{all-total}
+use Rattle.index.proofs.LentRows.{chained-fields}
 use Rattle.core.proofs.taking.take.Tie as tie
 use Rattle.core.proofs.taking.take.Proof.Invariants.{Inv-loop2, μ-loop2, Inv-loop, μ-loop}
 use Rattle.core.proofs.taking.take.Proof.Ways as to
 
-pub begun : tie.Need-loop-holds Inv-loop2 μ-loop2 Inv-loop μ-loop
-begun c =
+pub taking-begun : tie.Need-loop-holds Inv-loop2 μ-loop2 Inv-loop μ-loop
+taking-begun c =
     let s = to.start-from-After-total-of c in
     let rows = to.rows-from-After-total-of c .txids-of .ensures in
     let chains = to.chains-from-After-total-of c .txid-chains .ensures in
@@ -22,6 +21,12 @@ begun c =
       roster = refl;
       passed = record { none = λ i l. absurd (not-suc-le-zero l) };
       few = omega arith;
-      index = record { txids = rows .1; long = rows .0; chained = chained-fields (rows .1) (chains .2); headed = chains .0; linked = chains .1 };
+      index = record {
+        txids = rows .1;
+        long = rows .0;
+        chained = chained-fields (rows .1) (chains .2);
+        headed = chains .0;
+        linked = chains .1;
+      };
       sum = c .total-of .ensures ∙ total-sum (s .args .t1) ∙ sym (all-total (s .args .t1) (s .pre .0));
     }

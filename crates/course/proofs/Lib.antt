@@ -1,0 +1,11 @@
+pub mod Taking
+pub mod Sweeping
+pub mod SoughtFitting
+pub mod Applying
+pub mod Running
+pub mod Looping
+pub mod Naming
+pub mod Turning
+pub mod PrintedBatches
+pub mod Seeking
+pub mod Summing

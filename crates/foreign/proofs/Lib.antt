@@ -1,0 +1,3 @@
+mod LentText
+mod BetweenPieces
+mod Stepping

@@ -1,0 +1,2 @@
+pub mod LentText
+pub mod Stepped

@@ -1,2 +1,0 @@
-mod Lending
-mod Going

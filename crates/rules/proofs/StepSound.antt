@@ -1,0 +1,186 @@
+-- Every step keeps a book sound, whatever the ticket. Assumes nothing.
+use mathlib.Core.Path.{_≡_, refl, sym, _∙_, ap, ap₂}
+use mathlib.Core.Bool.{Bool, true, false, cond}
+use mathlib.Core.List.{List}
+use Prim.Native.Nat.{ℕ, _+_, _≤_, _<_}
+use native.Mathlib.Omega.{arith}
+use lib.Dec.{eqb}
+use lib.Seq.{set-getD}
+use Rattle.fields.proofs.UpTo.{none-at}
+use Rattle.fields.proofs.Stores.{length-part}
+use Rattle.ticket.specs.declared.Fields.{Fields}
+use Rattle.ticket.specs.declared.kinds.Kind.{Kind}
+use Rattle.ticket.specs.declared.kinds.Kind.the-variants as kind
+use Rattle.ticket.proofs.TicketTelling.{Tells, listed-txid}
+use Rattle.dayfile.specs.DayFile.{dayFile}
+use Rattle.dayfile.proofs.Accepted.{guaranteed}
+use Rattle.rules.specs.Book.{noOrder, coverOf, withCovers, bookOf}
+use Rattle.rules.specs.Status.{isWaiting, isUnmarked, isAsked}
+use Rattle.rules.specs.Cover.{transferred, total, mostTotal}
+use Rattle.rules.specs.Tick.{Step, tick}
+use Rattle.rules.specs.Find.{isOpen, anyOpen, finding}
+use Rattle.rules.specs.Cut.{cutTo}
+use Rattle.rules.specs.Decision.{by, nobody, orderKept, newOrder, confirmMove, decisionOf, applied}
+use Rattle.rules.specs.Step.{stepOf, handed}
+use Rattle.rules.specs.Sound.{Sound}
+use Rattle.rules.specs.declared.decision.Move.the-variants.{Give, Draw, Credit, Debit}
+use Rattle.rules.specs.declared.decision.Transfer.{Transfer}
+use Rattle.rules.specs.declared.decision.Told.{Told}
+use Rattle.rules.specs.declared.Recall.the-variants as mark
+use Rattle.rules.specs.declared.Status.{Status}
+use Rattle.rules.specs.declared.Status.the-variants as status
+use Rattle.rules.specs.declared.Order.{Order}
+use Rattle.rules.specs.declared.Cover.{Cover}
+use Rattle.rules.specs.declared.Book.{Book}
+use Rattle.rules.proofs.CoverMoving.{nobody-moves}
+use Rattle.rules.proofs.SoundKeeping as keeping
+use Rattle.rules.proofs.Cutting.{Closed, closed, cut-sound}
+use Rattle.rules.proofs.Refusing.{NoRefusal}
+use Rattle.rules.proofs.Accepting.{fieldsOf}
+use Rattle.rules.proofs.Accepting as accepting
+use Rattle.rules.proofs.SweepSound.{tick-swept}
+use Rattle.rules.proofs.Courses.{step-goes, handed-goes}
+
+-- an order that is ready for a recall, or for a return or a decline, does not wait
+pub unmarked-not-waiting : (s : Status) → isUnmarked s ≡ true → isWaiting s ≡ false
+unmarked-not-waiting status.Waiting e = sym e
+unmarked-not-waiting status.Refused e = refl
+unmarked-not-waiting status.Expired e = refl
+unmarked-not-waiting status.Returned e = refl
+unmarked-not-waiting (status.Settled m) e = refl
+
+pub asked-not-waiting : (s : Status) → isAsked s ≡ true → isWaiting s ≡ false
+asked-not-waiting status.Waiting e = sym e
+asked-not-waiting status.Refused e = refl
+asked-not-waiting status.Expired e = refl
+asked-not-waiting status.Returned e = refl
+asked-not-waiting (status.Settled m) e = refl
+
+-- a decision that keeps the order: one cover moves
+kept-applied : (b : Book) (f : Fields) (t : List ℕ) (m : Transfer) (told : Told)
+    → applied b (orderKept (finding b f t) m false told) ≡ withCovers b (transferred m (b .covers))
+kept-applied b f t m told =
+    ap₂ (λ (cs : List Cover) (os : List Order). record { clock = b .clock; covers = cs; orders = os; count = b .count; roster = b .roster })
+    (nobody-moves (transferred m (b .covers)))
+    (set-getD (b .orders) (accepting.orderNumber b f t) noOrder)
+
+-- and where none moves, the book is as it was
+same-applied : (b : Book) (f : Fields) (t : List ℕ) (told : Told) → applied b (orderKept (finding b f t) nobody false told) ≡ b
+same-applied b f t told = kept-applied b f t nobody told ∙ ap (withCovers b) (nobody-moves (b .covers))
+
+cut-applied : (b : Book) (f : Fields) (t : List ℕ) (told : Told)
+    → applied b (orderKept (finding b f t) nobody true told) ≡ withCovers b (cutTo (b .roster) (b .covers) (b .roster .size))
+cut-applied b f t told =
+    ap₂
+    (λ (cs : List Cover) (os : List Order).
+    record { clock = b .clock; covers = cutTo (b .roster) cs (b .roster .size); orders = os; count = b .count; roster = b .roster })
+    (nobody-moves (transferred nobody (b .covers)) ∙ nobody-moves (b .covers))
+    (set-getD (b .orders) (accepting.orderNumber b f t) noOrder)
+
+-- where nothing is open anywhere, each is closed
+pub all-closed : (b : Book) → anyOpen b ≡ false → (p : ℕ) → p < b .roster .size → Closed (coverOf (b .covers) p)
+unfolding anyOpen
+all-closed b e p h = closed (coverOf (b .covers) p) (none-at (λ q. isOpen (coverOf (b .covers) q)) (b .roster .size) p e h)
+
+module _ (b : Book) (s : Sound b) (n time : ℕ) (t : List ℕ) where
+  -- a cover moves, and nothing is reserved or freed
+  confirm-sound : (p : ℕ) → p < b .roster .size → (eqb (coverOf (b .covers) p .held) 0 ≡ true → total b + n ≤ mostTotal)
+      → Sound (withCovers b (transferred (by p (cond (eqb (coverOf (b .covers) p .held) 0) Debit Credit) n) (b .covers)))
+  unfolding total
+  confirm-sound p h limit = go (eqb (coverOf (b .covers) p .held) 0) refl
+    where
+      go : (x : Bool) → eqb (coverOf (b .covers) p .held) 0 ≡ x
+          → Sound (withCovers b (transferred (by p (cond x Debit Credit) n) (b .covers)))
+      go true e = keeping.moved-sound b s (by p Debit n) h tt (λ q. refl) (limit e)
+      go false e = keeping.moved-sound b s (by p Credit n) h tt (λ q. refl) (let l = s .limited in omega arith)
+
+  -- the ticket's own step
+  pub own-sound : (k : Kind) → Tells t (fieldsOf k time n) → NoRefusal (finding b (fieldsOf k time n) t)
+      → Sound (applied b (decisionOf (finding b (fieldsOf k time n) t)))
+  unfolding total
+  own-sound kind.CoverIn tells r =
+      let f = fieldsOf kind.CoverIn time n in
+      rw (kept-applied b f t (by (accepting.senderNumber b f t) Give n) Told.Nobody)
+      (keeping.moved-sound b s (by (accepting.senderNumber b f t) Give n) (accepting.sender-found b f t (r .r12) refl .below) tt (λ p. refl)
+      (accepting.limit-kept b f t (r .r22) refl))
+  own-sound kind.CoverOut tells r =
+      let f = fieldsOf kind.CoverOut time n in
+      rw (kept-applied b f t (by (accepting.senderNumber b f t) Draw n) Told.Nobody)
+      (keeping.moved-sound b s (by (accepting.senderNumber b f t) Draw n) (accepting.sender-found b f t (r .r12) refl .below)
+      (accepting.cover-there b f t (r .r20) refl) (λ p. refl) (let l = s .limited in omega arith))
+  own-sound kind.Order tells r =
+      let f = fieldsOf kind.Order time n in
+      rw (nobody-moves (transferred (by (accepting.senderNumber b f t) _ n) (b .covers)))
+      (keeping.opened-sound b s (newOrder (finding b f t))
+      (record {
+        room = accepting.order-room b f t (r .r15) refl;
+        payer = accepting.sender-found b f t (r .r12) refl .below;
+        payee = accepting.payee-known b f t (s .roster) (r .r14) refl;
+        least = tells .least;
+        most = tells .most;
+        padded = length-part 35 38 t (rw (tells .whole) (omega arith));
+        txid = listed-txid t f tells refl;
+        fresh = accepting.txid-free b f t (r .r13) refl;
+        time = refl;
+      })
+      (accepting.cover-there b f t (r .r20) refl) refl)
+  own-sound kind.Yes tells r =
+      let f = fieldsOf kind.Yes time n in
+      keeping.settled-sound b s (accepting.orderNumber b f t) (accepting.order-found b f t (r .r16) refl .below)
+      (status.Settled mark.None) refl
+      (accepting.status-meets b f t (r .r18))
+  own-sound kind.No tells r =
+      let f = fieldsOf kind.No time n in
+      rw (nobody-moves _)
+      (keeping.freed-sound b s (accepting.orderNumber b f t) (accepting.order-found b f t (r .r16) refl .below) status.Refused refl
+      (accepting.status-meets b f t (r .r18)))
+  own-sound kind.Recall tells r =
+      let f = fieldsOf kind.Recall time n in
+      rw (nobody-moves (transferred nobody (b .covers)), nobody-moves (b .covers))
+      (keeping.remarked-sound b s (accepting.orderNumber b f t) (accepting.order-found b f t (r .r16) refl .below)
+      (status.Settled mark.Asked) refl
+      (unmarked-not-waiting (accepting.theOrder b f t .status) (accepting.status-meets b f t (r .r18))))
+  own-sound kind.Return tells r =
+      let f = fieldsOf kind.Return time n in
+      keeping.returned-sound b s (accepting.orderNumber b f t) (accepting.order-found b f t (r .r16) refl .below) status.Returned refl
+      (asked-not-waiting (accepting.theOrder b f t .status) (accepting.status-meets b f t (r .r18))) n
+      (rw (← accepting.right-party b f t (r .r17) refl) (accepting.cover-there b f t (r .r20) refl))
+  own-sound kind.Decline tells r =
+      let f = fieldsOf kind.Decline time n in
+      rw (nobody-moves (transferred nobody (b .covers)), nobody-moves (b .covers))
+      (keeping.remarked-sound b s (accepting.orderNumber b f t) (accepting.order-found b f t (r .r16) refl .below)
+      (status.Settled mark.Declined) refl
+      (asked-not-waiting (accepting.theOrder b f t .status) (accepting.status-meets b f t (r .r18))))
+  own-sound kind.Inquiry tells r = rw (same-applied b (fieldsOf kind.Inquiry time n) t _) s
+  own-sound kind.Cut tells r =
+      let c = cut-sound (b .roster) (s .roster .size) (s .covers) (all-closed b (r .r21)) (b .roster .size) (omega arith) in
+      rw (cut-applied b (fieldsOf kind.Cut time n) t Told.Nobody)
+      (keeping.covers-sound b s _ (c .sound) (let e = c .total in let l = s .limited in omega arith))
+  own-sound kind.Confirm tells r =
+      let f = fieldsOf kind.Confirm time n in
+      rw (kept-applied b f t (by (accepting.senderNumber b f t) (confirmMove (finding b f t)) n) Told.Nobody)
+      (confirm-sound (accepting.senderNumber b f t) (accepting.sender-found b f t (r .r12) refl .below)
+      (λ z. accepting.limit-kept b f t (r .r22) z))
+  own-sound kind.Tick tells r = rw (same-applied b (fieldsOf kind.Tick time n) t Told.Nobody) s
+
+module _ (b : Book) (s : Sound b) (t : List ℕ) where
+  turned-sound : (n : ℕ) → 6 ≤ n → n ≤ 11 → Sound b
+  turned-sound n low high = s
+
+  refused-sound : (f : Fields) → Tells t f → b .clock ≤ f .time → (n : ℕ) → 12 ≤ n → Sound (tick b (f .time) .book)
+  refused-sound f tells l n low = tick-swept b s (f .time) l .sound
+
+  taken-sound : (f : Fields) → Tells t f → b .clock ≤ f .time → NoRefusal (finding (tick b (f .time) .book) f t)
+      → Sound (applied (tick b (f .time) .book) (decisionOf (finding (tick b (f .time) .book) f t)))
+  taken-sound f tells l none =
+      own-sound (tick b (f .time) .book) (tick-swept b s (f .time) l .sound) (f .amount) (f .time) t (f .kind) tells none
+
+  pub step-sound : Sound (stepOf b t .book)
+  step-sound = step-goes b t (λ (w : Step). Sound (w .book)) turned-sound refused-sound taken-sound
+
+  pub handed-sound : (buffer : List ℕ) → Sound (handed b t buffer .book)
+  handed-sound = handed-goes b t (λ (w : Step). Sound (w .book)) turned-sound refused-sound taken-sound
+
+-- the fresh book of any day file, refused ones included
+pub file-sound : (file : List ℕ) → Sound (bookOf file)
+file-sound file = keeping.fresh-sound (dayFile file .roster) (guaranteed file)
