@@ -261,7 +261,8 @@ pub fn take<'a>(
             }
             Does::Becomes(s) => {
                 let o = b.orders[i];
-                b.orders[i] = status::with_status(o, s);
+                let changed = status::with_status(o, s);
+                b.orders[i] = changed;
             }
             Does::Cuts => {
                 let covers = b.covers;
