@@ -66,7 +66,8 @@ fn field_of(s: &[u8]) -> [u8; 34]
     copied_from_ends(s)
 }
 
-// Its front and its classes are looked at where the bytes stand; only what passes is padded, for its number.
+// Its front and its classes are looked at where the bytes stand. The padded field for its number is written before that: by then its
+// bytes can be read many at once.
 #[no_mangle]
 pub extern "C" fn zolfigar_iban_ok(s: &[u8]) -> u8
     ensures { λ r. ⌜ r ≡ answer (isIban (now (s .entry))) ⌝ }
@@ -77,13 +78,13 @@ pub extern "C" fn zolfigar_iban_ok(s: &[u8]) -> u8
     if 34 < s.len() {
         return 0;
     }
+    let field = field_of(s);
     if !iban::iban_front(s) {
         return 0;
     }
     if !classes::all_in(Class::LetterOrDigit, s) {
         return 0;
     }
-    let field = field_of(s);
     iban::number_ok(&field) as u8
 }
 

@@ -5,6 +5,7 @@
 --     scale        what a byte scales the number before it with: a letter 100, a digit 10, a zero byte 1
 --     pairWorth    the same for two bytes
 --     pairScale
+--     pairAt       the two bytes at a place as one number, the first its lower byte
 --     spelt        the number n with the bytes of s behind it
 --     speltMoved   what the number leaves by 97, the first four bytes moved to the end
 --     ibanFront    what the first bytes tell: two capitals, two digits, a byte more
@@ -36,6 +37,9 @@ pairWorth a b = worth a * scale b + worth b
 
 abbrev pub pairScale : ℕ → ℕ → ℕ
 pairScale a b = scale a * scale b
+
+abbrev pub pairAt : List ℕ → ℕ → ℕ
+pairAt s i = getD s (2 * i) 0 + 256 * getD s (2 * i + 1) 0
 
 abbrev pub spelt : ℕ → List ℕ → ℕ
 spelt n [] = n

@@ -33,20 +33,19 @@ module _ (c : tie.Else2) where
   tested = iban-unpadded s (omega arith) (omega arith)
 
 -- the front is right
-fronted : (c : tie.Else3) → ibanFront (s (c .before .before)) ≡ true
+fronted : (c : tie.Else3) → ibanFront (s (c .before .before .before)) ≡ true
 fronted c = sym (c .before .iban-front .ensures) ∙ not-false _ (c .if3 .left)
 
 -- so are the classes
-passed : (c : tie.Else4)
-    → eqb (speltMoved (padded 34 (s (c .before .before .before .before)))) 1 ≡ isIban (s (c .before .before .before .before))
+passed : (c : tie.Else4) → let l = c .before .before .before .before .before in eqb (speltMoved (padded 34 (s l))) 1 ≡ isIban (s l)
 passed c =
-    let l = c .before .before .before .before in
+    let l = c .before .before .before .before .before in
     let spelt = sym (c .before .all-in .ensures) ∙ not-false _ (c .if4 .left) in
     sym (ap₂ (tests l) (fronted (c .before .before)) spelt) ∙ tested l
 
 -- the field that the bytes stand in
 long : (c : tie.After-field-of) → length (c .field-of .result) ≡ 34
-long c = ap length (c .field-of .ensures) ∙ length-padded 34 (s (c .before .before .before .before .before)) (search needs)
+long c = ap length (c .field-of .ensures) ∙ length-padded 34 (s (c .before)) (search needs)
 
 pub zolfigar-iban-ok-spec : {M : Type 1} → statement M
 zolfigar-iban-ok-spec =
@@ -57,21 +56,22 @@ zolfigar-iban-ok-spec =
     -- too many
     (λ c. rw (too-many (now (c .before .before .before .args .s)) (c .if2 .taken)))
     (λ c κs. search needs)
+    (λ c κs. search needs)
     -- another front
     (λ c.
-    let l = c .before .before in
+    let l = c .before .before .before in
     let front = sym (c .before .iban-front .ensures) ∙ not-true _ (c .if3 .taken) in
     ap answer (sym (ap (λ (b : Bool). tests l b (allIn LetterOrDigit (s l))) front) ∙ tested l))
     (λ c κs. search needs)
     -- other bytes than letters and digits
     (λ c.
-    let l = c .before .before .before .before in
+    let l = c .before .before .before .before .before in
     let spelt = sym (c .before .all-in .ensures) ∙ not-true _ (c .if4 .taken) in
     ap answer (sym (ap₂ (tests l) (fronted (c .before .before)) spelt) ∙ tested l))
-    (λ c κs. search needs)
-    (λ c. sym (long (c .before)))
-    (λ c κs. long (c .before))
+    (λ c. sym (long (c .before .before .before .before .before)))
+    (λ c κs. long (c .before .before .before .before .before))
     (λ c. search needs)
     (λ c.
-    let field = c .before .before in
-    ap answer (c .number-ok .ensures ∙ ap (λ (f : List ℕ). eqb (speltMoved f) 1) (field .field-of .ensures) ∙ passed (field .before))))
+    let all = c .before .before in
+    let field = all .before .before .before .before in
+    ap answer (c .number-ok .ensures ∙ ap (λ (f : List ℕ). eqb (speltMoved f) 1) (field .field-of .ensures) ∙ passed all)))

@@ -19,7 +19,6 @@ scale-spec =
     (λ c.
     let byte = c .before .before .args .c in
     omega (arith, flag-most (not (eqb byte 0)) (c .before .used .ensures), flag-most (ltb 57 byte) (c .letter .ensures)))
-    (λ c. search needs)
     (λ c.
     let byte = c .before .before .args .c in
     let u = c .before .used .ensures in

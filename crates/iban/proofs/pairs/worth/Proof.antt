@@ -22,7 +22,6 @@ worth-spec =
     (λ c. search needs)
     (λ c. omega (arith, product c))
     (λ c. omega (arith, product c))
-    (λ c. omega (arith, product c))
     (λ c.
     let byte = c .before .args .c in
     (ap (λ (r : ℕ). byte % 16 + r * (byte % 32 / 16 * 16 + 9)) (c .letter .ensures), omega (arith, product c))))
