@@ -7,5 +7,6 @@ pub mod Looping
 pub mod Naming
 pub mod Turning
 pub mod PrintedBatches
+pub mod RoomEdges
 pub mod Seeking
 pub mod Summing
