@@ -52,6 +52,18 @@ class Command(unittest.TestCase):
         self.assertEqual(ran.returncode, 0)
         self.assertIn("the day file is refused by 2", ran.stdout)
 
+    def test_a_refusal_that_does_not_fit_the_file(self):
+        for line in ("F 0", "F 1", "F 7", "F 99"):
+            files.write(self.path("other.out"), f"{line}\n".encode())
+            ran = self.explain("case-d.bin", "other.out")
+            self.assertEqual((ran.returncode, ran.stderr), (1, ""), line)
+            self.assertIn(f"the output refuses the file by {line[2:]}, and ", ran.stdout)
+
+    def test_a_day_of_a_file_that_its_header_refuses(self):
+        ran = self.explain("refused-2.bin", "case-d.out")
+        self.assertEqual(ran.returncode, 1)
+        self.assertIn("tickets above 512, and the output doesn't refuse it", ran.stdout)
+
     def test_page_and_journal(self):
         page, journal = self.path("day.html"), self.path("day.journal")
         ran = self.explain("busy.bin", "busy.out", "--page", page, "--journal", journal, "--date", "2026-11-15")
