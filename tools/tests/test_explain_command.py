@@ -39,6 +39,17 @@ class Command(unittest.TestCase):
         self.assertIn("6.00 available + 0.00 reserved + 0.00 held = 6.00, the program's line C 0", ran.stdout)
         self.assertNotIn("\x1b", ran.stdout)
 
+    def test_a_day_as_text(self):
+        for name in ("case-d.day", "case-d.txt"):
+            files.write(self.path(name), scenes.content("examples", "case-d.day"))
+            ran = self.explain(name, "case-d.out")
+            self.assertEqual((ran.returncode, ran.stderr), (0, ""))
+            self.assertIn("Everything adds up", ran.stdout)
+        files.write(self.path("slip.txt"), b"1 tick tock\n")
+        ran = self.explain("slip.txt", "case-d.out")
+        said = f"{self.path('slip.txt')}:1:8: expected but, or the line's end, found \"tock\"\n"
+        self.assertEqual((ran.returncode, ran.stdout, ran.stderr), (1, "", said))
+
     def test_a_day_that_does_not(self):
         ran = self.explain("case-d.bin", "tampered.out")
         self.assertEqual(ran.returncode, 1)

@@ -101,6 +101,18 @@ class Run(unittest.TestCase):
         self.assertEqual((status, out), (1, ""))
         self.assertIn(f"{self.path('mine.day')}:2:37: expected ", err)
 
+    def test_text_under_another_name(self):
+        for name in ("mine.txt", "MINE.DAY", "mine"):
+            files.write(self.path(name), scenes.content("examples", "case-d.day"))
+            status, out, _ = self.run_day(self.path(name))
+            self.assertEqual(status, 0)
+            self.assertIn("Everything adds up", out)
+        files.write(self.path("slip.txt"), b"participant AAAALV22 bank\n00:00:00 cover-in from AAAALV22 EUR 4\n")
+        status, out, err = self.run_day(self.path("slip.txt"))
+        self.assertEqual((status, out), (1, ""))
+        self.assertIn(f"{self.path('slip.txt')}:2:37: expected ", err)
+        self.assertFalse(os.path.exists(self.path("target/run/slip.html")))
+
     def test_a_packed_day(self):
         files.write(self.path("packed.bin"), scenes.day_file("case-d"))
         self.assertEqual(self.run_day(self.path("packed.bin"), "--order", "TX1")[0], 0)

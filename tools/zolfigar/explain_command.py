@@ -7,8 +7,12 @@ import sys
 from collections.abc import Sequence
 from typing import TextIO
 
-from . import audit, files, history, journal, page, terminal, version
+from . import audit, files, history, journal, packing, page, terminal, version
 from .history import Day, Order
+
+A_DAY = (
+    "a day as text or packed: a file whose name ends in .day or that has no zero byte is text, and an empty one is packed"
+)
 
 USES = """examples:
   tools/explain day.bin day.out                      all of it, on the terminal
@@ -48,7 +52,7 @@ def arguments(words: Sequence[str]) -> Words:
     form = argparse.RawDescriptionHelpFormatter
     parser = argparse.ArgumentParser("explain", description=__doc__, epilog=USES, formatter_class=form)
     version.told(parser)
-    parser.add_argument("day", help="the day file, as tools/day packs it")
+    parser.add_argument("day", help=A_DAY)
     parser.add_argument("output", help="what the clearing program printed of it; - is standard input")
     followed(parser)
     parser.add_argument("--page", metavar="FILE", help="write one self-contained HTML page")
@@ -90,7 +94,8 @@ def show(day: Day, problems: Sequence[str], words: Followed) -> None:
 
 def explain(words: Words) -> int:
     name = os.path.splitext(os.path.basename(words.day))[0]
-    day = history.read(name, files.read(words.day), files.text(words.output))
+    file = packing.day_file(words.day, files.read(words.day))
+    day = history.read(name, file, files.text(words.output))
     problems = audit.problems(day)
     if words.page:
         files.write(words.page, page.page(day).encode())

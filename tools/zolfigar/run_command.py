@@ -26,7 +26,7 @@ def arguments(words: Sequence[str]) -> Followed:
     form = argparse.RawDescriptionHelpFormatter
     parser = argparse.ArgumentParser("run", description=__doc__, epilog=USES, formatter_class=form)
     version.told(parser)
-    parser.add_argument("day", help="a day as text, in a file whose name ends in .day; any other file is taken as packed")
+    parser.add_argument("day", help=explain_command.A_DAY)
     explain_command.followed(parser)
     return parser.parse_args(words, Followed())
 
@@ -67,12 +67,6 @@ def cleared(built: str, file: bytes) -> bytes:
     return ran.stdout
 
 
-def packed(name: str) -> bytes:
-    """The day file of a day's text; a name that doesn't end in .day is a day file already."""
-    data = files.read(name)
-    return packing.pack(name, packing.decoded(name, data)) if name.endswith(".day") else data
-
-
 def expected(name: str, output: bytes) -> str | None:
     """A sentence on the first line in which the output differs from the one expected, where there is one."""
     beside = os.path.splitext(name)[0] + ".out"
@@ -98,7 +92,7 @@ def kept(root: str, name: str, day: Day, file: bytes, output: bytes) -> str:
 
 
 def run(words: Followed, root: str = ROOT) -> int:
-    file = packed(words.day)
+    file = packing.day_file(words.day, files.read(words.day))
     output = cleared(program(root), file)
     name = os.path.splitext(os.path.basename(words.day))[0]
     day = history.read(name, file, output.decode("ascii", errors="backslashreplace"))
