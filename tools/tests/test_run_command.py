@@ -90,10 +90,39 @@ class Run(unittest.TestCase):
 
     def test_an_output_that_is_not_the_expected_one(self):
         files.write(self.path("mine.day"), scenes.content("examples", "case-d.day"))
-        files.write(self.path("mine.out"), scenes.output("case-e").encode())
-        status, _, err = self.run_day(self.path("mine.day"))
+        files.write(self.path("due.out"), scenes.output("case-e").encode())
+        status, _, err = self.run_day(self.path("mine.day"), "--expect", self.path("due.out"))
         self.assertEqual(status, 1)
-        self.assertIn(f"run: {self.path('mine.out')}:4: expected 'T 2 18 2 0', found 'T 2 0 2 0'\n", err)
+        self.assertIn(f"run: {self.path('due.out')}:4: expected 'T 2 18 2 0', found 'T 2 0 2 0'\n", err)
+        files.write(self.path("due.out"), scenes.output("case-d").encode())
+        self.assertEqual(self.run_day(self.path("mine.day"), "--expect", self.path("due.out"))[0], 0)
+        status, _, err = self.run_day(self.path("mine.day"), "--expect", self.path("none"))
+        self.assertEqual(status, 1)
+        self.assertIn(f"run: can't read {self.path('none')}: No such file or directory\n", err)
+
+    def test_where_an_output_differs(self):
+        cases = {
+            (b"a\nb\n", b"a\nb\n"): None,
+            (b"a\nb\n", b"a\nc\n"): "due:2: expected 'b', found 'c'",
+            (b"a\nb\n", b"a\n"): "due:2: expected 'b', found no line",
+            (b"a\n", b"a\nb\n"): "due:2: expected no line, found 'b'",
+            (b"a\r\n", b"a\n"): "due:1: expected 'a\\r', found 'a'",
+        }
+        self.assertEqual({case: run_command.difference("due", *case) for case in cases}, cases)
+
+    def test_an_output_beside_the_day_is_not_asked(self):
+        files.write(self.path("mine.day"), scenes.content("examples", "case-d.day"))
+        files.write(self.path("mine.out"), scenes.output("case-e").encode())
+        self.assertEqual(self.run_day(self.path("mine.day"))[0], 0)
+
+    def test_an_example_is_held_to_its_output(self):
+        os.makedirs(self.path("examples"))
+        files.write(self.path("examples/mine.day"), scenes.content("examples", "case-d.day"))
+        self.assertEqual(self.run_day(self.path("examples/mine.day"))[0], 0)
+        files.write(self.path("examples/mine.out"), scenes.output("case-e").encode())
+        status, _, err = self.run_day(self.path("examples/mine.day"))
+        self.assertEqual(status, 1)
+        self.assertIn(f"run: {self.path('examples/mine.out')}:4: expected 'T 2 18 2 0', found 'T 2 0 2 0'\n", err)
 
     def test_a_mistake_in_the_text(self):
         files.write(self.path("mine.day"), b"participant AAAALV22 bank\n00:00:00 cover-in from AAAALV22 EUR 4\n")

@@ -5,6 +5,7 @@ import os
 import subprocess
 import sys
 from collections.abc import Iterable, Sequence
+from itertools import zip_longest
 
 from . import audit, explain_command, files, history, journal, packing, page, progress, version
 from .explain_command import Followed
@@ -15,20 +16,27 @@ USES = """examples:
   tools/run examples/busy.day --member AAAALV22
   tools/run mine.day --order TX1
 
-Beside what it prints, it writes the day file, the program's output, the page and the journal to target/run/. Where a file
-with the same name and .out stands beside the day, the output is held to it. The exit status is 0 if all adds up and is as
-expected, 1 if not or if something can't be read, 2 for wrong usage."""
+Beside what it prints, it writes the day file, the program's output, the page and the journal to target/run/. A day of
+examples/ is held to the output beside it, and any day to the one that --expect names. The exit status is 0 if all adds up and
+is as expected, 1 if not or if something can't be read, 2 for wrong usage."""
 
 ROOT = os.path.dirname(os.path.dirname(os.path.dirname(os.path.realpath(__file__))))
 
 
-def arguments(words: Sequence[str]) -> Followed:
+class Words(Followed):
+    """What the command line says."""
+
+    expect: str | None
+
+
+def arguments(words: Sequence[str]) -> Words:
     form = argparse.RawDescriptionHelpFormatter
     parser = argparse.ArgumentParser("run", description=__doc__, epilog=USES, formatter_class=form)
     version.told(parser)
     parser.add_argument("day", help=explain_command.A_DAY)
     explain_command.followed(parser)
-    return parser.parse_args(words, Followed())
+    parser.add_argument("--expect", metavar="FILE", help="the output that the program has to print")
+    return parser.parse_args(words, Words())
 
 
 def program(root: str) -> str:
@@ -67,16 +75,23 @@ def cleared(built: str, file: bytes) -> bytes:
     return ran.stdout
 
 
-def expected(name: str, output: bytes) -> str | None:
-    """A sentence on the first line in which the output differs from the one expected, where there is one."""
-    beside = os.path.splitext(name)[0] + ".out"
-    if not os.path.exists(beside):
-        return None
-    due, found = files.read(beside).split(b"\n"), output.split(b"\n")
-    for at, (one, other) in enumerate(zip(due + [b""], found + [b""]), 1):
+def expected(words: Words, root: str) -> str | None:
+    """The name of the output that is expected: the one that is asked for, else an example's."""
+    beside = os.path.splitext(words.day)[0] + ".out"
+    is_example = os.path.dirname(os.path.realpath(words.day)) == os.path.join(os.path.realpath(root), "examples")
+    return words.expect or (beside if is_example and os.path.exists(beside) else None)
+
+
+def difference(name: str, due: bytes, output: bytes) -> str | None:
+    """A sentence on the first line in which the output differs from the one expected, if it does."""
+    for at, (one, other) in enumerate(zip_longest(due.splitlines(True), output.splitlines(True)), 1):
         if one != other:
-            return f"{beside}:{at}: expected {one.decode('ascii', 'replace')!r}, found {other.decode('ascii', 'replace')!r}"
+            return f"{name}:{at}: expected {line(one)}, found {line(other)}"
     return None
+
+
+def line(found: bytes | None) -> str:
+    return "no line" if found is None else repr(found.decode("ascii", "replace").removesuffix("\n"))
 
 
 def kept(root: str, name: str, day: Day, file: bytes, output: bytes) -> str:
@@ -91,7 +106,9 @@ def kept(root: str, name: str, day: Day, file: bytes, output: bytes) -> str:
     return os.path.relpath(base)
 
 
-def run(words: Followed, root: str = ROOT) -> int:
+def run(words: Words, root: str = ROOT) -> int:
+    expects = expected(words, root)
+    due = files.read(expects) if expects else b""
     file = packing.day_file(words.day, files.read(words.day))
     output = cleared(program(root), file)
     name = os.path.splitext(os.path.basename(words.day))[0]
@@ -102,7 +119,7 @@ def run(words: Followed, root: str = ROOT) -> int:
     sys.stdout.write(
         f"\nWritten: {base}.bin, .out, .html (open it in a browser), .journal (hledger -f {base}.journal balance)\n"
     )
-    differs = expected(words.day, output)
+    differs = difference(expects, due, output) if expects else None
     if differs:
         raise files.Failed(differs)
     return 1 if problems else 0
