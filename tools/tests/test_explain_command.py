@@ -122,6 +122,37 @@ class Command(unittest.TestCase):
             self.assertEqual(ran.wait(), 0)
             self.assertEqual(b"\x1b[32m" in shown, coloured)
 
+    def test_streams_that_are_closed(self):
+        busy = f"{EXPLAIN} {self.path('busy.bin')}"
+        cases = {
+            f"{busy} - <&-": (1, "explain: standard input is closed\n"),
+            f"{busy} {self.path('busy.out')} >&-": (1, "explain: standard output is closed\n"),
+            f"{busy} {self.path('busy.out')} >&- <&- 2>&-": (1, ""),
+            f"{busy} {self.path('busy.out')} --page {self.path('closed.html')} >&- <&-": (0, ""),
+            f"{busy} {self.path('busy.out')} --journal - >&-": (1, "explain: standard output is closed\n"),
+        }
+        for shell, due in cases.items():
+            ran = subprocess.run(["sh", "-c", shell], capture_output=True, text=True, check=False)
+            self.assertEqual((ran.returncode, ran.stderr), due, shell)
+
+    def test_dates(self):
+        out = self.path("dates.journal")
+        for date in ("15.11.2026", "20261115", "2026-02-30", "2026-11-15T00:00", "", "٢٠٢٦-١١-١٥"):
+            ran = self.explain("case-d.bin", "case-d.out", "--journal", out, "--date", date)
+            said = f'explain: error: argument --date: expected a date like 2026-11-15, found "{date}"'
+            self.assertEqual((ran.returncode, ran.stderr.splitlines()[-1]), (2, said))
+        ran = self.explain("case-d.bin", "case-d.out", "--date", "2026-11-15")
+        said = "explain: error: --date is the journal's, and there is no --journal"
+        self.assertEqual((ran.returncode, ran.stderr.splitlines()[-1]), (2, said))
+
+    def test_a_day_past_the_last_date(self):
+        files.write(self.path("late.day"), b"participant AAAALV22 bank\n24:00:00 cover-in from AAAALV22 EUR 10.00\n")
+        files.write(self.path("late.out"), b"T 0 0 0 0\nC 0 1000 0 0\n")
+        for date, status in (("9999-12-30", 0), ("9999-12-31", 1)):
+            ran = self.explain("late.day", "late.out", "--journal", "-", "--date", date)
+            said = "explain: the journal has no date for 24:00:00 where second 0 is on 9999-12-31: no date is later than 9999-12-31\n"
+            self.assertEqual((ran.returncode, ran.stderr), (status, said if status else ""))
+
     def test_a_closed_pipe(self):
         shell = f"{EXPLAIN} {self.path('busy.bin')} {self.path('busy.out')} | head -1"
         ran = subprocess.run(["sh", "-c", shell], capture_output=True, text=True, check=False)

@@ -5,6 +5,7 @@ That the proved program prints these outputs is a test of the gate: crates/days 
 import contextlib
 import io
 import os
+import shutil
 import subprocess
 import tempfile
 import unittest
@@ -145,6 +146,22 @@ class Run(unittest.TestCase):
     def test_a_packed_day(self):
         files.write(self.path("packed.bin"), scenes.day_file("case-d"))
         self.assertEqual(self.run_day(self.path("packed.bin"), "--order", "TX1")[0], 0)
+
+    def test_the_journals_date(self):
+        self.assertEqual(self.run_day(self.example("case-d"), "--date", "2026-11-15")[0], 0)
+        self.assertIn(b"\n2026-11-15 * (0) AAAALV22 | cover in", files.read(self.path("target/run/case-d.journal")))
+
+    def test_streams_that_are_closed(self):
+        shutil.copytree(os.path.join(scenes.ROOT, "tools"), self.path("tools"), ignore=shutil.ignore_patterns("tests"))
+        shutil.copy(os.path.join(scenes.ROOT, "VERSION"), self.path("VERSION"))
+        environment = os.environ | {"PATH": self.path("bin") + os.pathsep + os.environ["PATH"]}
+        building = "run: the clearing program is not built yet: proving and building it, which takes some minutes\n"
+        closed = "run: standard output is closed\n"
+        cases = {">&-": (1, building + closed), "<&-": (0, ""), "<&- >&-": (1, closed), "<&- >&- 2>&-": (1, "")}
+        for streams, due in cases.items():
+            shell = f"{self.path('tools/run')} {self.example('case-d')} {streams}"
+            ran = subprocess.run(["sh", "-c", shell], capture_output=True, text=True, check=False, env=environment)
+            self.assertEqual((ran.returncode, ran.stderr), due, streams)
 
     def test_without_the_kit(self):
         with mock.patch.object(subprocess, "Popen", side_effect=FileNotFoundError(2, "No such file or directory")):

@@ -175,5 +175,4 @@ def check(words: Words) -> int:
 
 
 def main() -> int:
-    words = arguments(sys.argv[1:])
-    return files.guarded("anybytes", lambda: check(words))
+    return files.guarded("anybytes", lambda: check(arguments(sys.argv[1:])))

@@ -3,13 +3,15 @@
 import argparse
 import datetime
 import os
+import re
 import sys
 from collections.abc import Sequence
 from typing import TextIO
 
-from . import audit, files, history, journal, packing, page, terminal, version
+from . import audit, files, history, journal, packing, page, terminal, text, version
 from .history import Day, Order
 
+DATE = re.compile("[0-9]{4}-[0-9]{2}-[0-9]{2}")
 A_DAY = (
     "a day as text or packed: a file whose name ends in .day or that has no zero byte is text, and an empty one is packed"
 )
@@ -38,7 +40,7 @@ class Words(Followed):
     output: str
     page: str | None
     journal: str | None
-    date: datetime.date
+    date: datetime.date | None
 
 
 def followed(parser: argparse.ArgumentParser) -> None:
@@ -46,6 +48,21 @@ def followed(parser: argparse.ArgumentParser) -> None:
     shown = parser.add_mutually_exclusive_group()
     shown.add_argument("--member", metavar="BIC", help="follow one participant")
     shown.add_argument("--order", metavar="TXID", help="follow one order")
+
+
+def a_date(word: str) -> datetime.date:
+    try:
+        if DATE.fullmatch(word):
+            return datetime.date.fromisoformat(word)
+    except ValueError:
+        pass
+    raise argparse.ArgumentTypeError(f"expected a date like 2026-11-15, found {text.quoted(word)}")
+
+
+def dated(parser: argparse.ArgumentParser) -> None:
+    """The date of a day, which its file doesn't have."""
+    what = f"the date of second 0, for the journal; {journal.DATE} if it isn't given"
+    parser.add_argument("--date", type=a_date, metavar="YYYY-MM-DD", help=what)
 
 
 def arguments(words: Sequence[str]) -> Words:
@@ -57,9 +74,11 @@ def arguments(words: Sequence[str]) -> Words:
     followed(parser)
     parser.add_argument("--page", metavar="FILE", help="write one self-contained HTML page")
     parser.add_argument("--journal", metavar="FILE", help="write a journal for hledger; - is standard output")
-    date = "the date of second 0, for the journal; 2000-01-01 if it isn't given"
-    parser.add_argument("--date", type=datetime.date.fromisoformat, default=journal.DATE, help=date)
-    return parser.parse_args(words, Words())
+    dated(parser)
+    found = parser.parse_args(words, Words())
+    if found.date and not found.journal:
+        parser.error("--date is the journal's, and there is no --journal")
+    return found
 
 
 def coloured(stream: TextIO) -> bool:
@@ -100,7 +119,7 @@ def explain(words: Words) -> int:
     if words.page:
         files.write(words.page, page.page(day).encode())
     if words.journal:
-        files.write(words.journal, journal.journal(day, words.date).encode())
+        files.write(words.journal, journal.journal(day, words.date or journal.DATE).encode())
     if not words.page and not words.journal:
         show(day, problems, words)
     elif problems:
@@ -109,5 +128,4 @@ def explain(words: Words) -> int:
 
 
 def main() -> int:
-    words = arguments(sys.argv[1:])
-    return files.guarded("explain", lambda: explain(words))
+    return files.guarded("explain", lambda: explain(arguments(sys.argv[1:])))

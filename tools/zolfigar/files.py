@@ -72,10 +72,29 @@ def mask() -> int:
     return found
 
 
+class Closed(io.BytesIO):
+    """Stands for a stream that the caller has closed, which Python has as None: whoever reads or writes it is told."""
+
+    def __init__(self, name: str) -> None:
+        super().__init__()
+        self.name = name
+
+    def read(self, *_: object) -> bytes:
+        raise Failed(f"{self.name} is closed")
+
+    def write(self, *_: object) -> int:
+        raise Failed(f"{self.name} is closed")
+
+
+def closed(name: str) -> io.TextIOWrapper:
+    return io.TextIOWrapper(Closed(name), write_through=True)
+
+
 def guarded(command: str, work: Callable[[], int]) -> int:
     """Runs a command's work and gives its exit status. A closed pipe ends it without a word."""
-    if sys.stderr is None:
-        sys.stderr = io.StringIO()
+    sys.stdin = sys.stdin or closed("standard input")
+    sys.stdout = sys.stdout or closed("standard output")
+    sys.stderr = sys.stderr or io.StringIO()
     try:
         return work()
     except Failed as error:

@@ -9,7 +9,7 @@ the entries before it add up to them."""
 import datetime
 from collections.abc import Iterable, Iterator, Sequence
 
-from . import telling
+from . import files, telling
 from .figures import clock
 from .history import Day, Move
 from .output import Parts
@@ -45,7 +45,11 @@ def posting(name: str, cents: int, asserted: int | None = None) -> str:
 
 
 def date_of(first: datetime.date, seconds: int) -> str:
-    return (first + datetime.timedelta(days=seconds // SECONDS)).isoformat()
+    try:
+        return (first + datetime.timedelta(days=seconds // SECONDS)).isoformat()
+    except OverflowError:
+        told = f"the journal has no date for {clock(seconds)} where second 0 is on {first}: no date is later"
+        raise files.Failed(f"{told} than {datetime.date.max}") from None
 
 
 def postings(day: Day, moves: Sequence[Move]) -> Iterator[tuple[str, int]]:

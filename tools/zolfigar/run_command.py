@@ -1,6 +1,7 @@
 """The command tools/run: one day from its text to its explanation. It builds what is missing, packs, clears and explains."""
 
 import argparse
+import datetime
 import os
 import subprocess
 import sys
@@ -27,6 +28,7 @@ class Words(Followed):
     """What the command line says."""
 
     expect: str | None
+    date: datetime.date | None
 
 
 def arguments(words: Sequence[str]) -> Words:
@@ -35,6 +37,7 @@ def arguments(words: Sequence[str]) -> Words:
     version.told(parser)
     parser.add_argument("day", help=explain_command.A_DAY)
     explain_command.followed(parser)
+    explain_command.dated(parser)
     parser.add_argument("--expect", metavar="FILE", help="the output that the program has to print")
     return parser.parse_args(words, Words())
 
@@ -94,15 +97,16 @@ def line(found: bytes | None) -> str:
     return "no line" if found is None else repr(found.decode("ascii", "replace").removesuffix("\n"))
 
 
-def kept(root: str, name: str, day: Day, file: bytes, output: bytes) -> str:
+def kept(words: Words, root: str, day: Day, file: bytes, output: bytes) -> str:
     """The day file, the output, the page and the journal under target/run/; their names without the ending."""
+    written = journal.journal(day, words.date or journal.DATE).encode()
     folder = os.path.join(root, "target", "run")
     os.makedirs(folder, exist_ok=True)
-    base = os.path.join(folder, name)
+    base = os.path.join(folder, day.name)
     files.write(base + ".bin", file)
     files.write(base + ".out", output)
     files.write(base + ".html", page.page(day).encode())
-    files.write(base + ".journal", journal.journal(day).encode())
+    files.write(base + ".journal", written)
     return os.path.relpath(base)
 
 
@@ -115,10 +119,9 @@ def run(words: Words, root: str = ROOT) -> int:
     day = history.read(name, file, output.decode("ascii", errors="backslashreplace"))
     problems = audit.problems(day)
     explain_command.show(day, problems, words)
-    base = kept(root, name, day, file, output)
-    sys.stdout.write(
-        f"\nWritten: {base}.bin, .out, .html (open it in a browser), .journal (hledger -f {base}.journal balance)\n"
-    )
+    base = kept(words, root, day, file, output)
+    told = f"\nWritten: {base}.bin, .out, .html (open it in a browser), .journal (hledger -f {base}.journal balance)\n"
+    files.write("-", told.encode())
     differs = difference(expects, due, output) if expects else None
     if differs:
         raise files.Failed(differs)
@@ -126,5 +129,4 @@ def run(words: Words, root: str = ROOT) -> int:
 
 
 def main() -> int:
-    words = arguments(sys.argv[1:])
-    return files.guarded("run", lambda: run(words))
+    return files.guarded("run", lambda: run(arguments(sys.argv[1:])))
