@@ -153,6 +153,41 @@ class Command(unittest.TestCase):
             said = "explain: the journal has no date for 24:00:00 where second 0 is on 9999-12-31: no date is later than 9999-12-31\n"
             self.assertEqual((ran.returncode, ran.stderr), (status, said if status else ""))
 
+    def test_names_that_can_not_be_printed(self):
+        """On the terminal, in the journal's comment, on the page and in every message: by their numbers."""
+        name = os.fsdecode(b"a\n2000-01-01 x\x1b[31m\xff")
+        shown = "a\\n2000-01-01 x\\x1b[31m\\xff"
+        files.write(self.path(name), scenes.day_file("case-d"))
+        ran = self.explain(name, "case-d.out")
+        self.assertEqual((ran.returncode, ran.stderr), (0, ""))
+        self.assertTrue(ran.stdout.startswith(shown + ": 4 tickets"))
+        ran = self.explain(name, "case-d.out", "--journal", "-", "--page", self.path("named.html"))
+        self.assertTrue(ran.stdout.startswith(f"; {shown}: 4 tickets"))
+        self.assertIn(shown.encode(), files.read(self.path("named.html")))
+        cases = {
+            (name + "0", "case-d.out"): f"explain: can't read {self.path(shown)}0: No such file or directory",
+            ("case-d.bin", name): f"explain: can't read {self.path(shown)}: Is a directory",
+            ("case-d.bin", "case-d.out", "--member", name): f"explain: {shown} is no participant of this day: "
+            "AAAALV22XXX, BBBBLV22XXX",
+            (
+                "case-d.bin",
+                "case-d.out",
+                "--order",
+                name,
+            ): f"explain: no order with the TxId {shown} was accepted on this day",
+            ("case-d.bin", "case-d.out", "--" + name): f"explain: error: unrecognized arguments: --{shown}",
+            ("case-d.bin", "case-d.out", "--page", f"{name}/a/b"): f"explain: can't write {shown}/a/b: "
+            "No such file or directory",
+        }
+        os.remove(self.path(name))
+        os.mkdir(self.path(name))
+        for words, said in cases.items():
+            self.assertEqual(self.explain(*words).stderr.splitlines()[-1:], [said])
+        os.rmdir(self.path(name))
+        files.write(self.path(name), b"1 tick tock\n")
+        said = f'{self.path(shown)}:1:8: expected but, or the line\'s end, found "tock"\n'
+        self.assertEqual(self.explain(name, "case-d.out").stderr, said)
+
     def test_a_closed_pipe(self):
         shell = f"{EXPLAIN} {self.path('busy.bin')} {self.path('busy.out')} | head -1"
         ran = subprocess.run(["sh", "-c", shell], capture_output=True, text=True, check=False)

@@ -4,7 +4,7 @@ import argparse
 import sys
 from collections.abc import Sequence
 
-from . import files, inputs, many, packing, unpacking, version
+from . import command_line, files, inputs, many, packing, unpacking, version
 
 WHAT = "A day file from text, and text from a day file. docs/DAYS.md has the text form."
 USES = """example:
@@ -27,7 +27,7 @@ class Words(argparse.Namespace):
 
 def arguments(words: Sequence[str]) -> Words:
     form = argparse.RawDescriptionHelpFormatter
-    parser = argparse.ArgumentParser("day", description=WHAT, epilog=USES, formatter_class=form)
+    parser = command_line.Parser("day", description=WHAT, epilog=USES, formatter_class=form)
     version.told(parser)
     commands = parser.add_subparsers(dest="command", required=True, metavar="pack|unpack")
     for command, what in (("pack", "text to a day file"), ("unpack", "a day file, of any bytes, to text")):

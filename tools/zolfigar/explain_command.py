@@ -8,7 +8,7 @@ import sys
 from collections.abc import Sequence
 from typing import TextIO
 
-from . import audit, files, history, journal, packing, page, terminal, text, version
+from . import audit, command_line, files, history, journal, packing, page, terminal, text, version
 from .history import Day, Order
 
 DATE = re.compile("[0-9]{4}-[0-9]{2}-[0-9]{2}")
@@ -67,7 +67,7 @@ def dated(parser: argparse.ArgumentParser) -> None:
 
 def arguments(words: Sequence[str]) -> Words:
     form = argparse.RawDescriptionHelpFormatter
-    parser = argparse.ArgumentParser("explain", description=__doc__, epilog=USES, formatter_class=form)
+    parser = command_line.Parser("explain", description=__doc__, epilog=USES, formatter_class=form)
     version.told(parser)
     parser.add_argument("day", help=A_DAY)
     parser.add_argument("output", help="what the clearing program printed of it; - is standard input")
@@ -93,11 +93,11 @@ def wanted(day: Day, words: Followed) -> tuple[int | None, Order | None]:
         member = next((p.number for p in day.participants if p.bic == bic), None)
         if member is None:
             known = ", ".join(p.bic for p in day.participants)
-            raise files.Failed(f"{words.member} is no participant of this day: {known or 'it has none'}")
+            raise files.Failed(f"{files.shown(words.member)} is no participant of this day: {known or 'it has none'}")
     if words.order:
         order = next((o for o in day.orders if o.txid == words.order), None)
         if order is None:
-            raise files.Failed(f"no order with the TxId {words.order} was accepted on this day")
+            raise files.Failed(f"no order with the TxId {files.shown(words.order)} was accepted on this day")
     return member, order
 
 
@@ -111,10 +111,14 @@ def show(day: Day, problems: Sequence[str], words: Followed) -> None:
     files.write("-", "".join(line + "\n" for line in found).encode())
 
 
+def name_of(path: str) -> str:
+    """A day's name: its file's, as it is shown."""
+    return files.shown(os.path.splitext(os.path.basename(path))[0])
+
+
 def explain(words: Words) -> int:
-    name = os.path.splitext(os.path.basename(words.day))[0]
     file = packing.day_file(words.day, files.read(words.day))
-    day = history.read(name, file, files.text(words.output))
+    day = history.read(name_of(words.day), file, files.text(words.output))
     problems = audit.problems(day)
     if words.page:
         files.write(words.page, page.page(day).encode())

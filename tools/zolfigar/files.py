@@ -15,6 +15,16 @@ class Failed(Exception):
     begins_with_place = False
 
 
+def shown(name: str) -> str:
+    """A name as it is shown: what can't be printed, and what an escape sequence is made of, by its number."""
+    return "".join(c if c.isprintable() else escaped(c) for c in name)
+
+
+def escaped(c: str) -> str:
+    """A character's number; of a byte that is no UTF-8, which Python has in 0xdc80 to 0xdcff, that byte's."""
+    return f"\\x{ord(c) - 0xDC00:02x}" if "\udc80" <= c <= "\udcff" else c.encode("unicode_escape").decode()
+
+
 def reason(error: OSError) -> str:
     return error.strerror or str(error)
 
@@ -27,7 +37,7 @@ def read(name: str) -> bytes:
         with open(name, "rb") as file:
             return file.read()
     except OSError as error:
-        raise Failed(f"can't read {name}: {reason(error)}") from error
+        raise Failed(f"can't read {shown(name)}: {reason(error)}") from error
 
 
 def text(name: str) -> str:
@@ -49,7 +59,7 @@ def write(name: str, data: bytes) -> None:
     except BrokenPipeError:
         raise
     except OSError as error:
-        raise Failed(f"can't write {'to standard output' if name == STANDARD else name}: {reason(error)}") from error
+        raise Failed(f"can't write {'to standard output' if name == STANDARD else shown(name)}: {reason(error)}") from error
 
 
 def replace(name: str, data: bytes) -> None:
@@ -98,7 +108,8 @@ def guarded(command: str, work: Callable[[], int]) -> int:
     try:
         return work()
     except Failed as error:
-        sys.stderr.write(f"{error}\n" if error.begins_with_place else f"{command}: {error}\n")
+        said = "\n".join(map(shown, str(error).split("\n")))
+        sys.stderr.write(f"{said}\n" if error.begins_with_place else f"{command}: {said}\n")
         return 1
     except BrokenPipeError:
         os.dup2(os.open(os.devnull, os.O_WRONLY), sys.stdout.fileno())

@@ -109,8 +109,16 @@ def closing(day: Day, first: datetime.date) -> str:
     return "\n".join(lines)
 
 
+def refused(day: Day, first: datetime.date) -> str:
+    """The journal of a refused file, which is no day without tickets: an entry that moves nothing says so too."""
+    told = telling.refused(day)
+    return f"; {day.name}: {told}\n; {telling.NOT_LOOKED_AT}\n\n{first} ! {told}\n"
+
+
 def journal(day: Day, first: datetime.date = DATE) -> str:
     """The whole journal. `first` is the date on which the day's second 0 falls."""
+    if day.refusal is not None:
+        return refused(day, first)
     head = f"; {day.name}: {telling.summary(day)}\n; The first date is {first}: a day file has seconds and no date."
     parts = [head, opening(day)] + [entry(day, first, moves) for moves in over(movements(day.moves), "journal")]
     return "\n\n".join(parts + ([closing(day, first)] if day.positions else [])) + "\n"

@@ -8,7 +8,7 @@ import sys
 from collections.abc import Iterable, Sequence
 from itertools import zip_longest
 
-from . import audit, explain_command, files, history, journal, packing, page, progress, version
+from . import audit, command_line, explain_command, files, history, journal, packing, page, progress, version
 from .explain_command import Followed
 from .history import Day
 
@@ -33,7 +33,7 @@ class Words(Followed):
 
 def arguments(words: Sequence[str]) -> Words:
     form = argparse.RawDescriptionHelpFormatter
-    parser = argparse.ArgumentParser("run", description=__doc__, epilog=USES, formatter_class=form)
+    parser = command_line.Parser("run", description=__doc__, epilog=USES, formatter_class=form)
     version.told(parser)
     parser.add_argument("day", help=explain_command.A_DAY)
     explain_command.followed(parser)
@@ -102,7 +102,7 @@ def kept(words: Words, root: str, day: Day, file: bytes, output: bytes) -> str:
     written = journal.journal(day, words.date or journal.DATE).encode()
     folder = os.path.join(root, "target", "run")
     os.makedirs(folder, exist_ok=True)
-    base = os.path.join(folder, day.name)
+    base = os.path.join(folder, os.path.splitext(os.path.basename(words.day))[0])
     files.write(base + ".bin", file)
     files.write(base + ".out", output)
     files.write(base + ".html", page.page(day).encode())
@@ -115,8 +115,7 @@ def run(words: Words, root: str = ROOT) -> int:
     due = files.read(expects) if expects else b""
     file = packing.day_file(words.day, files.read(words.day))
     output = cleared(program(root), file)
-    name = os.path.splitext(os.path.basename(words.day))[0]
-    day = history.read(name, file, output.decode("ascii", errors="backslashreplace"))
+    day = history.read(explain_command.name_of(words.day), file, output.decode("ascii", errors="backslashreplace"))
     problems = audit.problems(day)
     explain_command.show(day, problems, words)
     base = kept(words, root, day, file, output)
