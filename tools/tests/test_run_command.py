@@ -147,6 +147,61 @@ class Run(unittest.TestCase):
         files.write(self.path("packed.bin"), scenes.day_file("case-d"))
         self.assertEqual(self.run_day(self.path("packed.bin"), "--order", "TX1")[0], 0)
 
+    def two_days(self):
+        """Two days of one name, in two folders."""
+        for folder, name in (("a", "case-d"), ("b", "case-e")):
+            os.makedirs(self.path(folder))
+            files.write(self.path(f"{folder}/mine.day"), scenes.content("examples", name + ".day"))
+        return self.path("a/mine.day"), self.path("b/mine.day")
+
+    def results(self, folder):
+        """The outputs that are kept in a folder, by name."""
+        return {name: files.text(os.path.join(folder, name)) for name in os.listdir(folder) if name.endswith(".out")}
+
+    def test_two_days_of_one_name(self):
+        """The second gets a name of its own, run after run, and what is written where is said."""
+        one, other = self.two_days()
+        written = os.path.relpath(self.path("target/run/mine"))
+        for _ in range(2):
+            self.assertIn(f"\nWritten: {written}.bin, .out, ", self.run_day(one)[1])
+            out = self.run_day(other)[1]
+            self.assertIn(f"\nWritten: {written}-2.bin, .out, ", out)
+            self.assertIn(f"\n{written} is not of this day, and stays as it is.\n", out)
+            due = {"mine.out": scenes.output("case-d"), "mine-2.out": scenes.output("case-e")}
+            self.assertEqual(self.results(self.path("target/run")), due)
+        files.write(one, scenes.content("examples", "busy.day"))
+        self.run_day(one)
+        due = {"mine.out": scenes.output("busy"), "mine-2.out": scenes.output("case-e")}
+        self.assertEqual(self.results(self.path("target/run")), due)
+
+    def test_into_a_folder(self):
+        one, other = self.two_days()
+        into = self.path("some/folder")
+        status, out, _ = self.run_day(one, "--into", into)
+        self.assertEqual(status, 0)
+        self.assertIn(f"\nWritten: {os.path.relpath(into)}/mine.bin, .out, ", out)
+        names = ["mine.bin", "mine.from", "mine.html", "mine.journal", "mine.out"]
+        self.assertEqual(sorted(os.listdir(into)), names)
+        self.assertFalse(os.path.exists(self.path("target/run")))
+        status, _, err = self.run_day(other, "--into", one)
+        self.assertEqual((status, err), (1, f"run: can't make the folder {one}: File exists\n"))
+
+    def test_files_of_others_stay(self):
+        """A file that is there and isn't a result of this day, as an expected output beside it."""
+        one, _ = self.two_days()
+        files.write(self.path("a/mine.out"), b"mine\n")
+        self.assertEqual(self.run_day(one, "--into", self.path("a"))[0], 0)
+        due = {"mine.out": "mine\n", "mine-2.out": scenes.output("case-d")}
+        self.assertEqual(self.results(self.path("a")), due)
+
+    def test_a_name_that_a_shell_takes_apart(self):
+        name = self.path("my \x1b[31mday.day")
+        files.write(name, scenes.content("examples", "case-d.day"))
+        out = self.run_day(name)[1]
+        journal = os.path.relpath(self.path("target/run/my \\x1b[31mday.journal"))
+        self.assertIn(f".journal (hledger -f '{journal}' balance)\n", out)
+        self.assertNotIn("\x1b", out)
+
     def test_the_journals_date(self):
         self.assertEqual(self.run_day(self.example("case-d"), "--date", "2026-11-15")[0], 0)
         self.assertIn(b"\n2026-11-15 * (0) AAAALV22 | cover in", files.read(self.path("target/run/case-d.journal")))

@@ -75,6 +75,14 @@ def replace(name: str, data: bytes) -> None:
         raise
 
 
+def make_folder(name: str) -> None:
+    """Makes a folder where there is none."""
+    try:
+        os.makedirs(name, exist_ok=True)
+    except OSError as error:
+        raise Failed(f"can't make the folder {shown(name)}: {reason(error)}") from error
+
+
 def mask() -> int:
     """The rights that a new file doesn't get."""
     found = os.umask(0)

@@ -3,12 +3,13 @@
 import argparse
 import datetime
 import os
+import shlex
 import subprocess
 import sys
-from collections.abc import Iterable, Sequence
+from collections.abc import Iterable, Iterator, Sequence
 from itertools import zip_longest
 
-from . import audit, command_line, explain_command, files, history, journal, packing, page, progress, version
+from . import audit, command_line, explain_command, files, history, journal, packing, page, progress, results, version
 from .explain_command import Followed
 from .history import Day
 
@@ -16,10 +17,12 @@ USES = """examples:
   tools/run examples/busy.day
   tools/run examples/busy.day --member AAAALV22
   tools/run mine.day --order TX1
+  tools/run mine.day --expect due.out --into results --date 2026-11-15
 
-Beside what it prints, it writes the day file, the program's output, the page and the journal to target/run/. A day of
-examples/ is held to the output beside it, and any day to the one that --expect names. The exit status is 0 if all adds up and
-is as expected, 1 if not or if something can't be read, 2 for wrong usage."""
+Beside what it prints, it writes the day file, the program's output, the page and the journal to target/run/, or to the folder
+that --into names: mine.bin, .out, .html and .journal. They stay where they are of another day, as mine.from tells; this one's
+are mine-2 then. A day of examples/ is held to the output beside it, and any day to the one that --expect names. The exit status
+is 0 if all adds up and is as expected, 1 if not or if something can't be read, 2 for wrong usage."""
 
 ROOT = os.path.dirname(os.path.dirname(os.path.dirname(os.path.realpath(__file__))))
 
@@ -28,6 +31,7 @@ class Words(Followed):
     """What the command line says."""
 
     expect: str | None
+    into: str | None
     date: datetime.date | None
 
 
@@ -38,6 +42,7 @@ def arguments(words: Sequence[str]) -> Words:
     parser.add_argument("day", help=explain_command.A_DAY)
     explain_command.followed(parser)
     explain_command.dated(parser)
+    parser.add_argument("--into", metavar="DIR", help="the folder that is written to; target/run if it isn't given")
     parser.add_argument("--expect", metavar="FILE", help="the output that the program has to print")
     return parser.parse_args(words, Words())
 
@@ -89,7 +94,7 @@ def difference(name: str, due: bytes, output: bytes) -> str | None:
     """A sentence on the first line in which the output differs from the one expected, if it does."""
     for at, (one, other) in enumerate(zip_longest(due.splitlines(True), output.splitlines(True)), 1):
         if one != other:
-            return f"{name}:{at}: expected {line(one)}, found {line(other)}"
+            return f"{files.shown(name)}:{at}: expected {line(one)}, found {line(other)}"
     return None
 
 
@@ -97,17 +102,16 @@ def line(found: bytes | None) -> str:
     return "no line" if found is None else repr(found.decode("ascii", "replace").removesuffix("\n"))
 
 
-def kept(words: Words, root: str, day: Day, file: bytes, output: bytes) -> str:
-    """The day file, the output, the page and the journal under target/run/; their names without the ending."""
-    written = journal.journal(day, words.date or journal.DATE).encode()
-    folder = os.path.join(root, "target", "run")
-    os.makedirs(folder, exist_ok=True)
-    base = os.path.join(folder, os.path.splitext(os.path.basename(words.day))[0])
-    files.write(base + ".bin", file)
-    files.write(base + ".out", output)
-    files.write(base + ".html", page.page(day).encode())
-    files.write(base + ".journal", written)
-    return os.path.relpath(base)
+def kept(words: Words, folder: str, day: Day, file: bytes, output: bytes) -> Iterator[str]:
+    """Writes the day file, the output, the page and the journal, and says where they are."""
+    dated = journal.journal(day, words.date or journal.DATE)
+    found = {".bin": file, ".out": output, ".html": page.page(day).encode(), ".journal": dated.encode()}
+    number = results.keep(folder, words.day, found)
+    base = os.path.relpath(results.base_of(folder, words.day, number))
+    balance = f"hledger -f {shlex.quote(base + '.journal')} balance"
+    yield f"Written: {base}.bin, .out, .html (open it in a browser), .journal ({balance})"
+    for other in range(1, number):
+        yield f"{os.path.relpath(results.base_of(folder, words.day, other))} is not of this day, and stays as it is."
 
 
 def run(words: Words, root: str = ROOT) -> int:
@@ -118,8 +122,8 @@ def run(words: Words, root: str = ROOT) -> int:
     day = history.read(explain_command.name_of(words.day), file, output.decode("ascii", errors="backslashreplace"))
     problems = audit.problems(day)
     explain_command.show(day, problems, words)
-    base = kept(words, root, day, file, output)
-    told = f"\nWritten: {base}.bin, .out, .html (open it in a browser), .journal (hledger -f {base}.journal balance)\n"
+    folder = words.into or os.path.join(root, "target", "run")
+    told = "\n".join(["", *map(files.shown, kept(words, folder, day, file, output)), ""])
     files.write("-", told.encode())
     differs = difference(expects, due, output) if expects else None
     if differs:

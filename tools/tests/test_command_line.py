@@ -1,4 +1,4 @@
-"""The commands as a whole: interrupted while they load, and called without arguments."""
+"""Commands' lines: a command that is interrupted while it loads, one without arguments, and words that can't be printed."""
 
 import os
 import subprocess
@@ -37,6 +37,13 @@ class Commands(unittest.TestCase):
                 ran = run(command, *words)
                 self.assertEqual((ran.returncode, ran.stderr), (status, ""), command)
                 self.assertTrue(ran.stdout.startswith(f"{command} CRATE "), command)
+
+    def test_words_that_can_not_be_printed(self):
+        for command in ("run", "explain", "day", "anybytes", "unused"):
+            ran = run(command, "\x1b[31m", "a", "b", "--c\n")
+            self.assertEqual(ran.returncode, 2)
+            self.assertNotIn("\x1b", ran.stderr)
+            self.assertRegex(ran.stderr.splitlines()[-1], r"\\x1b\[31m|\\n")
 
 
 if __name__ == "__main__":
