@@ -46,5 +46,40 @@ class Commands(unittest.TestCase):
             self.assertRegex(ran.stderr.splitlines()[-1], r"\\x1b\[31m|\\n")
 
 
+class Scripts(unittest.TestCase):
+    """The commands in bash. What they would run ends with 9 here."""
+
+    NAMES = ("tools/check", "tools/lint", "hosts/check", "gateway/check", "peer/check", "bench/run")
+    RUN = ("python3", "rt", "cargo", "cc", "rustc", "black", "mypy", "pylint")
+
+    def setUp(self):
+        folder = tempfile.TemporaryDirectory()
+        self.addCleanup(folder.cleanup)
+        for name in self.RUN:
+            with open(os.path.join(folder.name, name), "w", encoding="utf-8") as file:
+                file.write("#!/bin/sh\nexit 9\n")
+            os.chmod(os.path.join(folder.name, name), 0o755)
+        self.environment = os.environ | {"PATH": folder.name + os.pathsep + os.environ["PATH"]}
+
+    def run_script(self, name, *words):
+        command = [os.path.join(scenes.ROOT, name), *words]
+        return subprocess.run(command, capture_output=True, text=True, check=False, env=self.environment)
+
+    def test_help_runs_nothing(self):
+        for name in self.NAMES:
+            for word in ("--help", "-h"):
+                ran = self.run_script(name, word)
+                self.assertEqual((ran.returncode, ran.stderr), (0, ""), name)
+                self.assertTrue(ran.stdout.startswith(name), ran.stdout)
+                self.assertNotIn("#", ran.stdout)
+                self.assertNotIn("set -euo", ran.stdout)
+
+    def test_words_that_they_do_not_know(self):
+        for name in self.NAMES:
+            ran = self.run_script(name, "--hlep")
+            self.assertEqual((ran.returncode, ran.stdout), (2, ""), name)
+            self.assertTrue(ran.stderr.startswith(name), ran.stderr)
+
+
 if __name__ == "__main__":
     unittest.main()
