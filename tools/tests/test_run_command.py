@@ -97,9 +97,10 @@ class Run(unittest.TestCase):
         self.assertIn(f"run: {self.path('due.out')}:4: expected 'T 2 18 2 0', found 'T 2 0 2 0'\n", err)
         files.write(self.path("due.out"), scenes.output("case-d").encode())
         self.assertEqual(self.run_day(self.path("mine.day"), "--expect", self.path("due.out"))[0], 0)
-        status, _, err = self.run_day(self.path("mine.day"), "--expect", self.path("none"))
-        self.assertEqual(status, 1)
-        self.assertIn(f"run: can't read {self.path('none')}: No such file or directory\n", err)
+        for name in (self.path("none"), ""):
+            status, _, err = self.run_day(self.path("mine.day"), "--expect", name)
+            self.assertEqual(status, 1)
+            self.assertIn(f"run: can't read {name}: No such file or directory\n", err)
 
     def test_where_an_output_differs(self):
         cases = {
@@ -185,6 +186,8 @@ class Run(unittest.TestCase):
         self.assertFalse(os.path.exists(self.path("target/run")))
         status, _, err = self.run_day(other, "--into", one)
         self.assertEqual((status, err), (1, f"run: can't make the folder {one}: File exists\n"))
+        status, _, err = self.run_day(other, "--into", "")
+        self.assertEqual((status, err), (1, "run: can't make the folder : No such file or directory\n"))
 
     def test_files_of_others_stay(self):
         """A file that is there and isn't a result of this day, as an expected output beside it."""

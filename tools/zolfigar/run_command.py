@@ -85,20 +85,22 @@ def cleared(built: str, file: bytes) -> bytes:
 
 def expected(words: Words, root: str) -> str | None:
     """The name of the output that is expected: the one that is asked for, else an example's."""
+    if words.expect is not None:
+        return words.expect
     beside = os.path.splitext(words.day)[0] + ".out"
     is_example = os.path.dirname(os.path.realpath(words.day)) == os.path.join(os.path.realpath(root), "examples")
-    return words.expect or (beside if is_example and os.path.exists(beside) else None)
+    return beside if is_example and os.path.exists(beside) else None
 
 
 def difference(name: str, due: bytes, output: bytes) -> str | None:
     """A sentence on the first line in which the output differs from the one expected, if it does."""
     for at, (one, other) in enumerate(zip_longest(due.splitlines(True), output.splitlines(True)), 1):
         if one != other:
-            return f"{files.shown(name)}:{at}: expected {line(one)}, found {line(other)}"
+            return f"{files.shown(name)}:{at}: expected {quoted(one)}, found {quoted(other)}"
     return None
 
 
-def line(found: bytes | None) -> str:
+def quoted(found: bytes | None) -> str:
     return "no line" if found is None else repr(found.decode("ascii", "replace").removesuffix("\n"))
 
 
@@ -116,16 +118,16 @@ def kept(words: Words, folder: str, day: Day, file: bytes, output: bytes) -> Ite
 
 def run(words: Words, root: str = ROOT) -> int:
     expects = expected(words, root)
-    due = files.read(expects) if expects else b""
+    due = b"" if expects is None else files.read(expects)
     file = packing.day_file(words.day, files.read(words.day))
     output = cleared(program(root), file)
     day = history.read(explain_command.name_of(words.day), file, output.decode("ascii", errors="backslashreplace"))
     problems = audit.problems(day)
     explain_command.show(day, problems, words)
-    folder = words.into or os.path.join(root, "target", "run")
+    folder = os.path.join(root, "target", "run") if words.into is None else words.into
     told = "\n".join(["", *map(files.shown, kept(words, folder, day, file, output)), ""])
     files.write("-", told.encode())
-    differs = difference(expects, due, output) if expects else None
+    differs = None if expects is None else difference(expects, due, output)
     if differs:
         raise files.Failed(differs)
     return 1 if problems else 0
