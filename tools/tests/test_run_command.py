@@ -108,6 +108,7 @@ class Run(unittest.TestCase):
             (b"a\nb\n", b"a\nc\n"): "due:2: expected 'b', found 'c'",
             (b"a\nb\n", b"a\n"): "due:2: expected 'b', found no line",
             (b"a\n", b"a\nb\n"): "due:2: expected no line, found 'b'",
+            (b"a", b"a\n"): "due:1: expected 'a' without a line end, found 'a'",
             (b"a\r\n", b"a\n"): "due:1: expected 'a\\r', found 'a'",
         }
         self.assertEqual({case: run_command.difference("due", *case) for case in cases}, cases)

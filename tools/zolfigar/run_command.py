@@ -19,10 +19,11 @@ USES = """examples:
   tools/run mine.day --order TX1
   tools/run mine.day --expect due.out --into results --date 2026-11-15
 
-Beside what it prints, it writes the day file, the program's output, the page and the journal to target/run/, or to the folder
-that --into names: mine.bin, .out, .html and .journal. They stay where they are of another day, as mine.from tells; this one's
-are mine-2 then. A day of examples/ is held to the output beside it, and any day to the one that --expect names. The exit status
-is 0 if all adds up and is as expected, 1 if not or if something can't be read, 2 for wrong usage."""
+Beside what it prints, it writes the day file, the program's output, the page and the journal to target/run/, or to the
+folder that --into names: mine.bin, .out, .html and .journal. Files of that name that aren't this day's, as mine.from tells,
+stay, and this day's are mine-2 then. A day of examples/ is held to the output beside it, and any day to the one that
+--expect names. The exit status is 0 if all adds up and is as expected, 1 if not or if something can't be read, 2 for wrong
+usage."""
 
 ROOT = os.path.dirname(os.path.dirname(os.path.dirname(os.path.realpath(__file__))))
 
@@ -101,7 +102,10 @@ def difference(name: str, due: bytes, output: bytes) -> str | None:
 
 
 def quoted(found: bytes | None) -> str:
-    return "no line" if found is None else repr(found.decode("ascii", "replace").removesuffix("\n"))
+    if found is None:
+        return "no line"
+    ended = "" if found.endswith(b"\n") else " without a line end"
+    return repr(found.removesuffix(b"\n").decode("ascii", "replace")) + ended
 
 
 def kept(words: Words, folder: str, day: Day, file: bytes, output: bytes) -> Iterator[str]:
