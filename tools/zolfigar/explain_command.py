@@ -120,10 +120,11 @@ def explain(words: Words) -> int:
     file = packing.day_file(words.day, files.read(words.day))
     day = history.read(name_of(words.day), file, files.text(words.output))
     problems = audit.problems(day)
+    entries = journal.journal(day, words.date or journal.DATE) if words.journal else ""
     if words.page:
         files.write(words.page, page.page(day).encode())
     if words.journal:
-        files.write(words.journal, journal.journal(day, words.date or journal.DATE).encode())
+        files.write(words.journal, entries.encode())
     if not words.page and not words.journal:
         show(day, problems, words)
     elif problems:
