@@ -39,6 +39,17 @@ class Command(unittest.TestCase):
         self.assertIn("6.00 available + 0.00 reserved + 0.00 held = 6.00, the program's line C 0", ran.stdout)
         self.assertNotIn("\x1b", ran.stdout)
 
+    def test_a_day_as_text(self):
+        for name in ("case-d.day", "case-d.txt"):
+            files.write(self.path(name), scenes.content("examples", "case-d.day"))
+            ran = self.explain(name, "case-d.out")
+            self.assertEqual((ran.returncode, ran.stderr), (0, ""))
+            self.assertIn("Everything adds up", ran.stdout)
+        files.write(self.path("slip.txt"), b"1 tick tock\n")
+        ran = self.explain("slip.txt", "case-d.out")
+        said = f"{self.path('slip.txt')}:1:8: expected but, or the line's end, found \"tock\"\n"
+        self.assertEqual((ran.returncode, ran.stdout, ran.stderr), (1, "", said))
+
     def test_a_day_that_does_not(self):
         ran = self.explain("case-d.bin", "tampered.out")
         self.assertEqual(ran.returncode, 1)
@@ -51,6 +62,18 @@ class Command(unittest.TestCase):
         ran = self.explain("refused-2.bin", "refused-2.out")
         self.assertEqual(ran.returncode, 0)
         self.assertIn("the day file is refused by 2", ran.stdout)
+
+    def test_a_refusal_that_does_not_fit_the_file(self):
+        for line in ("F 0", "F 1", "F 7", "F 99"):
+            files.write(self.path("other.out"), f"{line}\n".encode())
+            ran = self.explain("case-d.bin", "other.out")
+            self.assertEqual((ran.returncode, ran.stderr), (1, ""), line)
+            self.assertIn(f"the output refuses the file by {line[2:]}, and ", ran.stdout)
+
+    def test_a_day_of_a_file_that_its_header_refuses(self):
+        ran = self.explain("refused-2.bin", "case-d.out")
+        self.assertEqual(ran.returncode, 1)
+        self.assertIn("tickets above 512, and the output doesn't refuse it", ran.stdout)
 
     def test_page_and_journal(self):
         page, journal = self.path("day.html"), self.path("day.journal")
@@ -98,6 +121,72 @@ class Command(unittest.TestCase):
             os.close(main)
             self.assertEqual(ran.wait(), 0)
             self.assertEqual(b"\x1b[32m" in shown, coloured)
+
+    def test_streams_that_are_closed(self):
+        busy = f"{EXPLAIN} {self.path('busy.bin')}"
+        cases = {
+            f"{busy} - <&-": (1, "explain: standard input is closed\n"),
+            f"{busy} {self.path('busy.out')} >&-": (1, "explain: standard output is closed\n"),
+            f"{busy} {self.path('busy.out')} >&- <&- 2>&-": (1, ""),
+            f"{busy} {self.path('busy.out')} --page {self.path('closed.html')} >&- <&-": (0, ""),
+            f"{busy} {self.path('busy.out')} --journal - >&-": (1, "explain: standard output is closed\n"),
+        }
+        for shell, due in cases.items():
+            ran = subprocess.run(["sh", "-c", shell], capture_output=True, text=True, check=False)
+            self.assertEqual((ran.returncode, ran.stderr), due, shell)
+
+    def test_dates(self):
+        out = self.path("dates.journal")
+        for date in ("15.11.2026", "20261115", "2026-02-30", "2026-11-15T00:00", "", "٢٠٢٦-١١-١٥"):
+            ran = self.explain("case-d.bin", "case-d.out", "--journal", out, "--date", date)
+            said = f'explain: error: argument --date: expected a date like 2026-11-15, found "{date}"'
+            self.assertEqual((ran.returncode, ran.stderr.splitlines()[-1]), (2, said))
+        ran = self.explain("case-d.bin", "case-d.out", "--date", "2026-11-15")
+        said = "explain: error: --date is the journal's, and there is no --journal"
+        self.assertEqual((ran.returncode, ran.stderr.splitlines()[-1]), (2, said))
+
+    def test_a_day_past_the_last_date(self):
+        files.write(self.path("late.day"), b"participant AAAALV22 bank\n24:00:00 cover-in from AAAALV22 EUR 10.00\n")
+        files.write(self.path("late.out"), b"T 0 0 0 0\nC 0 1000 0 0\n")
+        for date, status in (("9999-12-30", 0), ("9999-12-31", 1)):
+            ran = self.explain("late.day", "late.out", "--journal", "-", "--date", date)
+            said = "explain: the journal has no date for 24:00:00 where second 0 is on 9999-12-31: no date is later than 9999-12-31\n"
+            self.assertEqual((ran.returncode, ran.stderr), (status, said if status else ""))
+
+    def test_names_that_can_not_be_printed(self):
+        """On the terminal, in the journal's comment, on the page and in every message: by their numbers."""
+        name = os.fsdecode(b"a\n2000-01-01 x\x1b[31m\xff")
+        shown = "a\\n2000-01-01 x\\x1b[31m\\xff"
+        files.write(self.path(name), scenes.day_file("case-d"))
+        ran = self.explain(name, "case-d.out")
+        self.assertEqual((ran.returncode, ran.stderr), (0, ""))
+        self.assertTrue(ran.stdout.startswith(shown + ": 4 tickets"))
+        ran = self.explain(name, "case-d.out", "--journal", "-", "--page", self.path("named.html"))
+        self.assertTrue(ran.stdout.startswith(f"; {shown}: 4 tickets"))
+        self.assertIn(shown.encode(), files.read(self.path("named.html")))
+        cases = {
+            (name + "0", "case-d.out"): f"explain: can't read {self.path(shown)}0: No such file or directory",
+            ("case-d.bin", name): f"explain: can't read {self.path(shown)}: Is a directory",
+            ("case-d.bin", "case-d.out", "--member", name): f"explain: {shown} is no participant of this day: "
+            "AAAALV22XXX, BBBBLV22XXX",
+            (
+                "case-d.bin",
+                "case-d.out",
+                "--order",
+                name,
+            ): f"explain: no order with the TxId {shown} was accepted on this day",
+            ("case-d.bin", "case-d.out", "--" + name): f"explain: error: unrecognized arguments: --{shown}",
+            ("case-d.bin", "case-d.out", "--page", f"{name}/a/b"): f"explain: can't write {shown}/a/b: "
+            "No such file or directory",
+        }
+        os.remove(self.path(name))
+        os.mkdir(self.path(name))
+        for words, said in cases.items():
+            self.assertEqual(self.explain(*words).stderr.splitlines()[-1:], [said])
+        os.rmdir(self.path(name))
+        files.write(self.path(name), b"1 tick tock\n")
+        said = f'{self.path(shown)}:1:8: expected but, or the line\'s end, found "tock"\n'
+        self.assertEqual(self.explain(name, "case-d.out").stderr, said)
 
     def test_a_closed_pipe(self):
         shell = f"{EXPLAIN} {self.path('busy.bin')} {self.path('busy.out')} | head -1"

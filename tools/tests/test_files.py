@@ -55,6 +55,28 @@ class Files(unittest.TestCase):
         self.assertEqual(files.text(self.path("a")), "T 0 \\xff\n")
 
 
+class Shown(unittest.TestCase):
+    def test_what_can_not_be_printed_is_shown_by_its_number(self):
+        cases = {
+            "mine.day": "mine.day",
+            "f\u00fcr Riga, \u0631\u064a\u063a\u0627.day": "f\u00fcr Riga, \u0631\u064a\u063a\u0627.day",
+            "a\nb\tc\rd": "a\\nb\\tc\\rd",
+            "\x1b[31mred\x07\x9b": "\\x1b[31mred\\x07\\x9b",
+            "\u202egnp": "\\u202egnp",
+            os.fsdecode(b"f\xfcr"): "f\\xfcr",
+        }
+        self.assertEqual({name: files.shown(name) for name in cases}, cases)
+
+    def test_in_errors(self):
+        name = self.id() + "\x1b[31m\n"
+        with self.assertRaises(files.Failed) as failed:
+            files.read(name)
+        self.assertEqual(str(failed.exception), f"can't read {self.id()}\\x1b[31m\\n: No such file or directory")
+        with self.assertRaises(files.Failed) as failed:
+            files.write(os.path.join(name, "a"), b"")
+        self.assertEqual(str(failed.exception), f"can't write {self.id()}\\x1b[31m\\n/a: No such file or directory")
+
+
 class Guarded(unittest.TestCase):
     def test_statuses(self):
         def failing():
@@ -64,6 +86,17 @@ class Guarded(unittest.TestCase):
         with contextlib.redirect_stderr(said):
             self.assertEqual([files.guarded("day", lambda: 0), files.guarded("day", failing)], [0, 1])
         self.assertEqual(said.getvalue(), "day: it is not there\n")
+
+    def test_what_is_said_has_no_escape_sequences(self):
+        """Not even where others' words are in it, as rt's are; its lines stay."""
+
+        def failing():
+            raise files.Failed("rt failed:\n\x1b[31mfn f\x1b[0m")
+
+        said = io.StringIO()
+        with contextlib.redirect_stderr(said):
+            files.guarded("run", failing)
+        self.assertEqual(said.getvalue(), "run: rt failed:\n\\x1b[31mfn f\\x1b[0m\n")
 
 
 if __name__ == "__main__":

@@ -3,7 +3,7 @@
 import unittest
 
 from tests import scenes
-from zolfigar import history
+from zolfigar import history, packing, words
 
 
 class Statements(unittest.TestCase):
@@ -60,6 +60,30 @@ class Files(unittest.TestCase):
     def test_a_short_file_that_is_not_refused(self):
         day = history.read("short", b"short", "C 0 0 0 0\n")
         self.assertEqual(day.problems, ["the file is below 12 bytes, and the output doesn't refuse it"])
+
+    def test_a_refused_header_that_is_not_refused(self):
+        for name in ("refused-2", "refused-3"):
+            day = scenes.day(name, "T 0 0 0 0\nC 0 1000 0 0\n")
+            self.assertIn(f"{words.REFUSALS[int(name[-1])][1]}, and the output doesn't refuse it", day.problems)
+
+    def test_a_refusal_that_does_not_fit(self):
+        """Of a file that 1 to 3 don't refuse, and of one that each of them does."""
+        other = "the output refuses the file by {}, and a file is refused by 1 to 5"
+        not_so = "the output refuses the file by {}, and it isn't so that {}"
+        first = "the output refuses the file by {}, and {} comes first: {}"
+        for number in (0, 6, 7, 99):
+            self.assertEqual(scenes.day("case-d", f"F {number}\n").problems, [other.format(number)])
+        for number in (1, 2, 3):
+            due = [not_so.format(number, words.REFUSALS[number][1])]
+            self.assertEqual(scenes.day("case-d", f"F {number}\n").problems, due)
+            for wrong in sorted({1, 2, 3, 4, 5} - {number}):
+                due = [first.format(wrong, number, words.REFUSALS[number][1])]
+                self.assertEqual(scenes.day(f"refused-{number}", f"F {wrong}\n").problems, due)
+        # whether 4 or 5 is so is for the rows to tell, which are not judged; without a route row 5 is not so
+        self.assertEqual([scenes.day("case-d", f"F {number}\n").problems for number in (4, 5)], [[], []])
+        no_routes = packing.pack("no-routes", "participant AAAALV22 bank\n")
+        due = ["the output refuses the file by 5, and it has no route row"]
+        self.assertEqual(history.read("no-routes", no_routes, "F 5\n").problems, due)
 
 
 if __name__ == "__main__":

@@ -10,7 +10,7 @@ import subprocess
 import unittest
 
 from tests import scenes
-from zolfigar import journal
+from zolfigar import history, journal, packing, telling
 
 
 def hledger(text, *words):
@@ -83,6 +83,24 @@ class Entries(unittest.TestCase):
 
     def test_a_refused_file(self):
         self.assertEqual(balances(journal.journal(scenes.day("refused-3"))), {})
+
+
+class Refused(unittest.TestCase):
+    def test_it_says_so(self):
+        """In its head and as an entry, which hledger prints: it is no day without tickets."""
+        for name in scenes.REFUSED:
+            text = journal.journal(scenes.day(name), datetime.date(2026, 11, 15))
+            said = f"the day file is refused by {telling.refusal(int(name[-1]))}"
+            self.assertTrue(text.startswith(f"; {name}: {said}\n; No ticket was looked at, and there is no cover.\n"))
+            self.assertNotIn("0 tickets", text)
+            printed = hledger(text, "print")
+            self.assertEqual((printed.returncode, printed.stderr), (0, ""))
+            self.assertEqual(printed.stdout.strip(), f"2026-11-15 ! {said}")
+            self.assertEqual(hledger(text, "check", "--strict", "ordereddates").returncode, 0)
+
+    def test_a_day_without_tickets_is_none(self):
+        day = history.read("quiet", packing.pack("quiet", "participant AAAALV22 bank\n"), "C 0 0 0 0\n")
+        self.assertNotIn("refused", journal.journal(day))
 
 
 if __name__ == "__main__":

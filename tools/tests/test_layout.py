@@ -43,5 +43,28 @@ class Sections(unittest.TestCase):
         self.assertEqual(list(layout.header_of(2, 2, 4).values()), [2, 2, 4, 12, 60, 92])
 
 
+def file_of(participants, routes, tickets, **other):
+    """A file with as many rows of zero bytes, whose header has what the layout gives, or another number."""
+    header = layout.header_of(participants, routes, tickets) | {name.replace("_", "-"): n for name, n in other.items()}
+    return layout.write(layout.HEADER, header) + bytes(24 * participants + 16 * routes + 108 * tickets)
+
+
+class Refusal(unittest.TestCase):
+    """Refusals 1 to 3, on both sides of each edge."""
+
+    def test_below_12_bytes(self):
+        self.assertEqual([layout.refusal(bytes(size)) for size in (0, 11, 12)], [1, 1, 2])
+
+    def test_counts(self):
+        counts = ((1, 0, 0), (32, 64, 512), (0, 0, 0), (33, 0, 0), (1, 65, 0), (1, 0, 513))
+        self.assertEqual([layout.refusal(file_of(*count)) for count in counts], [None, None, 2, 2, 2, 2])
+
+    def test_offsets_and_length(self):
+        for name in ("participants_at", "routes_at", "tickets_at"):
+            self.assertEqual(layout.refusal(file_of(1, 1, 1, **{name: 13})), 3, name)
+        file = file_of(1, 1, 1)
+        self.assertEqual([layout.refusal(other) for other in (file, file[:-1], file + b"0")], [None, 3, 3])
+
+
 if __name__ == "__main__":
     unittest.main()

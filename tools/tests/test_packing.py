@@ -385,5 +385,34 @@ class Packing(unittest.TestCase):
             self.assertEqual(str(caught.exception), f"x.day:{place}: not UTF-8: byte {byte}")
 
 
+class AnyFile(unittest.TestCase):
+    """A file of any name is a day's text or packed."""
+
+    def test_text(self):
+        for name in ("mine.day", "mine.txt", "MINE.DAY", "mine.bin", "mine"):
+            for mark in (b"", b"\xef\xbb\xbf", b"\r\n\t"):
+                self.assertEqual(packing.day_file(name, mark + CASE_D.encode()), CASE_D_BYTES, name)
+
+    def test_packed(self):
+        """What begins with a zero byte or has one, and an empty file."""
+        for data in (CASE_D_BYTES, b"", b"\0", b"\x01" + CASE_D_BYTES[1:], b"text\0"):
+            self.assertEqual(packing.day_file("mine.bin", data), data)
+
+    def test_mistakes_are_told_with_their_place(self):
+        cases = {
+            ("mine.txt", b"1 tick\n1 tick tock\n"): 'mine.txt:2:8: expected but, or the line\'s end, found "tock"',
+            ("mine.txt", b"# f\xfcr 1 \n"): "mine.txt:1:4: not UTF-8: byte fc",
+            ("mine.txt", "1 tick\n".encode("utf-16")): "mine.txt:1:1: not UTF-8: byte ff",
+            ("mine.txt", b"\xfe\xff\0001"): "mine.txt:1:1: not UTF-8: byte fe",
+            ("mine.txt", b"\x1b[31m"): "mine.txt:1:1: expected ",
+            ("mine.DAY", b""): "mine.DAY:1:1: expected a line of a day, found none",
+            ("mine.day", b"\0\x01"): "mine.day:1:1: expected ",
+        }
+        for (name, data), said in cases.items():
+            with self.assertRaises(text.TextError) as failed:
+                packing.day_file(name, data)
+            self.assertTrue(str(failed.exception).startswith(said), (said, str(failed.exception)))
+
+
 if __name__ == "__main__":
     unittest.main()

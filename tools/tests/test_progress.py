@@ -3,7 +3,7 @@
 import io
 import unittest
 
-from zolfigar.progress import over
+from zolfigar.progress import over, show
 
 
 class Terminal(io.StringIO):
@@ -22,6 +22,12 @@ class Progress(unittest.TestCase):
         self.assertEqual(list(over([1, 2, 3], "days", stream)), [1, 2, 3])
         self.assertIn("days: 0 of 3", stream.getvalue())
         self.assertTrue(stream.getvalue().endswith("\r\x1b[K"))
+
+    def test_what_can_not_be_printed_is_shown_by_its_number(self):
+        stream = Terminal()
+        list(over([1], "lines of \x1b[31m", stream))
+        show("rt: \x1b[31m", stream)
+        self.assertEqual(stream.getvalue(), "\rlines of \\x1b[31m: 0 of 1\x1b[K\r\x1b[K\rrt: \\x1b[31m\x1b[K")
 
     def test_items_as_they_come(self):
         stream = Terminal()

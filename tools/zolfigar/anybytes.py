@@ -10,7 +10,7 @@ import time
 from collections.abc import Iterator, Sequence
 from concurrent.futures import ThreadPoolExecutor
 
-from . import files, layout, many, output, version
+from . import command_line, files, layout, many, output, version
 from .figures import counted
 from .progress import over
 
@@ -149,7 +149,7 @@ def edges(program: str, day: bytes) -> Iterator[tuple[str, str | None]]:
 
 
 def arguments(words: Sequence[str]) -> Words:
-    parser = argparse.ArgumentParser("anybytes", description=WHAT)
+    parser = command_line.Parser("anybytes", description=WHAT)
     version.told(parser)
     parser.add_argument("--count", type=int, default=100_000, help="how many inputs (100,000)")
     parser.add_argument("--seed", type=int, default=1, help="of the inputs (1)")
@@ -175,5 +175,4 @@ def check(words: Words) -> int:
 
 
 def main() -> int:
-    words = arguments(sys.argv[1:])
-    return files.guarded("anybytes", lambda: check(words))
+    return files.guarded("anybytes", lambda: check(arguments(sys.argv[1:])))

@@ -4,7 +4,7 @@ import argparse
 import sys
 from collections.abc import Sequence
 
-from . import files, inputs, many, packing, unpacking, version
+from . import command_line, files, inputs, many, packing, unpacking, version
 
 WHAT = "A day file from text, and text from a day file. docs/DAYS.md has the text form."
 USES = """example:
@@ -27,7 +27,7 @@ class Words(argparse.Namespace):
 
 def arguments(words: Sequence[str]) -> Words:
     form = argparse.RawDescriptionHelpFormatter
-    parser = argparse.ArgumentParser("day", description=WHAT, epilog=USES, formatter_class=form)
+    parser = command_line.Parser("day", description=WHAT, epilog=USES, formatter_class=form)
     version.told(parser)
     commands = parser.add_subparsers(dest="command", required=True, metavar="pack|unpack")
     for command, what in (("pack", "text to a day file"), ("unpack", "a day file, of any bytes, to text")):
@@ -53,18 +53,9 @@ def unpacked(name: str, data: bytes, words: Words) -> bytes:
         raise files.Failed(f"{name}: {error}") from None
 
 
-def look_at_streams(words: Words) -> None:
-    """A stream that the caller has closed is None."""
-    if words.file == "-" and sys.stdin is None:
-        raise files.Failed("standard input is closed")
-    if words.out == "-" and sys.stdout is None:
-        raise files.Failed("standard output is closed")
+def carry_out(words: Words) -> int:
     if words.command == "pack" and words.out == "-" and sys.stdout.isatty():
         raise files.Failed("a day file isn't written to a terminal: use -o OUT, or a pipe")
-
-
-def carry_out(words: Words) -> int:
-    look_at_streams(words)
     name = "standard input" if words.file == "-" else words.file
     work = packed if words.command == "pack" else unpacked
     files.write(words.out, work(name, files.read(words.file), words))
@@ -72,5 +63,4 @@ def carry_out(words: Words) -> int:
 
 
 def main() -> int:
-    words = arguments(sys.argv[1:])
-    return files.guarded("day", lambda: carry_out(words))
+    return files.guarded("day", lambda: carry_out(arguments(sys.argv[1:])))

@@ -3,12 +3,18 @@
 import argparse
 import datetime
 import os
+import re
 import sys
 from collections.abc import Sequence
 from typing import TextIO
 
-from . import audit, files, history, journal, page, terminal, version
+from . import audit, command_line, files, history, journal, packing, page, terminal, text, version
 from .history import Day, Order
+
+DATE = re.compile("[0-9]{4}-[0-9]{2}-[0-9]{2}")
+A_DAY = (
+    "a day as text or packed: a file whose name ends in .day or that has no zero byte is text, and an empty one is packed"
+)
 
 USES = """examples:
   tools/explain day.bin day.out                      all of it, on the terminal
@@ -34,7 +40,7 @@ class Words(Followed):
     output: str
     page: str | None
     journal: str | None
-    date: datetime.date
+    date: datetime.date | None
 
 
 def followed(parser: argparse.ArgumentParser) -> None:
@@ -44,18 +50,35 @@ def followed(parser: argparse.ArgumentParser) -> None:
     shown.add_argument("--order", metavar="TXID", help="follow one order")
 
 
+def a_date(word: str) -> datetime.date:
+    try:
+        if DATE.fullmatch(word):
+            return datetime.date.fromisoformat(word)
+    except ValueError:
+        pass
+    raise argparse.ArgumentTypeError(f"expected a date like 2026-11-15, found {text.quoted(word)}")
+
+
+def dated(parser: argparse.ArgumentParser) -> None:
+    """The date of a day, which its file doesn't have."""
+    what = f"the date of second 0, for the journal; {journal.DATE} if it isn't given"
+    parser.add_argument("--date", type=a_date, metavar="YYYY-MM-DD", help=what)
+
+
 def arguments(words: Sequence[str]) -> Words:
     form = argparse.RawDescriptionHelpFormatter
-    parser = argparse.ArgumentParser("explain", description=__doc__, epilog=USES, formatter_class=form)
+    parser = command_line.Parser("explain", description=__doc__, epilog=USES, formatter_class=form)
     version.told(parser)
-    parser.add_argument("day", help="the day file, as tools/day packs it")
+    parser.add_argument("day", help=A_DAY)
     parser.add_argument("output", help="what the clearing program printed of it; - is standard input")
     followed(parser)
     parser.add_argument("--page", metavar="FILE", help="write one self-contained HTML page")
     parser.add_argument("--journal", metavar="FILE", help="write a journal for hledger; - is standard output")
-    date = "the date of second 0, for the journal; 2000-01-01 if it isn't given"
-    parser.add_argument("--date", type=datetime.date.fromisoformat, default=journal.DATE, help=date)
-    return parser.parse_args(words, Words())
+    dated(parser)
+    found = parser.parse_args(words, Words())
+    if found.date and not found.journal:
+        parser.error("--date is the journal's, and there is no --journal")
+    return found
 
 
 def coloured(stream: TextIO) -> bool:
@@ -70,11 +93,11 @@ def wanted(day: Day, words: Followed) -> tuple[int | None, Order | None]:
         member = next((p.number for p in day.participants if p.bic == bic), None)
         if member is None:
             known = ", ".join(p.bic for p in day.participants)
-            raise files.Failed(f"{words.member} is no participant of this day: {known or 'it has none'}")
+            raise files.Failed(f"{files.shown(words.member)} is no participant of this day: {known or 'it has none'}")
     if words.order:
         order = next((o for o in day.orders if o.txid == words.order), None)
         if order is None:
-            raise files.Failed(f"no order with the TxId {words.order} was accepted on this day")
+            raise files.Failed(f"no order with the TxId {files.shown(words.order)} was accepted on this day")
     return member, order
 
 
@@ -88,14 +111,20 @@ def show(day: Day, problems: Sequence[str], words: Followed) -> None:
     files.write("-", "".join(line + "\n" for line in found).encode())
 
 
+def name_of(path: str) -> str:
+    """A day's name: its file's, as it is shown."""
+    return files.shown(os.path.splitext(os.path.basename(path))[0])
+
+
 def explain(words: Words) -> int:
-    name = os.path.splitext(os.path.basename(words.day))[0]
-    day = history.read(name, files.read(words.day), files.text(words.output))
+    file = packing.day_file(words.day, files.read(words.day))
+    day = history.read(name_of(words.day), file, files.text(words.output))
     problems = audit.problems(day)
+    entries = journal.journal(day, words.date or journal.DATE) if words.journal else ""
     if words.page:
         files.write(words.page, page.page(day).encode())
     if words.journal:
-        files.write(words.journal, journal.journal(day, words.date).encode())
+        files.write(words.journal, entries.encode())
     if not words.page and not words.journal:
         show(day, problems, words)
     elif problems:
@@ -104,5 +133,4 @@ def explain(words: Words) -> int:
 
 
 def main() -> int:
-    words = arguments(sys.argv[1:])
-    return files.guarded("explain", lambda: explain(words))
+    return files.guarded("explain", lambda: explain(arguments(sys.argv[1:])))

@@ -15,6 +15,16 @@ class Failed(Exception):
     begins_with_place = False
 
 
+def shown(name: str) -> str:
+    """A name as it is shown: what can't be printed, and what an escape sequence is made of, by its number."""
+    return "".join(c if c.isprintable() else escaped(c) for c in name)
+
+
+def escaped(c: str) -> str:
+    """A character's number; of a byte that is no UTF-8, which Python has in 0xdc80 to 0xdcff, that byte's."""
+    return f"\\x{ord(c) - 0xDC00:02x}" if "\udc80" <= c <= "\udcff" else c.encode("unicode_escape").decode()
+
+
 def reason(error: OSError) -> str:
     return error.strerror or str(error)
 
@@ -27,7 +37,7 @@ def read(name: str) -> bytes:
         with open(name, "rb") as file:
             return file.read()
     except OSError as error:
-        raise Failed(f"can't read {name}: {reason(error)}") from error
+        raise Failed(f"can't read {shown(name)}: {reason(error)}") from error
 
 
 def text(name: str) -> str:
@@ -49,7 +59,7 @@ def write(name: str, data: bytes) -> None:
     except BrokenPipeError:
         raise
     except OSError as error:
-        raise Failed(f"can't write {'to standard output' if name == STANDARD else name}: {reason(error)}") from error
+        raise Failed(f"can't write {'to standard output' if name == STANDARD else shown(name)}: {reason(error)}") from error
 
 
 def replace(name: str, data: bytes) -> None:
@@ -65,6 +75,14 @@ def replace(name: str, data: bytes) -> None:
         raise
 
 
+def make_folder(name: str) -> None:
+    """Makes a folder where there is none."""
+    try:
+        os.makedirs(name, exist_ok=True)
+    except OSError as error:
+        raise Failed(f"can't make the folder {shown(name)}: {reason(error)}") from error
+
+
 def mask() -> int:
     """The rights that a new file doesn't get."""
     found = os.umask(0)
@@ -72,14 +90,34 @@ def mask() -> int:
     return found
 
 
+class Closed(io.BytesIO):
+    """Stands for a stream that the caller has closed, which Python has as None: whoever reads or writes it is told."""
+
+    def __init__(self, name: str) -> None:
+        super().__init__()
+        self.name = name
+
+    def read(self, *_: object) -> bytes:
+        raise Failed(f"{self.name} is closed")
+
+    def write(self, *_: object) -> int:
+        raise Failed(f"{self.name} is closed")
+
+
+def closed(name: str) -> io.TextIOWrapper:
+    return io.TextIOWrapper(Closed(name), write_through=True)
+
+
 def guarded(command: str, work: Callable[[], int]) -> int:
     """Runs a command's work and gives its exit status. A closed pipe ends it without a word."""
-    if sys.stderr is None:
-        sys.stderr = io.StringIO()
+    sys.stdin = sys.stdin or closed("standard input")
+    sys.stdout = sys.stdout or closed("standard output")
+    sys.stderr = sys.stderr or io.StringIO()
     try:
         return work()
     except Failed as error:
-        sys.stderr.write(f"{error}\n" if error.begins_with_place else f"{command}: {error}\n")
+        said = "\n".join(map(shown, str(error).split("\n")))
+        sys.stderr.write(f"{said}\n" if error.begins_with_place else f"{command}: {said}\n")
         return 1
     except BrokenPipeError:
         os.dup2(os.open(os.devnull, os.O_WRONLY), sys.stdout.fileno())

@@ -12,7 +12,7 @@ from .figures import counted
 from .layout import ParticipantRow, TicketRow
 from .output import Answer, Parts, Position, Report
 from .progress import over
-from .words import CUT_REPORTS, ENDINGS
+from .words import CUT_REPORTS, ENDINGS, REFUSALS
 
 
 class Participant(NamedTuple):
@@ -267,11 +267,8 @@ class Reader:
 def read(name: str, file: bytes, text: str) -> Day:
     """The day of a file's bytes and the text that the program printed of it."""
     out = output.read(text)
-    problems = list(out.problems)
-    has_header = len(file) >= layout.length(layout.HEADER)
-    if out.refusal is None and not has_header:
-        problems.append("the file is below 12 bytes, and the output doesn't refuse it")
-    if out.refusal is not None or not has_header:
+    problems = list(out.problems) + list(refusal_problems(file, out.refusal))
+    if out.refusal is not None or len(file) < layout.length(layout.HEADER):
         return Day(name, out.refusal, [], [], [], [], out.positions, problems)
     found = layout.sections(file)
     participants = [participant_of(n, row) for n, row in enumerate(found.participants)]
@@ -281,6 +278,28 @@ def read(name: str, file: bytes, text: str) -> Day:
     day = Day(name, None, participants, reader.events, reader.orders, reader.moves, out.positions, problems)
     answered(day, len(found.tickets), len(out.answers))
     return day
+
+
+def refusal_problems(file: bytes, printed: int | None) -> Iterator[str]:
+    """What is wrong with the refusal that was printed of a file, or with none. Length and header tell 1 to 3, and 4 and 5 come
+    behind these; whether a row is wrong is not looked at."""
+    due, told = layout.refusal(file), f"the output refuses the file by {printed}"
+    if printed == due:
+        return
+    if printed is None:
+        yield f"{meaning(due)}, and the output doesn't refuse it"
+    elif not 1 <= printed <= 5:
+        yield f"{told}, and a file is refused by 1 to 5"
+    elif due is not None:
+        yield f"{told}, and {due} comes first: {meaning(due)}"
+    elif printed <= 3:
+        yield f"{told}, and it isn't so that {meaning(printed)}"
+    elif printed == 5 and layout.header_in(file)["routes"] == 0:
+        yield f"{told}, and it has no route row"
+
+
+def meaning(refusal: int | None) -> str:
+    return "" if refusal is None else REFUSALS[refusal][1]
 
 
 def answered(day: Day, tickets: int, answers: int) -> None:

@@ -9,7 +9,7 @@ the entries before it add up to them."""
 import datetime
 from collections.abc import Iterable, Iterator, Sequence
 
-from . import telling
+from . import files, telling
 from .figures import clock
 from .history import Day, Move
 from .output import Parts
@@ -45,7 +45,11 @@ def posting(name: str, cents: int, asserted: int | None = None) -> str:
 
 
 def date_of(first: datetime.date, seconds: int) -> str:
-    return (first + datetime.timedelta(days=seconds // SECONDS)).isoformat()
+    try:
+        return (first + datetime.timedelta(days=seconds // SECONDS)).isoformat()
+    except OverflowError:
+        told = f"the journal has no date for {clock(seconds)} where second 0 is on {first}: no date is later"
+        raise files.Failed(f"{told} than {datetime.date.max}") from None
 
 
 def postings(day: Day, moves: Sequence[Move]) -> Iterator[tuple[str, int]]:
@@ -105,8 +109,16 @@ def closing(day: Day, first: datetime.date) -> str:
     return "\n".join(lines)
 
 
+def refused(day: Day, first: datetime.date) -> str:
+    """The journal of a refused file, which is no day without tickets: an entry that moves nothing says so too."""
+    told = telling.refused(day)
+    return f"; {day.name}: {told}\n; {telling.NOT_LOOKED_AT}\n\n{first} ! {told}\n"
+
+
 def journal(day: Day, first: datetime.date = DATE) -> str:
     """The whole journal. `first` is the date on which the day's second 0 falls."""
+    if day.refusal is not None:
+        return refused(day, first)
     head = f"; {day.name}: {telling.summary(day)}\n; The first date is {first}: a day file has seconds and no date."
     parts = [head, opening(day)] + [entry(day, first, moves) for moves in over(movements(day.moves), "journal")]
     return "\n\n".join(parts + ([closing(day, first)] if day.positions else [])) + "\n"

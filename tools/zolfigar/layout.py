@@ -94,6 +94,10 @@ TICKET = (
 )
 
 
+# The largest counts of a header that 2 doesn't refuse.
+MOST_ROWS = {"participants": 32, "routes": 64, "tickets": 512}
+
+
 def length(fields: Fields) -> int:
     return sum(field.size for field in fields)
 
@@ -173,3 +177,15 @@ def header_of(participants: int, routes: int, tickets: int) -> Header:
         "routes-at": routes_at,
         "tickets-at": routes_at + routes * length(ROUTE),
     }
+
+
+def refusal(file: bytes) -> int | None:
+    """The first of refusals 1, 2 and 3 that applies, which length and header tell; None if none does."""
+    if len(file) < length(HEADER):
+        return 1
+    header = header_in(file)
+    counts = {name: header[name] for name in MOST_ROWS}
+    if header["participants"] == 0 or any(count > MOST_ROWS[name] for name, count in counts.items()):
+        return 2
+    ends = header_of(*counts.values())["tickets-at"] + counts["tickets"] * length(TICKET)
+    return 3 if header != header_of(*counts.values()) or len(file) != ends else None

@@ -354,3 +354,16 @@ def pack(name: str, day_text: str) -> bytes:
     if day.mistakes:
         raise text.TextError(name, day.mistakes)
     return file
+
+
+def is_text(name: str, data: bytes) -> bool:
+    """Whether a file is a day's text. One whose name ends in .day is. Any other is if it has no zero byte, with which every packed
+    day that can be accepted begins; UTF-16 has zero bytes and begins with a mark. An empty file is packed."""
+    if name.lower().endswith(".day") or data.startswith((b"\xff\xfe", b"\xfe\xff")):
+        return True
+    return bool(data) and b"\0" not in data
+
+
+def day_file(name: str, data: bytes) -> bytes:
+    """The day file of a file that is a day's text or packed. TextError says what is wrong with a text."""
+    return pack(name, decoded(name, data)) if is_text(name, data) else data

@@ -1,12 +1,15 @@
 """The command tools/run: one day from its text to its explanation. It builds what is missing, packs, clears and explains."""
 
 import argparse
+import datetime
 import os
+import shlex
 import subprocess
 import sys
-from collections.abc import Iterable, Sequence
+from collections.abc import Iterable, Iterator, Sequence
+from itertools import zip_longest
 
-from . import audit, explain_command, files, history, journal, packing, page, progress, version
+from . import audit, command_line, explain_command, files, history, journal, packing, page, progress, results, version
 from .explain_command import Followed
 from .history import Day
 
@@ -14,21 +17,35 @@ USES = """examples:
   tools/run examples/busy.day
   tools/run examples/busy.day --member AAAALV22
   tools/run mine.day --order TX1
+  tools/run mine.day --expect due.out --into results --date 2026-11-15
 
-Beside what it prints, it writes the day file, the program's output, the page and the journal to target/run/. Where a file
-with the same name and .out stands beside the day, the output is held to it. The exit status is 0 if all adds up and is as
-expected, 1 if not or if something can't be read, 2 for wrong usage."""
+Beside what it prints, it writes the day file, the program's output, the page and the journal to target/run/, or to the
+folder that --into names: mine.bin, .out, .html and .journal. Files of that name that aren't this day's, as mine.from tells,
+stay, and this day's are mine-2 then. A day of examples/ is held to the output beside it, and any day to the one that
+--expect names. The exit status is 0 if all adds up and is as expected, 1 if not or if something can't be read, 2 for wrong
+usage."""
 
 ROOT = os.path.dirname(os.path.dirname(os.path.dirname(os.path.realpath(__file__))))
 
 
-def arguments(words: Sequence[str]) -> Followed:
+class Words(Followed):
+    """What the command line says."""
+
+    expect: str | None
+    into: str | None
+    date: datetime.date | None
+
+
+def arguments(words: Sequence[str]) -> Words:
     form = argparse.RawDescriptionHelpFormatter
-    parser = argparse.ArgumentParser("run", description=__doc__, epilog=USES, formatter_class=form)
+    parser = command_line.Parser("run", description=__doc__, epilog=USES, formatter_class=form)
     version.told(parser)
-    parser.add_argument("day", help="a day as text, in a file whose name ends in .day; any other file is taken as packed")
+    parser.add_argument("day", help=explain_command.A_DAY)
     explain_command.followed(parser)
-    return parser.parse_args(words, Followed())
+    explain_command.dated(parser)
+    parser.add_argument("--into", metavar="DIR", help="the folder that is written to; target/run if it isn't given")
+    parser.add_argument("--expect", metavar="FILE", help="the output that the program has to print")
+    return parser.parse_args(words, Words())
 
 
 def program(root: str) -> str:
@@ -67,53 +84,58 @@ def cleared(built: str, file: bytes) -> bytes:
     return ran.stdout
 
 
-def packed(name: str) -> bytes:
-    """The day file of a day's text; a name that doesn't end in .day is a day file already."""
-    data = files.read(name)
-    return packing.pack(name, packing.decoded(name, data)) if name.endswith(".day") else data
+def expected(words: Words, root: str) -> str | None:
+    """The name of the output that is expected: the one that is asked for, else an example's."""
+    if words.expect is not None:
+        return words.expect
+    beside = os.path.splitext(words.day)[0] + ".out"
+    is_example = os.path.dirname(os.path.realpath(words.day)) == os.path.join(os.path.realpath(root), "examples")
+    return beside if is_example and os.path.exists(beside) else None
 
 
-def expected(name: str, output: bytes) -> str | None:
-    """A sentence on the first line in which the output differs from the one expected, where there is one."""
-    beside = os.path.splitext(name)[0] + ".out"
-    if not os.path.exists(beside):
-        return None
-    due, found = files.read(beside).split(b"\n"), output.split(b"\n")
-    for at, (one, other) in enumerate(zip(due + [b""], found + [b""]), 1):
+def difference(name: str, due: bytes, output: bytes) -> str | None:
+    """A sentence on the first line in which the output differs from the one expected, if it does."""
+    for at, (one, other) in enumerate(zip_longest(due.splitlines(True), output.splitlines(True)), 1):
         if one != other:
-            return f"{beside}:{at}: expected {one.decode('ascii', 'replace')!r}, found {other.decode('ascii', 'replace')!r}"
+            return f"{files.shown(name)}:{at}: expected {quoted(one)}, found {quoted(other)}"
     return None
 
 
-def kept(root: str, name: str, day: Day, file: bytes, output: bytes) -> str:
-    """The day file, the output, the page and the journal under target/run/; their names without the ending."""
-    folder = os.path.join(root, "target", "run")
-    os.makedirs(folder, exist_ok=True)
-    base = os.path.join(folder, name)
-    files.write(base + ".bin", file)
-    files.write(base + ".out", output)
-    files.write(base + ".html", page.page(day).encode())
-    files.write(base + ".journal", journal.journal(day).encode())
-    return os.path.relpath(base)
+def quoted(found: bytes | None) -> str:
+    if found is None:
+        return "no line"
+    ended = "" if found.endswith(b"\n") else " without a line end"
+    return repr(found.removesuffix(b"\n").decode("ascii", "replace")) + ended
 
 
-def run(words: Followed, root: str = ROOT) -> int:
-    file = packed(words.day)
+def kept(words: Words, folder: str, day: Day, file: bytes, output: bytes) -> Iterator[str]:
+    """Writes the day file, the output, the page and the journal, and says where they are."""
+    dated = journal.journal(day, words.date or journal.DATE)
+    found = {".bin": file, ".out": output, ".html": page.page(day).encode(), ".journal": dated.encode()}
+    number = results.keep(folder, words.day, found)
+    base = os.path.relpath(results.base_of(folder, words.day, number))
+    balance = f"hledger -f {shlex.quote(base + '.journal')} balance"
+    yield f"Written: {base}.bin, .out, .html (open it in a browser), .journal ({balance})"
+    for other in range(1, number):
+        yield f"{os.path.relpath(results.base_of(folder, words.day, other))} is not of this day, and stays as it is."
+
+
+def run(words: Words, root: str = ROOT) -> int:
+    expects = expected(words, root)
+    due = b"" if expects is None else files.read(expects)
+    file = packing.day_file(words.day, files.read(words.day))
     output = cleared(program(root), file)
-    name = os.path.splitext(os.path.basename(words.day))[0]
-    day = history.read(name, file, output.decode("ascii", errors="backslashreplace"))
+    day = history.read(explain_command.name_of(words.day), file, output.decode("ascii", errors="backslashreplace"))
     problems = audit.problems(day)
     explain_command.show(day, problems, words)
-    base = kept(root, name, day, file, output)
-    sys.stdout.write(
-        f"\nWritten: {base}.bin, .out, .html (open it in a browser), .journal (hledger -f {base}.journal balance)\n"
-    )
-    differs = expected(words.day, output)
+    folder = os.path.join(root, "target", "run") if words.into is None else words.into
+    told = "\n".join(["", *map(files.shown, kept(words, folder, day, file, output)), ""])
+    files.write("-", told.encode())
+    differs = None if expects is None else difference(expects, due, output)
     if differs:
         raise files.Failed(differs)
     return 1 if problems else 0
 
 
 def main() -> int:
-    words = arguments(sys.argv[1:])
-    return files.guarded("run", lambda: run(words))
+    return files.guarded("run", lambda: run(arguments(sys.argv[1:])))

@@ -43,6 +43,15 @@ def refusal(number: int, kind: int | None = None) -> str:
     return f"{number} {code}: {meaning}" if code else f"{number}: {meaning}"
 
 
+NOT_LOOKED_AT = "No ticket was looked at, and there is no cover."
+
+
+def refused(day: Day) -> str:
+    """That the file is refused, and by what."""
+    assert day.refusal is not None
+    return f"the day file is refused by {refusal(day.refusal)}"
+
+
 def outcome(event: Event) -> str:
     """What became of a ticket."""
     if event.refusal:

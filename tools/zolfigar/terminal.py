@@ -152,8 +152,7 @@ def equation(day: Day, number: int, style: Style) -> Iterator[str]:
 
 def refused(day: Day, problems: Sequence[str], style: Style) -> Iterator[str]:
     """A file that was turned back."""
-    assert day.refusal is not None
-    yield style(f"{day.name}: ", "head") + style(f"the day file is refused by {telling.refusal(day.refusal)}", "back")
-    yield "No ticket was looked at, and there is no cover."
+    yield style(f"{day.name}: ", "head") + style(telling.refused(day), "back")
+    yield telling.NOT_LOOKED_AT
     if problems:
         yield from verdict(problems, style)

@@ -48,7 +48,7 @@ class TextError(files.Failed):
     begins_with_place = True
 
     def __init__(self, name: str, mistakes: Iterable[Mistake]) -> None:
-        ordered = sorted(mistakes, key=lambda m: (m.line, m.column))
+        name, ordered = files.shown(name), sorted(mistakes, key=lambda m: (m.line, m.column))
         shown = [f"{name}:{m.line}:{m.column}: {m.message}" for m in ordered[:MOST_SHOWN]]
         if len(ordered) > MOST_SHOWN:
             shown.append(f"{name}: errors that are not shown: {len(ordered) - MOST_SHOWN}")
@@ -135,7 +135,7 @@ def quoted(word: str | None) -> str:
     if word is None:
         return "the line's end"
     cut = word if len(word) <= MOST_QUOTED else word[:MOST_QUOTED] + ".."
-    return '"' + "".join(c if c.isprintable() else c.encode("unicode_escape").decode() for c in cut) + '"'
+    return f'"{files.shown(cut)}"'
 
 
 def expected(what: str, word: str) -> Wrong:

@@ -4,11 +4,12 @@ A name is used where something that is needed speaks of it. Needed from the star
 exported functions, the `..-spec` of a Proof.antt), what a document names between backticks, the names that a must-fail edit
 writes, and of a proof file that the README names (`Cases.antt`) all that is `pub`. Fields and constructors are not looked at."""
 
-import argparse
 import re
 from collections.abc import Iterator, Sequence
 from pathlib import Path
 from typing import NamedTuple
+
+from . import command_line
 
 ROOT = Path(__file__).resolve().parent.parent.parent
 WHAT = "Lists names of the crates that are defined and never used, imported and not used, or pub for their own file alone."
@@ -258,7 +259,7 @@ def listed(root: Path) -> list[Found]:
 
 
 def main(arguments: Sequence[str] | None = None) -> int:
-    argparse.ArgumentParser(prog="unused", description=WHAT).parse_args(arguments)
+    command_line.Parser(prog="unused", description=WHAT).parse_args(arguments)
     for path, line, name, why in listed(ROOT):
         print(f"{path}:{line}: {name}: {why}")
     return 0

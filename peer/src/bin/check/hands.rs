@@ -4,16 +4,18 @@ use crate::inputs::{case, Case};
 use crate::inputs_tally::InputsTally;
 use crate::program::Program;
 use crate::reduce::reduce_list;
+use crate::verdict::{Found, Same};
 use crate::Options;
 use peer::handing::Input;
 use std::io;
 
 const DEFAULT_INPUTS: u64 = 20_000;
+/// So many tickets meet everything, with each of 78 seeds.
+const ENOUGH_INPUTS: u64 = 20_000;
 /// Cases that go through the program at once.
 const BATCH: u64 = 64;
 
-/// True if all cases were the same and everything was met.
-pub fn check(options: &Options, program: &Program) -> io::Result<bool> {
+pub fn check(options: &Options, program: &Program) -> io::Result<Found> {
     let most = options.inputs.unwrap_or(DEFAULT_INPUTS);
     let mut tally = InputsTally::new();
     let mut number = options.first;
@@ -21,16 +23,15 @@ pub fn check(options: &Options, program: &Program) -> io::Result<bool> {
         let cases = some_cases(options.seed, number, most - tally.inputs);
         if let Some(at) = first_differing(program, &cases)? {
             show_difference(options, program, number + at as u64, &cases[at])?;
-            return Ok(false);
+            return Ok(Found::Differs("case"));
         }
         cases.iter().for_each(|case| tally.case(case));
         number += cases.len() as u64;
     }
-    let missing = tally.print();
-    for name in &missing {
-        println!("never met: {name}");
-    }
-    Ok(missing.is_empty())
+    let lacks = tally.print();
+    lacks.print();
+    let compared = format!("{} tickets one by one", tally.inputs);
+    Ok(Found::Same(Same { compared, count: tally.inputs, enough: ENOUGH_INPUTS, unit: "tickets", lacks }))
 }
 
 /// The cases from a number on, until they have enough inputs or are a batch.

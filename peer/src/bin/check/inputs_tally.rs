@@ -2,6 +2,7 @@
 
 use crate::inputs::Case;
 use crate::tally::print_row;
+use crate::verdict::Lacks;
 use peer::book::{Answer, Book};
 use peer::handing::{open, status_word, Input};
 use peer::report::{BUFFER_LEN, REPORT_LEN};
@@ -154,19 +155,19 @@ impl InputsTally {
     }
 
     /// Prints the table and gives the names of what was never met.
-    pub fn print(&self) -> Vec<String> {
-        let mut missing = Vec::new();
+    pub fn print(&self) -> Lacks {
+        let mut lacks = Lacks::default();
         println!("\ncases {}, tickets handed in one by one {}", self.cases, self.inputs);
         for refusal in (0..23).filter(|refusal| *refusal == 0 || *refusal > 5) {
             let name = if refusal == 0 { "accepted".to_string() } else { format!("refusal {refusal}") };
-            print_row(&name, self.answers[refusal], &mut missing);
+            print_row(&name, self.answers[refusal], &mut lacks);
         }
         for kind in 1..12 {
-            print_row(&format!("accepted of kind {kind}"), self.kinds[kind], &mut missing);
+            print_row(&format!("accepted of kind {kind}"), self.kinds[kind], &mut lacks);
         }
         for name in NAMES {
-            print_row(name, self.names[name], &mut missing);
+            print_row(name, self.names[name], &mut lacks);
         }
-        missing
+        lacks
     }
 }

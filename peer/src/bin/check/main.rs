@@ -15,6 +15,7 @@ mod random;
 mod reduce;
 mod setup;
 mod tally;
+mod verdict;
 
 use damage::FAULTS;
 use days::Style;
@@ -26,12 +27,14 @@ use std::path::{Path, PathBuf};
 use std::process::ExitCode;
 use std::time::{Duration, Instant};
 use tally::Tally;
+use verdict::{Found, Same};
 
 const USAGE: &str =
     "usage: check [PROGRAM] [--hands PROGRAM] [--days N] [--inputs N] [--seed S] [--first N] [--seconds T] [--out DIR]
        check --write DIR [--days N] [--seed S]
 Runs random days through PROGRAM and through this book, compares all lines and prints what was met; then the same of random
-tickets that are handed in one by one, each with a buffer of its own, if there is a program for these.
+tickets that are handed in one by one, each with a buffer of its own, if there is a program for these. What is never met fails
+the check from 10000 days and from 20000 tickets one by one on. The last line is the verdict.
   --hands PROGRAM  the program that hands tickets in one by one
   --days N         as many days (default 20000, or without end if there are seconds)
   --inputs N       at least so many tickets one by one, in whole cases (default 20000); with 0 none
@@ -42,6 +45,9 @@ tickets that are handed in one by one, each with a buffer of its own, if there i
   --write DIR      writes full working days there and compares nothing";
 
 const DEFAULT_DAYS: u64 = 20_000;
+/// So many days meet everything. The rarest is a ticket with 544 reports: 24 of it in 20,000 days, and none in 4,000 with one seed
+/// in 76.
+const ENOUGH_DAYS: u64 = 10_000;
 /// Days that go through the program at once.
 const BATCH: u64 = 250;
 /// One day in so many has a fault in its file.
@@ -60,6 +66,10 @@ struct Options {
 }
 
 fn main() -> ExitCode {
+    if std::env::args().skip(1).any(|word| word == "--help" || word == "-h") {
+        println!("{USAGE}");
+        return ExitCode::SUCCESS;
+    }
     let Some(options) = options(std::env::args().skip(1)) else {
         eprintln!("{USAGE}");
         return ExitCode::from(2);
@@ -112,13 +122,18 @@ fn options(mut arguments: impl Iterator<Item = String>) -> Option<Options> {
     Some(options)
 }
 
-/// True if all was the same and everything was met, by the programs that there are.
+/// True if all was the same and what has to be met was, by the programs that there are. The last line says it.
 fn check_both(options: &Options, days: Option<&Path>, hands: Option<&Path>) -> io::Result<bool> {
     let program = |path: &Path| Program { path: path.into() };
-    let days_are_fine = days.map_or(Ok(true), |path| check(options, &program(path)))?;
-    let hands = hands.filter(|_| days_are_fine && options.inputs != Some(0));
-    let hands_are_fine = hands.map_or(Ok(true), |path| hands::check(options, &program(path)))?;
-    Ok(days_are_fine && hands_are_fine)
+    let mut found = Vec::new();
+    if let Some(path) = days {
+        found.push(check(options, &program(path))?);
+    }
+    if let Some(path) = hands.filter(|_| found.iter().all(Found::is_fine) && options.inputs != Some(0)) {
+        found.push(hands::check(options, &program(path))?);
+    }
+    println!("\n{}", verdict::line(&found));
+    Ok(found.iter().all(Found::is_fine))
 }
 
 /// The file of a day, and the number of its fault if it has one.
@@ -138,8 +153,7 @@ fn own_text(file: &[u8]) -> Vec<u8> {
     text
 }
 
-/// True if all days were the same and everything was met.
-fn check(options: &Options, program: &Program) -> io::Result<bool> {
+fn check(options: &Options, program: &Program) -> io::Result<Found> {
     let end = options.seconds.map(|seconds| Instant::now() + Duration::from_secs(seconds));
     let most = options.days.unwrap_or(if end.is_some() { u64::MAX } else { DEFAULT_DAYS });
     let last = options.first.saturating_add(most);
@@ -150,7 +164,7 @@ fn check(options: &Options, program: &Program) -> io::Result<bool> {
         let batch = number..last.min(number + BATCH);
         if let Some(differing) = check_batch(options, program, batch.clone(), &mut tally)? {
             show_difference(options, program, differing)?;
-            return Ok(false);
+            return Ok(Found::Differs("day"));
         }
         number = batch.end;
         if shows_progress {
@@ -160,11 +174,10 @@ fn check(options: &Options, program: &Program) -> io::Result<bool> {
     if shows_progress {
         eprintln!();
     }
-    let missing = tally.print();
-    for name in &missing {
-        println!("never met, or met where it can't be: {name}");
-    }
-    Ok(missing.is_empty())
+    let lacks = tally.print();
+    lacks.print();
+    let compared = format!("{} days with {} tickets", tally.days, tally.tickets);
+    Ok(Found::Same(Same { compared, count: tally.days, enough: ENOUGH_DAYS, unit: "days", lacks }))
 }
 
 /// The number of the first day that differs, if one does.

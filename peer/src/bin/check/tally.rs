@@ -1,6 +1,7 @@
 //! Counts what the days met: refusals, accepted kinds, report codes, steps and faults of files.
 
 use crate::damage::FAULTS;
+use crate::verdict::Lacks;
 use peer::book::{Answer, Book, Cover, Recall, Status, WAIT};
 use peer::dayfile::{DayFile, MOST_OPENING};
 use peer::report::{reports, Report, BUFFER_LEN, MOST_REPORTS};
@@ -298,32 +299,32 @@ impl Tally {
     }
 
     /// Prints the table and gives the names of what was never met, or met where it can't be.
-    pub fn print(&self) -> Vec<String> {
-        let mut missing = Vec::new();
+    pub fn print(&self) -> Lacks {
+        let mut lacks = Lacks::default();
         println!("days {}, tickets {}\n", self.days, self.tickets);
         println!("files");
         for (refusal, &count) in self.files.iter().enumerate() {
             let name = if refusal == 0 { "read".to_string() } else { format!("refusal {refusal}") };
-            print_row(&name, count, &mut missing);
+            print_row(&name, count, &mut lacks);
         }
-        self.print_answers(&mut missing);
+        self.print_answers(&mut lacks);
         println!("\nreports by code");
         for (code, &count) in self.reports.iter().enumerate().skip(1) {
-            print_row(&format!("code {code}"), count, &mut missing);
+            print_row(&format!("code {code}"), count, &mut lacks);
         }
         println!("\nsteps");
         for name in STEPS {
-            print_row(name, self.steps[name], &mut missing);
+            print_row(name, self.steps[name], &mut lacks);
         }
         println!("\nfiles with a fault or at an edge");
         for (fault, &count) in FAULTS.iter().zip(&self.faults) {
             let outcome = if fault.refusal == 0 { "read".to_string() } else { format!("refusal {}", fault.refusal) };
-            print_row(&format!("{}, {outcome}", fault.name), count, &mut missing);
+            print_row(&format!("{}, {outcome}", fault.name), count, &mut lacks);
         }
-        missing
+        lacks
     }
 
-    fn print_answers(&self, missing: &mut Vec<String>) {
+    fn print_answers(&self, lacks: &mut Lacks) {
         let heads: Vec<String> = (1..12).map(|kind| format!("{:>9}", format!("kind {kind}"))).collect();
         println!("\n{:<11}{:>10}{}{:>9}", "tickets", "all", heads.concat(), "other");
         for refusal in (0..23).filter(|refusal| *refusal == 0 || *refusal > 6) {
@@ -334,16 +335,21 @@ impl Tally {
             };
             let cells: String = (1..12).chain([0]).map(cell).collect();
             println!("{name:<11}{:>10}{cells}", self.answers[refusal].iter().sum::<u64>());
-            let is_wrong = |kind: &usize| (self.answers[refusal][*kind] == 0) == kinds_with(refusal).contains(kind);
-            missing.extend((0..12).filter(is_wrong).map(|kind| format!("{name} of kind {kind}")));
+            for kind in 0..12 {
+                match (self.answers[refusal][kind], kinds_with(refusal).contains(&kind)) {
+                    (0, true) => lacks.never_met.push(format!("{name} of kind {kind}")),
+                    (1.., false) => lacks.wrongly_met.push(format!("{name} of kind {kind}")),
+                    _ => (),
+                }
+            }
         }
     }
 }
 
-pub fn print_row(name: &str, count: u64, missing: &mut Vec<String>) {
+pub fn print_row(name: &str, count: u64, lacks: &mut Lacks) {
     println!("  {name:<62}{count:>10}");
     if count == 0 {
-        missing.push(name.to_string());
+        lacks.never_met.push(name.to_string());
     }
 }
 

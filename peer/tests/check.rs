@@ -1,0 +1,55 @@
+//! The comparison as it is run: its verdict is its last line, and what few days don't meet is told and doesn't fail it.
+
+use std::process::{Command, Output};
+
+const HANDS: &str = env!("CARGO_BIN_EXE_hands");
+
+fn check(words: &[&str]) -> Output {
+    Command::new(env!("CARGO_BIN_EXE_check")).args(words).output().expect("the comparison runs")
+}
+
+/// The exit status, how many things were never met, and the last line.
+fn verdict(words: &[&str]) -> (Option<i32>, usize, String) {
+    let output = check(words);
+    let text = String::from_utf8(output.stdout).expect("it prints UTF-8");
+    let never = text.lines().filter(|line| line.starts_with("never met: ")).count();
+    (output.status.code(), never, text.lines().last().unwrap_or_default().to_string())
+}
+
+/// The peer's own program, so that nothing differs.
+#[test]
+fn few_tickets_need_not_meet_it_all() {
+    let (status, never, line) = verdict(&["--hands", HANDS, "--inputs", "50"]);
+    assert!(never > 10);
+    let due =
+        format!("tickets one by one, all the same; {never} things never met, listed above, as fewer than 20000 tickets may");
+    assert!(line.starts_with("peer: ") && line.ends_with(&due), "{line}");
+    assert_eq!(status, Some(0));
+}
+
+#[test]
+fn enough_tickets_meet_it_all() {
+    let (status, never, line) = verdict(&["--hands", HANDS]);
+    assert!(line.starts_with("peer: ") && line.ends_with(" tickets one by one, all the same; everything met"), "{line}");
+    assert_eq!((status, never), (Some(0), 0));
+}
+
+#[test]
+fn a_program_that_differs_fails() {
+    let folder = std::env::temp_dir().join(format!("peer-check-{}", std::process::id()));
+    let out = folder.to_str().expect("the folder's name is UTF-8");
+    let (status, _, line) = verdict(&["/bin/true", "--days", "1", "--out", out]);
+    assert_eq!((status, line.as_str()), (Some(1), "peer: FAILED: a day differs"));
+    let (status, _, line) = verdict(&["--hands", "/bin/true", "--inputs", "1", "--out", out]);
+    assert_eq!((status, line.as_str()), (Some(1), "peer: FAILED: a case differs"));
+    std::fs::remove_dir_all(folder).expect("what differs was written there");
+}
+
+#[test]
+fn help_is_no_mistake() {
+    let output = check(&["--help"]);
+    assert_eq!((output.status.code(), output.stderr.len()), (Some(0), 0));
+    assert!(output.stdout.starts_with(b"usage: check "));
+    let output = check(&["--hlep"]);
+    assert_eq!((output.status.code(), output.stdout.len()), (Some(2), 0));
+}
