@@ -7,10 +7,14 @@ import unittest
 from zolfigar import unused
 
 FILES = {
-    "README.md": "`quoted` is what it proves, and `Cases.antt` has cases. `open(file)` is for callers.\n",
+    "README.md": "`quoted` is what it proves. `open(file)` is for callers.\n",
+    "docs/ARCHITECTURE.md": "`Cases.antt` has cases.\n",
     "crates/low/specs/Terms.antt": """-- Terms. `never` stands in a comment: never.
 use Prim.Native.Nat.{ℕ, _+_, _<_}
-use lib.ListN.{length, take as first}
+use lib.ListN.{
+  length,
+  take as first
+}
 use lib.Dec as dec
 
 abbrev pub twice : ℕ → ℕ
@@ -129,10 +133,10 @@ class Unused(unittest.TestCase):
             ("crates/low/proofs/Cases.antt", 9, "other", never),
             ("crates/low/specs/Terms.antt", 2, "_<_", vain),
             ("crates/low/specs/Terms.antt", 3, "length", vain),
-            ("crates/low/specs/Terms.antt", 4, "dec", vain),
-            ("crates/low/specs/Terms.antt", 9, "inner", own),
-            ("crates/low/specs/Terms.antt", 12, "never", never),
-            ("crates/low/specs/Terms.antt", 15, "Pair", own),
+            ("crates/low/specs/Terms.antt", 7, "dec", vain),
+            ("crates/low/specs/Terms.antt", 12, "inner", own),
+            ("crates/low/specs/Terms.antt", 15, "never", never),
+            ("crates/low/specs/Terms.antt", 18, "Pair", own),
             ("crates/low/src/lib.rt", 3, "Size", vain),
             ("crates/low/src/lib.rt", 4, "size_of", on),
             ("crates/low/src/lib.rt", 5, "handed_on", on),

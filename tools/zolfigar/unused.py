@@ -2,7 +2,7 @@
 
 A name is used where something that is needed speaks of it. Needed from the start are: what the toolchain asks for (programs,
 exported functions, the `..-spec` of a Proof.antt), what a document names between backticks, the names that a must-fail edit
-writes, and of a proof file that the README names (`Cases.antt`) all that is `pub`. Fields and constructors are not looked at."""
+writes, and of a proof file that README.md or docs/ARCHITECTURE.md names (`Cases.antt`) all that is `pub`. Fields and constructors are not looked at."""
 
 import re
 from collections.abc import Iterator, Sequence
@@ -16,8 +16,8 @@ WHAT = "Lists names of the crates that are defined and never used, imported and 
 
 STRING = re.compile(r'"(?:[^"\\\n]|\\.)*"')
 COMMENT = re.compile(r"(?m)(?<!\S)(?:--|//)(?: .*)?$")
-USE = re.compile(r"(?m)^(?:pub |ghost )?use .*$")
-PROOF_USE = re.compile(r"(?m)^(?:ghost )?use (\S+?)(?:\.\{(.*)\}| as (\S+?));?$")
+USE = re.compile(r"(?m)^(?:pub |ghost )?use [^\n{]*(?:\{[^}]*\})?.*$")
+PROOF_USE = re.compile(r"(?m)^(?:ghost )?use (\S+?)(?:\.\{([^}]*)\}| as (\S+?));?$")
 CODE_USE = re.compile(r"(?m)^(pub )?use ([\w:]+?)(?: as (\w+))?;$")
 DEFINED = re.compile(r"(?m)^( *)((?:abbrev |unfoldable |pub )*)(?:(?:record|data) (\S+) |([^\s(){},;.]+) (?=:))")
 LINE = re.compile(r"(?m)^( *)(\S+)")
@@ -138,7 +138,7 @@ class Source:
             if use[3]:
                 self.aliases[use[3]] = module_of(use[1])
                 yield Import(self.line(use.start()), use[3])
-            for part in filter(None, (use[2] or "").split(", ")):
+            for part in filter(None, (part.strip() for part in (use[2] or "").split(","))):
                 name, _, own = part.partition(" as ")
                 self.names[own or name] = Name(module_of(use[1]), name)
                 yield Import(self.line(use.start()), own or name)
@@ -211,11 +211,12 @@ class Crates:
 
     def asked(self) -> set[Name]:
         """The items that are needed from the start."""
-        readme, *others = (
-            "\n".join(QUOTED.findall(path.read_text(encoding="utf-8")))
+        pages = {
+            path.name: "\n".join(QUOTED.findall(path.read_text(encoding="utf-8")))
             for path in (self.root / "README.md", *sorted(self.root.glob("docs/*.md")))
-        )
-        named, whole = said("\n".join([readme, *others])), set(re.findall(r"[\w-]+\.antt", readme))
+        }
+        named = said("\n".join(pages.values()))
+        whole = set(re.findall(r"[\w-]+\.antt", pages["README.md"] + "\n" + pages.get("ARCHITECTURE.md", "")))
         asked = set().union(*(self.meant(source, source.edits) for source in self.sources.values()))
         for item in self.items.values():
             in_whole = "proofs" in item.path.parts and item.path.name in whole
