@@ -194,7 +194,6 @@ class Browser:
     def tree(self):
         """What a screen reader is given: the nodes by their ids, each with its role, its name and its children's ids. A node
         that is left out stands here without a role."""
-        self.settle()
         value = lambda node, field: "" if node["ignored"] else node.get(field, {}).get("value", "")
         nodes = self.call("Accessibility.getFullAXTree")["nodes"]
         return {node["nodeId"]: (value(node, "role"), value(node, "name"), node.get("childIds", [])) for node in nodes}

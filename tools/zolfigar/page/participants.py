@@ -186,6 +186,10 @@ def participants(view: View) -> Element:
     if not view.day.participants:
         return section("participants", "Participants", node("p", "There are none."))
     parts = [participant_part(view, participant) for participant in view.day.participants]
-    note = node("p", "Each underlined figure leads to the ticket behind it, and on a wide screen each step of a chart.", class_="soft")
+    note = node(
+        "p",
+        "Each underlined figure leads to the ticket behind it, and on a wide screen each step of a chart.",
+        class_="soft",
+    )
     choice = [*axis_choice(), areas_legend()]
     return section("participants", "Participants", closing(view.day), note, *choice, node("div", *parts, class_="list"))
