@@ -39,7 +39,9 @@ class Tree:
             yield from self.below(child)
 
     def region(self, name):
-        return next(node for node, (role, called, _) in self.nodes.items() if (role, called) == ("region", name))
+        found = [node for node, (role, called, _) in self.nodes.items() if (role, called) == ("region", name)]
+        assert len(found) == 1, f"{len(found)} regions {name}"
+        return found[0]
 
     def is_fold(self, node):
         """Whether it is a group that its first line, which unfolds it, stands for."""
@@ -253,7 +255,9 @@ class Keys(Access):
     def test_the_filter_is_within_five_tab_stops(self):
         for name in ("tampered", "full"):
             self.open(name)
-            presses = self.tabs(5).index("Skip to the filter") + 1
+            stops = self.tabs(5)
+            self.assertIn("Skip to the filter", stops, name)
+            presses = stops.index("Skip to the filter") + 1
             self.open(name)
             self.browser.press(*["Tab"] * presses, "Enter")
             self.browser.settle()
