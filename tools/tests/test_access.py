@@ -186,7 +186,8 @@ class Contrast(Access):
 # The targets that are too small: below 24 pixels, and with another target in the circle of 24 pixels around their middle, or that
 # circle across another's. A link in a line of text may be as high as its line.
 SMALL = """(() => {
-    const hit = at => at.closest("svg") ? [...at.querySelectorAll("rect, circle, path, text")].some(part => getComputedStyle(part).pointerEvents !== "none")
+    const shapes = at => [...at.querySelectorAll("rect, circle, path, text")];
+    const hit = at => at.closest("svg") ? shapes(at).some(part => getComputedStyle(part).pointerEvents !== "none")
         : getComputedStyle(at).pointerEvents !== "none";
     const box = at => {
         const all = [at, ...(at.type === "radio" ? at.labels : [])].map(part => part.getBoundingClientRect());
