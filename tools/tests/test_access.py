@@ -222,12 +222,12 @@ SMALL = """(() => {
 class Targets(Access):
     def test_targets_on_a_phone_are_not_too_small(self):
         self.browser.size(360, 800)
-        for name in ("tampered", "refused", "big", "full"):
+        for name in ("tampered", "big", "full"):
             self.open(name)
             self.js(UNFOLD)
             found = self.js(SMALL)
             self.assertEqual(found["bad"], [], name)
-            self.assertGreaterEqual(found["count"], 0 if name == "refused" else 20, name)
+            self.assertGreater(found["count"], 500, name)
 
     def test_a_small_target_is_found(self):
         self.browser.size(360, 800)
