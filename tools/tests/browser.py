@@ -33,7 +33,10 @@ NAMED_KEYS = {
     "Tab": 9,
     "ArrowDown": 40,
     "ArrowUp": 38,
+    "ArrowLeft": 37,
+    "ArrowRight": 39,
 }
+SHIFT = 8
 
 
 class BrowserError(Exception):
@@ -188,6 +191,13 @@ class Browser:
         asked = (e["params"]["request"]["url"] for e in self.events if e.get("method") == "Network.requestWillBeSent")
         return [address for address in asked if address != own and not address.startswith("data:")]
 
+    def tree(self):
+        """What a screen reader is given: the nodes by their ids, each with its role, its name and its children's ids. A node
+        that is left out stands here without a role."""
+        value = lambda node, field: "" if node["ignored"] else node.get(field, {}).get("value", "")
+        nodes = self.call("Accessibility.getFullAXTree")["nodes"]
+        return {node["nodeId"]: (value(node, "role"), value(node, "name"), node.get("childIds", [])) for node in nodes}
+
     def size(self, width, height, scale=1):
         metrics = {"width": width, "height": height, "deviceScaleFactor": scale, "mobile": False}
         self.call("Emulation.setDeviceMetricsOverride", **metrics)
@@ -203,10 +213,10 @@ class Browser:
     def script_off(self, off):
         self.call("Emulation.setScriptExecutionDisabled", value=off)
 
-    def press(self, *keys):
+    def press(self, *keys, modifiers=0):
         for key in keys:
             number = NAMED_KEYS.get(key, ord(key[0].upper()))
-            code = {"key": key, "code": key, "windowsVirtualKeyCode": number}
+            code = {"key": key, "code": key, "windowsVirtualKeyCode": number, "modifiers": modifiers}
             text = {"Enter": "\r"}.get(key) or (key if len(key) == 1 else None)
             self.call("Input.dispatchKeyEvent", type="keyDown", **code, **({"text": text} if text else {}))
             self.call("Input.dispatchKeyEvent", type="keyUp", **code)

@@ -23,7 +23,7 @@ class Text(unittest.TestCase):
 
     def test_a_name_that_is_no_text_can_be_written(self):
         day = history.read("x\udcff", *example("case-d")[1:])
-        self.assertIn("<h1>x?</h1>", page.page(day).encode().decode())
+        self.assertIn(">x?</h1>", page.page(day).encode().decode())
 
 
 def tampered():

@@ -45,7 +45,7 @@ class Rows(unittest.TestCase):
 
     def test_the_help_has_all_keys(self):
         keys = [words_of(key) for key in tickets.help_box().iter("kbd")]
-        self.assertEqual(keys, ["/", "Esc", "j, k", "Enter", "Tab", "?"])
+        self.assertEqual(keys, ["/", "Esc", "j, k", "Tab", "\u2193, \u2191", "\u2192, \u2190", "Enter", "?"])
 
 
 class Seen(pages.InBrowser):

@@ -48,8 +48,9 @@ def title_of(day: Day, problems: Sequence[str]) -> str:
 
 def whole(day: Day, problems: Sequence[str]) -> list[Element]:
     view = View(day)
-    main = node("main", participants.participants(view), orders.orders(view), tickets.tickets(view))
-    return [head.head(day, problems), head.bar(day), main, tickets.help_box()]
+    sections = participants.participants(view), orders.orders(view), tickets.tickets(view)
+    main = node("main", *sections, aria_labelledby="day")
+    return [head.skips(day), head.head(day, problems), head.bar(day), main, tickets.help_box()]
 
 
 def page(day: Day) -> str:

@@ -61,12 +61,26 @@ def refused(day: Day, problems: Sequence[str]) -> list[Element]:
     told = node("p", node("strong", "The file is refused."), f" Refusal {telling.refusal(day.refusal)}.")
     rest = node("p", "The book is empty: it has no participants, and no ticket was looked at.")
     boxes = [node("div", told, rest, class_="verdict bad")] + ([verdict(day, problems)] if problems else [])
-    return [node("header", node("h1", shown_name(day)), class_="head"), node("main", *boxes, id="top")]
+    header = node("header", title(day), class_="head", aria_labelledby="day")
+    return [header, node("main", *boxes, id="top", aria_labelledby="day")]
 
 
 def shown_name(day: Day) -> str:
     """The day's name. What can't be written as UTF-8 is replaced."""
     return day.name.encode("utf-8", "replace").decode()
+
+
+def title(day: Day) -> Element:
+    """The day's name, which names the page's landmarks too."""
+    return node("h1", shown_name(day), id="day")
+
+
+def skips(day: Day) -> Element:
+    """The first tab stops, unseen until they have the focus. Without the script there is no filter to lead to."""
+    links = [link("participants", "Skip to the participants", class_="skip")]
+    if day.events:
+        links.append(link("text", "Skip to the filter", class_="skip", id="to-filter", hidden=True))
+    return node("div", *links, class_="skips")
 
 
 def bar(day: Day) -> Element:
@@ -79,4 +93,5 @@ def bar(day: Day) -> Element:
 
 def head(day: Day, problems: Sequence[str]) -> Element:
     summary = node("p", telling.summary(day) + ".", class_="summary")
-    return node("header", node("h1", shown_name(day)), summary, verdict(day, problems), class_="head", id="top")
+    parts = title(day), summary, verdict(day, problems)
+    return node("header", *parts, class_="head", id="top", aria_labelledby="day")

@@ -13,9 +13,9 @@ from ..words import FLAGS, KINDS, LIMIT
 from .markup import node, percent
 
 LIMIT_AT = 0.45  # where the 20 second limit lies; to the left time is linear, to the right logarithmic
-CLOSE = 0.058  # marks nearer to each other than this part of the width lie below each other
+CLOSE = 0.081  # marks nearer to each other than this part of the width lie below each other: 24 pixels on a phone
 MOST_LANES = 4
-LANE, TOP = 19, 11  # pixels from lane to lane, and above the first
+LANE, TOP = 24, 12  # pixels from lane to lane, and above the first
 LATER = (
     (60, "1 min"),
     (600, "10 min"),

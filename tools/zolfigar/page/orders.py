@@ -78,6 +78,6 @@ def orders(view: View) -> Element:
     header[0][-1].append(lives.life_axis(view.life))
     rows = [order_row(view, order) for order in view.day.orders]
     note = "From the order, at the left, to what came of it. Time is linear up to the limit of 20 seconds, and then logarithmic."
-    table = node("table", header, node("tbody", *rows), class_="orders")
+    table = node("table", header, node("tbody", *rows), class_="orders", aria_labelledby="orders-title")
     grids = lives.life_grids(view.life)
     return section("orders", "Orders", node("p", note, class_="soft"), signs_legend(), grids, table)

@@ -1,4 +1,4 @@
-// The filter, the keys, and the place that the address names. Without this script the page is the same, all of it shown.
+// The filter, the keys, the tab stops, and the place that the address names. Without this script the page is the same, all of it shown.
 "use strict";
 
 const form = document.getElementById("filter");
@@ -39,6 +39,12 @@ function filter() {
     const wanted = chosen();
     for (const row of rows) row.classList.toggle("out", !matches(row, wanted));
     count();
+    const table = rows[0].closest("table");
+    if (table.stop && !isShown(table.stop)) stopAt(rows.find(isShown));
+}
+
+function isShown(row) {
+    return row === current || !row.classList.contains("out");
 }
 
 function clear() {
@@ -70,6 +76,48 @@ function focusOn(row) {
     row.focus({ preventScroll: true });
 }
 
+// Tab stops: of each table the links and folds of one row, of each chart one step. The arrow keys go to the others.
+const GROUPS = ".chart > svg, table";
+const PARTS = ".chart a, tbody tr, tfoot tr";
+
+function linksOf(part) {
+    return part.matches("a") ? [part] : [...part.querySelectorAll("a, summary")];
+}
+
+function partsOf(group) {
+    return [...group.querySelectorAll(PARTS)].filter((part) => linksOf(part).length);
+}
+
+function allow(part, tabIndex) {
+    for (const link of linksOf(part)) link.setAttribute("tabindex", tabIndex);
+}
+
+function stopAt(part) {
+    if (!part || !linksOf(part).length) return;
+    const group = part.closest(GROUPS);
+    if (group.stop) allow(group.stop, -1);
+    allow(part, 0);
+    group.stop = part;
+}
+
+function setStops() {
+    for (const group of document.querySelectorAll(GROUPS)) {
+        const parts = partsOf(group);
+        for (const part of parts) allow(part, -1);
+        stopAt(parts.find(isShown));
+    }
+    document.addEventListener("focusin", (event) => stopAt(event.target.closest(PARTS)));
+}
+
+function step(part, by) {
+    const parts = partsOf(part.closest(GROUPS));
+    const next = parts[parts.indexOf(part) + by];
+    if (!next) return;
+    if (next.matches("tr")) focusOn(next);
+    else next.focus({ preventScroll: true });
+    next.scrollIntoView({ block: "nearest" });
+}
+
 // The address follows the keys when they rest, since browsers allow only so many changes of it.
 function nameSoon(row) {
     clearTimeout(naming);
@@ -77,7 +125,7 @@ function nameSoon(row) {
 }
 
 function go(by) {
-    const shown = rows.filter((row) => row === current || !row.classList.contains("out"));
+    const shown = rows.filter(isShown);
     const at = shown.indexOf(document.activeElement.closest(".tickets tbody tr") ?? current);
     const row = shown[at < 0 ? 0 : at + by];
     if (!row) return;
@@ -100,14 +148,21 @@ const KEYS = {
     "k": () => go(-1),
     "Escape": clear,
 };
-const LIST_KEYS = { "ArrowDown": () => go(1), "ArrowUp": () => go(-1) };
+const ROW_KEYS = { "ArrowDown": 1, "ArrowUp": -1 };
+const CHART_KEYS = { "ArrowRight": 1, "ArrowLeft": -1 };
 
 function act(event) {
     const at = event.target;
     if (event.ctrlKey || event.altKey || event.metaKey || document.querySelector("dialog[open]")) return undefined;
     if (at.matches("[type=search], select")) return event.key === "Escape" ? clear : undefined;
     if (event.key === "Enter" && rows.includes(at)) return () => toggle(at);
-    return KEYS[event.key] ?? (at.closest(".tickets tbody") ? LIST_KEYS[event.key] : undefined);
+    return KEYS[event.key] ?? along(at.closest(PARTS), event.key);
+}
+
+function along(part, key) {
+    const by = part && (part.matches("tr") ? ROW_KEYS : CHART_KEYS)[key];
+    if (!by) return undefined;
+    return rows.includes(part) ? () => go(by) : () => step(part, by);
 }
 
 function onKey(event) {
@@ -131,6 +186,7 @@ function begin() {
     const help = document.getElementById("help");
     const keys = document.getElementById("keys");
     keys.hidden = false;
+    document.getElementById("to-filter").hidden = false;
     keys.addEventListener("click", () => help.showModal());
     document.getElementById("close").addEventListener("click", () => help.close());
     document.addEventListener("keydown", onKey);
@@ -139,6 +195,14 @@ function begin() {
 
 document.documentElement.classList.add("js");
 if (form) begin();
+// When it is loaded all of the page is laid out, and so is there for those who hear it.
+function complete() {
+    document.documentElement.classList.add("whole");
+    if (form) setStops();
+    current?.scrollIntoView();
+}
+
+addEventListener("load", () => setTimeout(complete));
 addEventListener("beforeprint", forPrint);
 addEventListener("hashchange", arrive);
 if (location.hash) arrive();

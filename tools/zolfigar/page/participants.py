@@ -77,7 +77,8 @@ def equation(view: View, participant: Participant) -> Element:
     rows = [term_row(day, number, term, amount) for term, amount in terms]
     added = sum_row("Cover, added up", euro(total), class_="sum")
     table = node("tbody", *rows, added)
-    return node("table", node("caption", "The cover equation"), table, closed(day, number, total), class_="equation")
+    parts = node("caption", "The cover equation"), table, closed(day, number, total)
+    return node("table", *parts, class_="equation", aria_label=f"Cover equation of {telling.member(day, number)}")
 
 
 def term_row(day: Day, number: int, term: str, amount: int) -> Element:
@@ -138,8 +139,9 @@ def statement(view: View, number: int) -> Element:
     if not rows:
         return node("p", "No ticket moved its cover.", class_="soft")
     header = head_row("Time", "Ticket", "What", "Change#", "Available#", "Reserved#", "Held#")
-    table = node("table", header, node("tbody", *rows), class_="statement")
-    summary = node("summary", f"Statement of {telling.member(view.day, number)}, {counted(len(rows), 'line')}")
+    name = f"Statement of {telling.member(view.day, number)}"
+    table = node("table", header, node("tbody", *rows), class_="statement", aria_label=name)
+    summary = node("summary", f"{name}, {counted(len(rows), 'line')}")
     return node("details", summary, table, open=len(view.day.moves) <= OPEN_LINES)
 
 
@@ -184,6 +186,10 @@ def participants(view: View) -> Element:
     if not view.day.participants:
         return section("participants", "Participants", node("p", "There are none."))
     parts = [participant_part(view, participant) for participant in view.day.participants]
-    note = node("p", "Each step of a chart and each underlined figure leads to the ticket behind it.", class_="soft")
+    note = node(
+        "p",
+        "Each underlined figure leads to the ticket behind it, and on a wide screen each step of a chart.",
+        class_="soft",
+    )
     choice = [*axis_choice(), areas_legend()]
     return section("participants", "Participants", closing(view.day), note, *choice, node("div", *parts, class_="list"))

@@ -111,16 +111,18 @@ def tickets(view: View) -> Element:
         return section("tickets", "Tickets", node("p", "There are none."))
     header = head_row("Ticket", "Time", "What it says", "What became of it", "Reports", "Cover moved")
     rows = [ticket_row(view, event) for event in view.day.events]
-    table = node("table", header, node("tbody", *rows), class_="tickets")
+    table = node("table", header, node("tbody", *rows), class_="tickets", aria_labelledby="tickets-title")
     return section("tickets", "Tickets", filter_form(view), table)
 
 
 KEYS = (
     ("/", "to the filter"),
     ("Esc", "show all tickets again"),
-    ("j, k", "to the next, the previous ticket shown; in the list the arrow keys too"),
-    ("Enter", "on a ticket: unfold or fold its reports and movements"),
-    ("Tab", "through links and figures; Enter follows one, and the browser's back returns"),
+    ("j, k", "to the next, the previous ticket shown"),
+    ("Tab", "through the page: of a table it takes the links of one row, of a chart one step"),
+    ("\u2193, \u2191", "in a table: to the next, the previous row"),
+    ("\u2192, \u2190", "in a chart: to the next, the previous step"),
+    ("Enter", "follows a link, and the browser's back returns; on a ticket: unfold or fold its reports and movements"),
     ("?", "this help"),
 )
 
