@@ -7,7 +7,7 @@
 //
 // The index of TxIds is in locals, lent to the searches and not passed. A TxId gets its row and its link where an order is new, and only
 // there: other verdicts leave every order's TxId (`KeepsName`). All cover together is a local too, changed by what each move changes
-// (`total_with`), so refusal 22 adds up nothing; it is kept over all 32 places (`allOf`), so that a move of nobody needs no case of its
+// (`total_moved`), so refusal 22 adds up nothing; it is kept over all 32 places (`allOf`), so that a move of nobody needs no case of its
 // own, and in a sound book that is the sum over the participants (`all-total`). Held and open debit anywhere are looked for at a cut
 // only, since that looks at every participant.
 use super::Batch;
@@ -217,14 +217,14 @@ pub fn take<'a>(
         let who = first.who;
         let old = b.covers[who];
         let new = cover::moved(how, v.amount, old);
-        total = sums::total_with(total, old, new);
+        total = sums::total_moved(how, v.amount, old, total);
         b.covers[who] = new;
         let second = v.second;
         let how = second.how;
         let who = second.who;
         let old = b.covers[who];
         let new = cover::moved(how, v.amount, old);
-        total = sums::total_with(total, old, new);
+        total = sums::total_moved(how, v.amount, old, total);
         b.covers[who] = new;
 
         // banks are told

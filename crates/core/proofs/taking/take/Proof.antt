@@ -24,9 +24,10 @@
 -- place numbers: After-number-of2
 -- place judged: After-judge
 -- place first: After-moved2
--- place sum: After-total-with
+-- place sum: After-total-moved
+-- place next: After-old2
 -- place second: After-moved3
--- place total: After-total-with2
+-- place total: After-total-moved2
 -- place told: After-put-notices
 -- place carried: After-slice-known6
 -- place opens: After-enum-told3
@@ -200,14 +201,14 @@ take-spec =
     (λ c. suits (to.judged-from-After-first c) .first)
     (λ c κs. suits (to.judged-from-After-old c) .firstRoom)
     (λ c κs. first-sum c)
-    (λ c. let h = suits (to.judged-from-After-total-with c) .first in search needs)
-    (λ c. suits (to.judged-from-After-total-with c) .first)
+    (λ c. let h = suits (to.judged-from-After-total-moved c) .first in search needs)
+    (λ c. suits (to.judged-from-After-total-moved c) .first)
     (λ c. let h = suits (to.judged-from-After-second c) .second in search needs)
     (λ c. suits (to.judged-from-After-second c) .second)
     (λ c κs. second-has c)
     (λ c κs. second-sum c)
-    (λ c. let h = suits (to.judged-from-After-total-with2 c) .second in search needs)
-    (λ c. suits (to.judged-from-After-total-with2 c) .second)
+    (λ c. let h = suits (to.judged-from-After-total-moved2 c) .second in search needs)
+    (λ c. suits (to.judged-from-After-total-moved2 c) .second)
     (λ c κs. let f = suits (to.judged-from-After-put-notices-arg c) in (f .told, f .also, f .number, notices-fit c))
     (λ c. search needs)
     (λ c. search needs)

@@ -107,7 +107,7 @@ module _ (c : at.At-match2-came) where
   pub done : Done txidWords rowBucket (b done-head) (ticket done-head) (done-head .loop .n) (done-head .loop .reports) (c .match2 .b)
       (v j .refusal) (c .match2 .followed) (c .match2 .n)
       (c .match2 .reports) (left .before .loop2 .next) (c .match2 .txids) (c .match2 .heads) (c .match2 .links)
-      (to.total-from-At-match2-came c .total-with2 .result)
+      (to.total-from-At-match2-came c .total-moved2 .result)
   done =
       let w = expired left in
       let is = verdict-is j in

@@ -155,14 +155,14 @@ After-slice-known7 = tie.After-slice-known7 Inv-loop2 μ-loop2 Inv-loop μ-loop
 abbrev pub After-slice-known8 : Type 0
 After-slice-known8 = tie.After-slice-known8 Inv-loop2 μ-loop2 Inv-loop μ-loop
 
+abbrev pub After-total-moved : Type 0
+After-total-moved = tie.After-total-moved Inv-loop2 μ-loop2 Inv-loop μ-loop
+
+abbrev pub After-total-moved2 : Type 0
+After-total-moved2 = tie.After-total-moved2 Inv-loop2 μ-loop2 Inv-loop μ-loop
+
 abbrev pub After-total-of : Type 0
 After-total-of = tie.After-total-of Inv-loop2 μ-loop2 Inv-loop μ-loop
-
-abbrev pub After-total-with : Type 0
-After-total-with = tie.After-total-with Inv-loop2 μ-loop2 Inv-loop μ-loop
-
-abbrev pub After-total-with2 : Type 0
-After-total-with2 = tie.After-total-with2 Inv-loop2 μ-loop2 Inv-loop μ-loop
 
 abbrev pub After-txid : Type 0
 After-txid = tie.After-txid Inv-loop2 μ-loop2 Inv-loop μ-loop

@@ -40,6 +40,9 @@ first-from-After-old2 c = c .before .before .before
 abbrev pub first-from-After-slice-known6 : at.After-slice-known6 → at.After-moved2
 first-from-After-slice-known6 c = c .before .before .before .before .before .before .before .before .before .before .before
 
+abbrev pub first-from-After-total-moved : at.After-total-moved → at.After-moved2
+first-from-After-total-moved c = c .before
+
 abbrev pub freed-from-After-slice-known4 : at.After-slice-known4 → at.After-moved
 freed-from-After-slice-known4 c = c .before .before .before .before
 
@@ -118,11 +121,11 @@ judged-from-After-second c = c .before .before .before .before .before .before .
 abbrev pub judged-from-After-slice-known6 : at.After-slice-known6 → at.After-judge
 judged-from-After-slice-known6 c = c .before .before .before .before .before .before .before .before .before .before .before .before .before .before .before .before
 
-abbrev pub judged-from-After-total-with : at.After-total-with → at.After-judge
-judged-from-After-total-with c = c .before .before .before .before .before .before
+abbrev pub judged-from-After-total-moved : at.After-total-moved → at.After-judge
+judged-from-After-total-moved c = c .before .before .before .before .before .before
 
-abbrev pub judged-from-After-total-with2 : at.After-total-with2 → at.After-judge
-judged-from-After-total-with2 c = c .before .before .before .before .before .before .before .before .before .before
+abbrev pub judged-from-After-total-moved2 : at.After-total-moved2 → at.After-judge
+judged-from-After-total-moved2 c = c .before .before .before .before .before .before .before .before .before .before
 
 abbrev pub judged-from-Then4 : at.Then4 → at.After-judge
 judged-from-Then4 c = c .before .before
@@ -153,6 +156,9 @@ late-from-After-slice-known5 c = c .before .before .before .before
 
 abbrev pub late-told-from-After-slice-known5 : at.After-slice-known5 → at.After-put-answer2
 late-told-from-After-slice-known5 c = c .before .before
+
+abbrev pub next-from-After-moved3 : at.After-moved3 → at.After-old2
+next-from-After-moved3 c = c .before
 
 abbrev pub number-from-After-slice-known3 : at.After-slice-known3 → at.After-refusal-of
 number-from-After-slice-known3 c = c .before .before .before
@@ -268,10 +274,10 @@ start-from-After-txids c = c .before .before .before .before .before .before .be
 abbrev pub start-from-At-loop : at.At-loop → at.Start
 start-from-At-loop c = c .before .before .before .before .before .before .before .before .before .before .before .before .before .before .before .before .before .before .before
 
-abbrev pub sum-from-After-moved3 : at.After-moved3 → at.After-total-with
+abbrev pub sum-from-After-moved3 : at.After-moved3 → at.After-total-moved
 sum-from-After-moved3 c = c .before .before .before
 
-abbrev pub sum-from-After-slice-known6 : at.After-slice-known6 → at.After-total-with
+abbrev pub sum-from-After-slice-known6 : at.After-slice-known6 → at.After-total-moved
 sum-from-After-slice-known6 c = c .before .before .before .before .before .before .before .before .before .before
 
 abbrev pub sweeping-from-After-expire : at.After-expire → at.In-loop2
@@ -313,10 +319,10 @@ told-from-After-put-cut-arg c = c .before .before .before .before .before .befor
 abbrev pub told-from-After-slice-known6 : at.After-slice-known6 → at.After-put-notices
 told-from-After-slice-known6 c = c .before .before
 
-abbrev pub total-from-After-slice-known6 : at.After-slice-known6 → at.After-total-with2
+abbrev pub total-from-After-slice-known6 : at.After-slice-known6 → at.After-total-moved2
 total-from-After-slice-known6 c = c .before .before .before .before .before .before
 
-abbrev pub total-from-At-match2-came : at.At-match2-came → at.After-total-with2
+abbrev pub total-from-At-match2-came : at.At-match2-came → at.After-total-moved2
 total-from-At-match2-came c = c .before .before .before .before .before .before .before
 
 abbrev pub way-from-After-is-bank2 : at.After-is-bank2 → at.After-end-of
