@@ -23,9 +23,19 @@ total-moved-spec =
     (λ c. let fits = rw (c .enum-told8 .given .1) at (c .before .before .pre) in omega (arith, fits .2))
     (λ c. let fits = rw (c .enum-told .given .1) at (c .before .before .pre) in rw (c .enum-told .given .1) (omega (arith, fits .1)))
     (λ c. let fits = rw (c .enum-told2 .given .1) at (c .before .before .pre) in rw (c .enum-told2 .given .1) (omega (arith, fits .1)))
-    (λ c. let fits = rw (c .enum-told3 .given .1) at (c .before .before .pre) in rw (c .enum-told3 .given .1) (omega (arith, fits .0, fits .1)))
-    (λ c. let fits = rw (c .enum-told4 .given .1) at (c .before .before .pre) in rw (c .enum-told4 .given .1) (omega (arith, fits .0 .0, fits .1)))
-    (λ c. let fits = rw (c .enum-told5 .given .1) at (c .before .before .pre) in rw (c .enum-told5 .given .1) (omega (arith, fits .0 .0, fits .1)))
-    (λ c. let fits = rw (c .enum-told6 .given .1) at (c .before .before .pre) in rw (c .enum-told6 .given .1) (omega (arith, fits .0, fits .1)))
-    (λ c. let fits = rw (c .before .enum-told7 .given .1) at (c .before .before .before .pre) in rw (c .before .enum-told7 .given .1) (omega (arith, fits .1)))
+    (λ c.
+    let fits = rw (c .enum-told3 .given .1) at (c .before .before .pre) in
+    rw (c .enum-told3 .given .1) (omega (arith, fits .0, fits .1)))
+    (λ c.
+    let fits = rw (c .enum-told4 .given .1) at (c .before .before .pre) in
+    rw (c .enum-told4 .given .1) (omega (arith, fits .0 .0, fits .1)))
+    (λ c.
+    let fits = rw (c .enum-told5 .given .1) at (c .before .before .pre) in
+    rw (c .enum-told5 .given .1) (omega (arith, fits .0 .0, fits .1)))
+    (λ c.
+    let fits = rw (c .enum-told6 .given .1) at (c .before .before .pre) in
+    rw (c .enum-told6 .given .1) (omega (arith, fits .0, fits .1)))
+    (λ c.
+    let fits = rw (c .before .enum-told7 .given .1) at (c .before .before .before .pre) in
+    rw (c .before .enum-told7 .given .1) (omega (arith, fits .1)))
     (λ c. let fits = rw (c .enum-told8 .given .1) at (c .before .before .pre) in rw (c .enum-told8 .given .1) (omega (arith, fits .1))))

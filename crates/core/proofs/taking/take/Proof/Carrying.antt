@@ -50,7 +50,8 @@ module _ (c : at.After-total-moved) where
   abbrev old-s : Cover
   old-s = coverOf (swept-book left-s .covers) (v judged-s .first .who)
 
-  pub first-all : c .total-moved .result ≡ loop-head left-s .loop .total - whole old-s + whole (to.first-from-After-total-moved c .moved2 .result)
+  pub first-all : c .total-moved .result ≡ loop-head left-s .loop .total - whole old-s
+      + whole (to.first-from-After-total-moved c .moved2 .result)
   first-all =
       all-with (loop-head left-s .loop .total) (c .total-moved .result) old-s (c .total-moved .ensures)
       (to.first-from-After-total-moved c .moved2 .ensures)
@@ -80,7 +81,8 @@ module _ (c : at.After-moved3) where
   sum-3 = to.sum-from-After-moved3 c
 
   abbrev old-3 : Cover
-  old-3 = coverOf (set (swept-book (swept-at judged-3) .covers) (v judged-3 .first .who) (first-3 .moved2 .result)) (v judged-3 .second .who)
+  old-3 =
+      coverOf (set (swept-book (swept-at judged-3) .covers) (v judged-3 .first .who) (first-3 .moved2 .result)) (v judged-3 .second .who)
 
   pub second-sum : Room (v judged-3 .second .how) (v judged-3 .amount) old-3
       × (whole old-3 ≤ sum-3 .total-moved .result)
