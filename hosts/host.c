@@ -1,6 +1,8 @@
 /* A host in C: clears the day file on standard input through the static library and writes the program's text.
  *
- *     host [ROOM]    ROOM is how many bytes the host has for the text at first; where they are too few it asks again. */
+ *     host [ROOM]             ROOM is how many bytes the host has for the text at first; where they are too few it asks again.
+ *     host ANSWERS REPORTS    only the tickets that are taken with so many bytes for their answers and their reports; the host
+ *                             has these as bytes and makes the lines itself. */
 #include <stdint.h>
 #include <stdio.h>
 #include <stdlib.h>
@@ -32,17 +34,56 @@ static uint8_t *read_all(FILE *stream, size_t *length) {
     return bytes;
 }
 
-int main(int count, char **words) {
-    size_t length, room = count > 1 ? strtoul(words[1], NULL, 10) : 65536;
-    uint8_t *day = read_all(stdin, &length);
+/* A number of so many bytes, the highest first. */
+static uint64_t number(const uint8_t *bytes, size_t width) {
+    uint64_t n = 0;
+    while (width--) n = n << 8 | *bytes++;
+    return n;
+}
+
+static void write_text(const uint8_t *day, size_t length, size_t room) {
     uint8_t *text = grown(NULL, room);
     size_t whole = zolfigar_day(day, length, text, room);
     if (whole > room) {
         text = grown(text, whole);
         whole = zolfigar_day(day, length, text, whole);
     }
-    if (fwrite(text, 1, whole, stdout) != whole || fflush(stdout)) fail("can't write standard output");
+    if (fwrite(text, 1, whole, stdout) != whole) fail("can't write standard output");
     free(text);
+}
+
+static void write_steps(const uint8_t *day, size_t length, size_t answers_room, size_t reports_room) {
+    uint8_t *answers = grown(NULL, answers_room), *reports = grown(NULL, reports_room);
+    size_t told = zolfigar_steps(day, length, answers, answers_room, reports, reports_room);
+    if (told == ZOLFIGAR_NO_ROOM) {
+        puts("no room for the first ticket");
+    } else if (told >= ZOLFIGAR_FILE_REFUSED) {
+        printf("F %zu\n", told - ZOLFIGAR_FILE_REFUSED);
+    } else if (told == 0) {
+        puts("no tickets");
+    } else {
+        const uint8_t *a = answers, *r = reports;
+        for (size_t ticket = 0; ticket < told; ticket++, a += 4) {
+            uint64_t count = number(a + 1, 2);
+            printf("T %zu %u %llu %u\n", ticket, a[0], (unsigned long long)count, a[3]);
+            for (; count; count--, r += 12) {
+                printf("R %u %u %llu %llu\n", r[0], r[1], (unsigned long long)number(r + 2, 2), (unsigned long long)number(r + 4, 8));
+            }
+        }
+    }
+    free(answers);
+    free(reports);
+}
+
+int main(int count, char **words) {
+    size_t length;
+    uint8_t *day = read_all(stdin, &length);
+    if (count > 2) {
+        write_steps(day, length, strtoul(words[1], NULL, 10), strtoul(words[2], NULL, 10));
+    } else {
+        write_text(day, length, count > 1 ? strtoul(words[1], NULL, 10) : 65536);
+    }
+    if (fflush(stdout)) fail("can't write standard output");
     free(day);
     return 0;
 }

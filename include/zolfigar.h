@@ -41,11 +41,24 @@ uint8_t zolfigar_txid_ok(const uint8_t *bytes, size_t length);
  * don't disturb each other. */
 size_t zolfigar_day(const uint8_t *file, size_t file_length, uint8_t *text, size_t text_length);
 
+/* What zolfigar_steps answers in place of a count, where it takes no ticket and writes nothing: of a refused day file the first
+ * number with the refusal, 1 to 5, added; where a buffer has no room for the file's first ticket the second. */
+#define ZOLFIGAR_FILE_REFUSED 1024
+#define ZOLFIGAR_NO_ROOM 2048
+
 /* A day's tickets, as bytes: of each ticket taken its answer (refusal 1, report count 2, rows 1) and its reports (to 1, code 1,
  * order 2, amount 8), each after those of the ticket before, numbers with the highest byte first. A ticket is taken as long as
- * there are 4 bytes for its answer and 6,528 for its reports. The answer is how many were taken, 0 of a refused day file; bytes
- * behind the last answer and the last report stay as they are. For a day's 512 tickets 2,048 bytes of answers are enough. Link
- * with libforeign.a too. The rest is as for a whole day. */
+ * there are 4 bytes for its answer and 6,528 for its reports.
+ *
+ * The answer is how many tickets were taken, at most 512, and 0 only where the file has none; or one of the two above:
+ *
+ *     size_t told = zolfigar_steps(file, file_length, answers, answers_length, reports, reports_length);
+ *     if (told == ZOLFIGAR_NO_ROOM) ..                 the file is accepted; lend longer buffers
+ *     else if (told >= ZOLFIGAR_FILE_REFUSED) ..       refused by told - ZOLFIGAR_FILE_REFUSED
+ *     else ..                                          told tickets were taken
+ *
+ * Bytes behind the last answer and the last report stay as they are. For a day's 512 tickets 2,048 bytes of answers are enough.
+ * Link with libforeign.a too. The rest is as for a whole day. */
 size_t zolfigar_steps(const uint8_t *file, size_t file_length, uint8_t *answers, size_t answers_length, uint8_t *reports,
                       size_t reports_length);
 

@@ -11,6 +11,10 @@ const ANSWERS_LEN: usize = 4 * 512;
 const REPORTS_LEN: usize = 1 << 18;
 const HEADER_LEN: usize = 12;
 
+/// The proved book's answers that aren't a count, as in include/zolfigar.h: the file's refusal is added to the first.
+const FILE_REFUSED: usize = 1024;
+const NO_ROOM: usize = 2048;
+
 #[derive(Clone, Copy)]
 pub enum Side {
     Proved,
@@ -45,7 +49,7 @@ mod library {
         ) -> usize;
     }
 
-    /// How many tickets the proved book took. It reads and writes the three slices and nothing else.
+    /// How many tickets the proved book took, or why none. It reads and writes the three slices and nothing else.
     pub fn steps(file: &[u8], answers: &mut [u8], reports: &mut [u8]) -> usize {
         // SAFETY: each pointer comes with the length of its slice, and the three don't overlap.
         unsafe {
@@ -94,13 +98,22 @@ fn peer_bytes(file: &[u8]) -> Option<(Vec<u8>, Vec<u8>)> {
     Some((answers, reports))
 }
 
+/// How many tickets were taken by what the proved book answered.
+fn taken_by(answer: usize) -> Result<usize, String> {
+    match answer {
+        NO_ROOM => Err("no room for the first ticket".to_string()),
+        FILE_REFUSED.. => Err(format!("the proved book refuses the file by {}", answer - FILE_REFUSED)),
+        taken => Ok(taken),
+    }
+}
+
 /// An error if a file is refused, a ticket isn't taken, or an answer or a report differs.
 pub fn check_same(cases: &[Case]) -> Result<(), String> {
     let mut buffers = Buffers::new();
     for case in cases {
         for file in [&case.base, &case.full] {
             let (answers, reports) = peer_bytes(file).ok_or(format!("{}: refused", case.name))?;
-            let taken = Side::Proved.run(file, &mut buffers);
+            let taken = taken_by(Side::Proved.run(file, &mut buffers)).map_err(|why| format!("{}: {why}", case.name))?;
             let same =
                 4 * taken == answers.len() && buffers.answers.starts_with(&answers) && buffers.reports.starts_with(&reports);
             if !same {

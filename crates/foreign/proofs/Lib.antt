@@ -1,3 +1,5 @@
 mod LentText
 mod BetweenPieces
+pub mod Answering
+mod AnswerRows
 mod Stepping
