@@ -1,6 +1,5 @@
--- Demand 3 of the bytes that `zolfigar_steps` leaves: the events of as many tickets as its answer tells, read off
--- them, and the book that the core has after them.
--- Assumes nothing.
+-- Demand 3 of the bytes that `zolfigar_steps` leaves: the events of as many tickets as its answer tells, read off them, and the book that
+-- the core has after them. Assumes nothing.
 use mathlib.Core.Path.{sym, _∙_, ap, subst}
 use mathlib.Core.List.{List}
 use Prim.Native.Nat.{ℕ}

@@ -37,7 +37,7 @@ use Rattle.rules.specs.declared.Book.{Book}
 use Rattle.course.specs.Running.{roomLeft, ranTo, ran}
 use Rattle.course.proofs.Running.{room-left}
 use Rattle.course.proofs.PrintedBatches.{takes-one, ran-splits}
-use Rattle.foreign.specs.Stepped.{stepsTaken, lacksRoom, stepsAnswer, takenBy}
+use Rattle.foreign.specs.Stepped.{stepsTaken, fileRefused, noRoom, lacksRoom, stepsAnswer, takenBy}
 
 -- 01: a day file's refusals are 1 to 5
 module _ (f : List ℕ) where
@@ -117,11 +117,11 @@ module _ (file : List ℕ) (answers reports : ℕ) where
       rw (eq-eqb refusal 0 h) (rw (add-zero (dayFile file .first)) at within)
 
   -- the three answers
-  answer-goes : (P : ℕ → Type 0) → ((refusal ≡ 0 → ⊥) → P (1024 + refusal))
-      → (refusal ≡ 0 → lacks ≡ true → P 2048) → (refusal ≡ 0 → lacks ≡ false → P (length taken)) → P answer
+  answer-goes : (P : ℕ → Type 0) → ((refusal ≡ 0 → ⊥) → P (fileRefused + refusal))
+      → (refusal ≡ 0 → lacks ≡ true → P noRoom) → (refusal ≡ 0 → lacks ≡ false → P (length taken)) → P answer
   answer-goes P refused roomless some = go (eqb refusal 0) refl lacks refl
     where
-      go : (z : Bool) → eqb refusal 0 ≡ z → (w : Bool) → lacks ≡ w → P (cond z (cond w 2048 (length taken)) (1024 + refusal))
+      go : (z : Bool) → eqb refusal 0 ≡ z → (w : Bool) → lacks ≡ w → P (cond z (cond w noRoom (length taken)) (fileRefused + refusal))
       go true e true l = roomless (eqb-true refusal 0 e) l
       go true e false l = some (eqb-true refusal 0 e) l
       go false e w l = refused (eqb-false refusal 0 e)
@@ -129,12 +129,12 @@ module _ (file : List ℕ) (answers reports : ℕ) where
   pub taken-told : takenBy answer ≡ length taken
   taken-told =
       answer-goes (λ (n : ℕ). takenBy n ≡ length taken)
-      (λ h. rw (le-ltb (1024 + refusal) 1024 (omega arith), refused-none h))
+      (λ h. rw (le-ltb (fileRefused + refusal) fileRefused (omega arith), refused-none h))
       (λ h l. rw (roomless-none l))
       (λ h l.
       let most = taken-most h in
       let few = file-guaranteed file h .tickets in
-      rw (lt-ltb (length taken) 1024 (omega arith)))
+      rw (lt-ltb (length taken) fileRefused (omega arith)))
 
   -- room for the first ticket of a file that has tickets: at least one is taken
   takes-first : refusal ≡ 0 → lacks ≡ false → length taken ≡ 0 → tickets ≡ 0
@@ -165,16 +165,16 @@ module _ (file : List ℕ) (answers reports : ℕ) where
       (λ h l. absurd (eqb-false tickets 0 (not-true (eqb tickets 0) (and-left (not (eqb tickets 0)) (not room) l)) none))
       (λ h l. let most = taken-most h in omega arith)
 
-  pub refusal-told : 1024 ≤ answer → answer < 2048 → (refusal ≡ 0 → ⊥) × (answer ≡ 1024 + refusal)
+  pub refusal-told : fileRefused ≤ answer → answer < noRoom → (refusal ≡ 0 → ⊥) × (answer ≡ fileRefused + refusal)
   refusal-told =
-      answer-goes (λ (n : ℕ). 1024 ≤ n → n < 2048 → (refusal ≡ 0 → ⊥) × (n ≡ 1024 + refusal))
+      answer-goes (λ (n : ℕ). fileRefused ≤ n → n < noRoom → (refusal ≡ 0 → ⊥) × (n ≡ fileRefused + refusal))
       (λ h least most. (h, refl))
       (λ h l least most. absurd (omega arith))
       (λ h l least most. absurd (let n = taken-most h in let few = file-guaranteed file h .tickets in omega arith))
 
-  pub room-told : answer ≡ 2048 → (refusal ≡ 0) × (lacks ≡ true)
+  pub room-told : answer ≡ noRoom → (refusal ≡ 0) × (lacks ≡ true)
   room-told =
-      answer-goes (λ (n : ℕ). n ≡ 2048 → (refusal ≡ 0) × (lacks ≡ true))
+      answer-goes (λ (n : ℕ). n ≡ noRoom → (refusal ≡ 0) × (lacks ≡ true))
       (λ h e. absurd (let most = file-refusal-most file in omega arith))
       (λ h l e. (h, l))
       (λ h l e. absurd (let n = taken-most h in let few = file-guaranteed file h .tickets in omega arith))

@@ -5,10 +5,11 @@ use rules::constants;
 ghost use mathlib.Core.Path.{_≡_};
 ghost use Rattle.foreign.specs.Stepped.{lacksRoom, Stepped};
 
-// What is answered of a refused file, with its refusal added, and where a buffer has no room for the first ticket. A day has at most 512
-// tickets. include/zolfigar.h has both numbers too.
+// What is answered of a refused file, with its refusal added. A day has at most 512 tickets, so no count is as large. include/zolfigar.h
+// has this number and the next.
 const FILE_REFUSED: usize = 1024;
 
+// What is answered where a buffer has no room for the first ticket.
 const NO_ROOM: usize = 2048;
 
 fn lacks_room(tickets: usize, answers: usize, reports: usize) -> bool
