@@ -7,7 +7,7 @@
 
 use std::io::{self, Read, Write};
 
-#[link(name = "foreign", kind = "static")]
+#[link(name = "foreign_day", kind = "static")]
 extern "C" {
     fn zolfigar_day(file: *const u8, file_length: usize, text: *mut u8, text_length: usize) -> usize;
 }

@@ -5,8 +5,8 @@
  * nobody writes before the call returns; where `length` is 0 the pointer may be null. Nothing is written, kept or
  * allocated, and calls from several threads don't disturb each other.
  *
- * For the checks link with libcodes.a, which `rt staticlib codes` writes, for a day with libforeign.a, which `rt staticlib
- * foreign` writes. */
+ * For the checks link with libcodes.a, which `rt staticlib codes` writes; for a day as text with libforeign_day.a, for its tickets as
+ * bytes with libforeign_steps.a, which `rt staticlib foreign_day` and `rt staticlib foreign_steps` write. */
 #ifndef ZOLFIGAR_H
 #define ZOLFIGAR_H
 
@@ -58,7 +58,7 @@ size_t zolfigar_day(const uint8_t *file, size_t file_length, uint8_t *text, size
  *     else ..                                          told tickets were taken
  *
  * Bytes behind the last answer and the last report stay as they are. For a day's 512 tickets 2,048 bytes of answers are enough.
- * Link with libforeign.a too. The rest is as for a whole day. */
+ * The rest is as for a whole day. */
 size_t zolfigar_steps(const uint8_t *file, size_t file_length, uint8_t *answers, size_t answers_length, uint8_t *reports,
                       size_t reports_length);
 

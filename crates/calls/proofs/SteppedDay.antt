@@ -10,8 +10,8 @@ use Rattle.rules.proofs.StepSound.{file-sound}
 use Rattle.audit.specs.History.{History, from}
 use Rattle.audit.specs.Claim.{Claim}
 use Rattle.audit.proofs.AlongInputs.{carried-start, carried-claim}
-use Rattle.foreign.specs.Stepped.{ticketSection, stepsTaken, takenBy, Stepped}
-use Rattle.foreign.proofs.Answering.{taken-told}
+use Rattle.foreign_steps.specs.Stepped.{ticketSection, stepsTaken, takenBy, Stepped}
+use Rattle.foreign_steps.proofs.Answering.{taken-told}
 use Rattle.calls.specs.Kept.{readOn}
 use Rattle.calls.proofs.KeptBook.{carried-bytes}
 

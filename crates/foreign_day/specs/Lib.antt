@@ -1,2 +1,1 @@
 pub mod LentText
-pub mod Stepped

@@ -18,8 +18,8 @@ use Rattle.rules.specs.declared.Book.{Book}
 use Rattle.course.specs.Running.{ran, Ran}
 use Rattle.book.specs.Opening.{openedDay}
 use Rattle.book.specs.declared.opening.Opened.{Opened}
-use Rattle.foreign.specs.Stepped.{stepsTaken, lacksRoom, stepsAnswer, Stepped}
-use Rattle.foreign.proofs.Answering.{refused-none, roomless-none}
+use Rattle.foreign_steps.specs.Stepped.{stepsTaken, lacksRoom, stepsAnswer, Stepped}
+use Rattle.foreign_steps.proofs.Answering.{refused-none, roomless-none}
 
 module _ (file answers₀ reports₀ : List ℕ) where
   -- the answer and the steps known, the rest follows

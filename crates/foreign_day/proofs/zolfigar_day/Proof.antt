@@ -1,4 +1,4 @@
--- `foreign::day::zolfigar_day` meets its contract: piece by piece (`BetweenPieces`). Assumes nothing.
+-- `foreign_day::zolfigar_day` meets its contract: piece by piece (`BetweenPieces`). Assumes nothing.
 use Prim.Native.Nat.{ℕ}
 use native.Mathlib.Omega.{arith}
 use mathlib.Core.Path.{_≡_, refl, sym, _∙_}
@@ -7,10 +7,10 @@ use denote.Ref.{now}
 use lib.ListN.{length, length-replicate}
 use Rattle.output.specs.Pieces.{turnsLeft}
 use borrow.Author.Needs.{needs}
-use Rattle.foreign.proofs.BetweenPieces.{BetweenPieces, before-pieces, piece-fits, fewer, piece-more, ended-length, ended-text}
-use Rattle.foreign.proofs.LentText.{lent-length}
-use Rattle.foreign.proofs.day.zolfigar_day.Statement.{statement}
-use Rattle.foreign.proofs.day.zolfigar_day.Tie as tie
+use Rattle.foreign_day.proofs.BetweenPieces.{BetweenPieces, before-pieces, piece-fits, fewer, piece-more, ended-length, ended-text}
+use Rattle.foreign_day.proofs.LentText.{lent-length}
+use Rattle.foreign_day.proofs.zolfigar_day.Statement.{statement}
+use Rattle.foreign_day.proofs.zolfigar_day.Tie as tie
 
 abbrev Inv-loop : tie.InvT-loop
 Inv-loop file text₀ piece₀ d₀ at₀ text piece d at = BetweenPieces file text₀ text d at × (length piece ≡ 56832)

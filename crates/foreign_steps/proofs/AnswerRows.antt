@@ -20,7 +20,7 @@ use Rattle.rules.specs.Tick.{tick}
 use Rattle.rules.specs.Step.{stepOf}
 use Rattle.rules.proofs.Names.{bicA, twoBanks}
 use Rattle.course.specs.Running.{ran}
-use Rattle.foreign.specs.Stepped.{stepsAnswer}
+use Rattle.foreign_steps.specs.Stepped.{stepsAnswer}
 
 -- a file, with so many bytes for answers and for reports
 abbrev answerRow : String → List ℕ → ℕ → ℕ → ℕ → Row

@@ -4,7 +4,7 @@ ghost use mathlib.Core.Path.{_≡_};
 ghost use mathlib.Core.List.{_++_};
 ghost use lib.ListN.{length, take, drop};
 ghost use Rattle.rules.specs.Program.{output};
-ghost use Rattle.foreign.specs.LentText.{lent};
+ghost use Rattle.foreign_day.specs.LentText.{lent};
 
 // Fills room with the piece, as far as it reaches.
 fn fill(piece: &[u8], room: &mut [u8])

@@ -1,4 +1,4 @@
--- `foreign::day::fill` meets its contract: the whole piece where there is room, else its beginning. Assumes nothing.
+-- `foreign_day::fill` meets its contract: the whole piece where there is room, else its beginning. Assumes nothing.
 use mathlib.Core.Path.{_∙_, ap}
 use mathlib.Core.List.{List, _++_}
 use Prim.Native.Nat.{ℕ, _-_}
@@ -6,9 +6,9 @@ use native.Mathlib.Nat.{sub-zero}
 use denote.Ref.{now}
 use lib.ListN.{length, take, drop}
 use borrow.Author.Needs.{needs}
-use Rattle.foreign.proofs.LentText.{lent-whole, lent-part}
-use Rattle.foreign.proofs.day.fill.Statement.{statement}
-use Rattle.foreign.proofs.day.fill.Tie as tie
+use Rattle.foreign_day.proofs.LentText.{lent-whole, lent-part}
+use Rattle.foreign_day.proofs.fill.Statement.{statement}
+use Rattle.foreign_day.proofs.fill.Tie as tie
 
 pub fill-spec : {M : Type 1} → statement M
 fill-spec =

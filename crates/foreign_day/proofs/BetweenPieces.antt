@@ -17,8 +17,8 @@ use Rattle.output.specs.Pieces.{begun, Under, toPrint, pieceText, dayAfter, tur
 use Rattle.output.specs.declared.piece.Day.{Day}
 use Rattle.output.specs.declared.piece.Piece.{Piece}
 use Rattle.output.proofs.Piecewise.{begun-under, begun-prints, ended-prints, Next, piece-goes-on}
-use Rattle.foreign.specs.LentText.{lent}
-use Rattle.foreign.proofs.LentText.{lent-more}
+use Rattle.foreign_day.specs.LentText.{lent}
+use Rattle.foreign_day.proofs.LentText.{lent-more}
 
 -- a piece fits `mostText`, and there are at most 513
 pub record BetweenPieces (file buffer text : List ℕ) (d : Day) (at : ℕ) : Type 0 where

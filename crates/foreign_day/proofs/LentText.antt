@@ -5,7 +5,7 @@ use Prim.Native.Nat.{ℕ, zero, suc, _-_, _≤_}
 use native.Mathlib.Nat.{le-of-suc-le-suc, not-suc-le-zero}
 use lib.ListN.{length, take, drop, length-drop}
 use lib.Seq.{take-length, drop-length}
-use Rattle.foreign.specs.LentText.{lent}
+use Rattle.foreign_day.specs.LentText.{lent}
 
 -- all of it where there is room
 pub lent-whole : (p t : List ℕ) → length p ≤ length t → p ++ drop (length p) t ≡ lent p t

@@ -1,5 +1,3 @@
-mod LentText
-mod BetweenPieces
 pub mod Answering
 mod AnswerRows
 mod Stepping

@@ -3,7 +3,7 @@ use book::opening;
 use report::answer;
 use rules::constants;
 ghost use mathlib.Core.Path.{_≡_};
-ghost use Rattle.foreign.specs.Stepped.{lacksRoom, Stepped};
+ghost use Rattle.foreign_steps.specs.Stepped.{lacksRoom, Stepped};
 
 // What is answered of a refused file, with its refusal added. A day has at most 512 tickets, so no count is as large. include/zolfigar.h
 // has this number and the next.

@@ -1,4 +1,4 @@
--- `foreign::steps::zolfigar_steps` meets its contract. Assumes nothing.
+-- `foreign_steps::zolfigar_steps` meets its contract. Assumes nothing.
 use mathlib.Core.Path.{sym, _∙_}
 use native.Mathlib.Omega.{arith}
 use Prim.Native.Nat.{_≤_}
@@ -6,9 +6,9 @@ use denote.Ref.{now}
 use lib.ListN.{length}
 use Rattle.fields.proofs.FromFront.{to-end}
 use borrow.Author.Needs.{needs}
-use Rattle.foreign.proofs.Stepping.{refused-stepped, roomless-stepped, accepted-stepped, first-within}
-use Rattle.foreign.proofs.steps.zolfigar_steps.Statement.{statement}
-use Rattle.foreign.proofs.steps.zolfigar_steps.Tie as tie
+use Rattle.foreign_steps.proofs.Stepping.{refused-stepped, roomless-stepped, accepted-stepped, first-within}
+use Rattle.foreign_steps.proofs.zolfigar_steps.Statement.{statement}
+use Rattle.foreign_steps.proofs.zolfigar_steps.Tie as tie
 
 -- the tickets lie within the file
 within : (c : tie.After-book) → let o = c .before .before .before .before .before in

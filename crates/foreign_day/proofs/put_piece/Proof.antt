@@ -1,9 +1,9 @@
--- `foreign::day::put_piece` meets its contract. Assumes nothing.
+-- `foreign_day::put_piece` meets its contract. Assumes nothing.
 use denote.Ref.{now}
 use borrow.Author.Needs.{needs}
-use Rattle.foreign.proofs.LentText.{lent-rest, lent-beyond}
-use Rattle.foreign.proofs.day.put_piece.Statement.{statement}
-use Rattle.foreign.proofs.day.put_piece.Tie as tie
+use Rattle.foreign_day.proofs.LentText.{lent-rest, lent-beyond}
+use Rattle.foreign_day.proofs.put_piece.Statement.{statement}
+use Rattle.foreign_day.proofs.put_piece.Tie as tie
 
 pub put-piece-spec : {M : Type 1} → statement M
 put-piece-spec =

@@ -37,7 +37,7 @@ use Rattle.rules.specs.declared.Book.{Book}
 use Rattle.course.specs.Running.{roomLeft, ranTo, ran}
 use Rattle.course.proofs.Running.{room-left}
 use Rattle.course.proofs.PrintedBatches.{takes-one, ran-splits}
-use Rattle.foreign.specs.Stepped.{stepsTaken, fileRefused, noRoom, lacksRoom, stepsAnswer, takenBy}
+use Rattle.foreign_steps.specs.Stepped.{stepsTaken, fileRefused, noRoom, lacksRoom, stepsAnswer, takenBy}
 
 -- 01: a day file's refusals are 1 to 5
 module _ (f : List ℕ) where

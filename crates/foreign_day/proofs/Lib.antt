@@ -1,0 +1,2 @@
+mod LentText
+mod BetweenPieces
