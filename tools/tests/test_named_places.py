@@ -53,12 +53,13 @@ class NamedPlaces(unittest.TestCase):
         )
         self.assertEqual((found.types, found.wrong), ({"At-loop", "Start"}, []))
 
-    def test_a_long_way_stands_in_lines_of_its_own(self):
+    def test_a_long_way_goes_on_in_the_next_line(self):
         way = "c" + " .before" * 40
         lines = named_places.clause("start-from-At-loop c =", way).split("\n")
-        self.assertEqual(lines[0], "start-from-At-loop c =")
-        self.assertTrue(all(line.startswith("    ") and len(line) <= 140 for line in lines[1:]), lines)
-        self.assertEqual(" ".join(line.strip() for line in lines[1:]), way)
+        self.assertTrue(lines[0].startswith("start-from-At-loop c = c .before"), lines)
+        self.assertTrue(all(len(line) <= 140 for line in lines), lines)
+        self.assertTrue(all(line.startswith("    .before") for line in lines[1:]), lines)
+        self.assertEqual(" ".join("\n".join(lines).split()), "start-from-At-loop c = " + way)
 
     def test_what_is_not_known_is_told(self):
         # a place that is gone, a short name that nobody gave, a way forward

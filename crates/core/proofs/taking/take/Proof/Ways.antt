@@ -50,66 +50,59 @@ abbrev pub head-from-After-heads2 : at.After-heads2 → at.At-loop
 head-from-After-heads2 c = c .before .before .before .before
 
 abbrev pub head-from-After-heads3 : at.After-heads3 → at.At-loop
-head-from-After-heads3 c =
-    c .before .before .before .before .before .before .before .before .before .before .before .before .before .before .before .before
+head-from-After-heads3 c = c .before .before .before .before .before .before .before .before .before .before .before .before .before .before
     .before .before .before .before .before .before .before .before .before .before .before .before .before .before .before .before .before
-    .before .before .before .before .before .before .before .before .before .before .before .before
+    .before .before .before .before .before .before .before .before .before .before .before .before .before .before
 
 abbrev pub head-from-After-links2 : at.After-links2 → at.At-loop
 head-from-After-links2 c = c .before .before .before .before .before
 
 abbrev pub head-from-After-links3 : at.After-links3 → at.At-loop
-head-from-After-links3 c =
-    c .before .before .before .before .before .before .before .before .before .before .before .before .before .before .before .before
-    .before .before .before .before .before .before .before .before .before .before .before .before .before .before .before .before .before
-    .before .before .before .before .before .before .before .before .before .before .before .before .before
-
-abbrev pub head-from-After-put-answer-arg2 : at.After-put-answer-arg2 → at.At-loop
-head-from-After-put-answer-arg2 c =
-    c .before .before .before .before .before .before .before .before .before .before .before .before .before .before .before .before
-    .before .before .before .before .before .before .before .before .before
-
-abbrev pub head-from-After-put-txid-arg : at.After-put-txid-arg → at.At-loop
-head-from-After-put-txid-arg c =
-    c .before .before .before .before .before .before .before .before .before .before .before .before .before .before .before .before
+head-from-After-links3 c = c .before .before .before .before .before .before .before .before .before .before .before .before .before .before
     .before .before .before .before .before .before .before .before .before .before .before .before .before .before .before .before .before
     .before .before .before .before .before .before .before .before .before .before .before .before .before .before .before
+
+abbrev pub head-from-After-put-answer-arg2 : at.After-put-answer-arg2 → at.At-loop
+head-from-After-put-answer-arg2 c = c .before .before .before .before .before .before .before .before .before .before .before .before
+    .before .before .before .before .before .before .before .before .before .before .before .before .before
+
+abbrev pub head-from-After-put-txid-arg : at.After-put-txid-arg → at.At-loop
+head-from-After-put-txid-arg c = c .before .before .before .before .before .before .before .before .before .before .before .before .before
+    .before .before .before .before .before .before .before .before .before .before .before .before .before .before .before .before .before
+    .before .before .before .before .before .before .before .before .before .before .before .before .before .before .before .before .before
+    .before
 
 abbrev pub head-from-After-refusal-of : at.After-refusal-of → at.At-loop
 head-from-After-refusal-of c = c .before .before .before .before .before .before .before .before .before .before .before
 
 abbrev pub head-from-After-row-known2 : at.After-row-known2 → at.At-loop
-head-from-After-row-known2 c =
-    c .before .before .before .before .before .before .before .before .before .before .before .before .before .before .before .before
+head-from-After-row-known2 c = c .before .before .before .before .before .before .before .before .before .before .before .before .before
     .before .before .before .before .before .before .before .before .before .before .before .before .before .before .before .before .before
-    .before .before .before .before .before .before .before .before .before
+    .before .before .before .before .before .before .before .before .before .before .before .before
 
 abbrev pub head-from-After-see : at.After-see → at.At-loop
 head-from-After-see c = c .before .before .before .before .before .before .before
 
 abbrev pub head-from-After-slice-known3 : at.After-slice-known3 → at.At-loop
-head-from-After-slice-known3 c =
-    c .before .before .before .before .before .before .before .before .before .before .before .before .before .before
+head-from-After-slice-known3 c = c .before .before .before .before .before .before .before .before .before .before .before .before .before
+    .before
 
 abbrev pub head-from-After-slice-known5 : at.After-slice-known5 → at.At-loop
-head-from-After-slice-known5 c =
-    c .before .before .before .before .before .before .before .before .before .before .before .before .before .before .before .before
-    .before .before .before .before .before .before .before .before .before .before .before .before
+head-from-After-slice-known5 c = c .before .before .before .before .before .before .before .before .before .before .before .before .before
+    .before .before .before .before .before .before .before .before .before .before .before .before .before .before .before
 
 abbrev pub head-from-After-slice-known8 : at.After-slice-known8 → at.At-loop
-head-from-After-slice-known8 c =
-    c .before .before .before .before .before .before .before .before .before .before .before .before .before .before .before .before
+head-from-After-slice-known8 c = c .before .before .before .before .before .before .before .before .before .before .before .before .before
     .before .before .before .before .before .before .before .before .before .before .before .before .before .before .before .before .before
-    .before .before .before .before .before .before .before .before .before .before .before .before
+    .before .before .before .before .before .before .before .before .before .before .before .before .before .before .before
 
 abbrev pub head-from-After-txids2 : at.After-txids2 → at.At-loop
 head-from-After-txids2 c = c .before .before .before .before .before .before
 
 abbrev pub head-from-After-txids3 : at.After-txids3 → at.At-loop
-head-from-After-txids3 c =
-    c .before .before .before .before .before .before .before .before .before .before .before .before .before .before .before .before
+head-from-After-txids3 c = c .before .before .before .before .before .before .before .before .before .before .before .before .before .before
     .before .before .before .before .before .before .before .before .before .before .before .before .before .before .before .before .before
-    .before .before .before .before .before .before .before .before .before .before .before .before .before .before
+    .before .before .before .before .before .before .before .before .before .before .before .before .before .before .before .before
 
 abbrev pub head-from-Else1 : at.Else1 → at.At-loop
 head-from-Else1 c = c .before .before
@@ -136,15 +129,15 @@ abbrev pub judged-from-After-old2 : at.After-old2 → at.After-judge
 judged-from-After-old2 c = c .before .before .before .before .before .before .before .before
 
 abbrev pub judged-from-After-put-notices-arg : at.After-put-notices-arg → at.After-judge
-judged-from-After-put-notices-arg c =
-    c .before .before .before .before .before .before .before .before .before .before .before .before .before
+judged-from-After-put-notices-arg c = c .before .before .before .before .before .before .before .before .before .before .before .before
+    .before
 
 abbrev pub judged-from-After-second : at.After-second → at.After-judge
 judged-from-After-second c = c .before .before .before .before .before .before .before
 
 abbrev pub judged-from-After-slice-known6 : at.After-slice-known6 → at.After-judge
-judged-from-After-slice-known6 c =
-    c .before .before .before .before .before .before .before .before .before .before .before .before .before .before .before .before
+judged-from-After-slice-known6 c = c .before .before .before .before .before .before .before .before .before .before .before .before .before
+    .before .before .before
 
 abbrev pub judged-from-After-total-moved : at.After-total-moved → at.After-judge
 judged-from-After-total-moved c = c .before .before .before .before .before .before
@@ -156,9 +149,8 @@ abbrev pub judged-from-Then4 : at.Then4 → at.After-judge
 judged-from-Then4 c = c .before .before
 
 abbrev pub known-from-At-loop : at.At-loop → at.After-shared-slice-known
-known-from-At-loop c =
-    c .before .before .before .before .before .before .before .before .before .before .before .before .before .before .before .before
-    .before .before
+known-from-At-loop c = c .before .before .before .before .before .before .before .before .before .before .before .before .before .before
+    .before .before .before .before
 
 abbrev pub lapse-from-After-freed : at.After-freed → at.After-expire
 lapse-from-After-freed c = c .before .before
@@ -194,19 +186,16 @@ abbrev pub numbers-from-After-is-bank2 : at.After-is-bank2 → at.After-number-o
 numbers-from-After-is-bank2 c = c .before .before .before .before
 
 abbrev pub numbers-from-After-known-told2 : at.After-known-told2 → at.After-number-of2
-numbers-from-After-known-told2 c =
-    c .before .before .before .before .before .before .before .before .before .before .before .before .before .before .before .before
-    .before .before .before .before .before .before .before .before
+numbers-from-After-known-told2 c = c .before .before .before .before .before .before .before .before .before .before .before .before .before
+    .before .before .before .before .before .before .before .before .before .before .before
 
 abbrev pub numbers-from-After-with-status : at.After-with-status → at.After-number-of2
-numbers-from-After-with-status c =
-    c .before .before .before .before .before .before .before .before .before .before .before .before .before .before .before .before
-    .before .before .before .before .before .before .before .before .before .before
+numbers-from-After-with-status c = c .before .before .before .before .before .before .before .before .before .before .before .before .before
+    .before .before .before .before .before .before .before .before .before .before .before .before .before
 
 abbrev pub numbers-from-At-match2-came : at.At-match2-came → at.After-number-of2
-numbers-from-At-match2-came c =
-    c .before .before .before .before .before .before .before .before .before .before .before .before .before .before .before .before
-    .before .before .before .before .before .before
+numbers-from-At-match2-came c = c .before .before .before .before .before .before .before .before .before .before .before .before .before
+    .before .before .before .before .before .before .before .before .before
 
 abbrev pub old-from-After-slice-known4 : at.After-slice-known4 → at.Else2
 old-from-After-slice-known4 c = c .before .before .before .before .before .before .before .before .before .before .before
@@ -215,8 +204,8 @@ abbrev pub opens-from-After-put-txid-arg : at.After-put-txid-arg → at.After-en
 opens-from-After-put-txid-arg c = c .before .before .before .before .before .before .before .before
 
 abbrev pub opens-from-After-reached : at.After-reached → at.After-enum-told3
-opens-from-After-reached c =
-    c .before .before .before .before .before .before .before .before .before .before .before .before .before .before
+opens-from-After-reached c = c .before .before .before .before .before .before .before .before .before .before .before .before .before
+    .before
 
 abbrev pub passed-from-In-loop2 : at.In-loop2 → at.After-known-told
 passed-from-In-loop2 c = c .before .before
@@ -234,45 +223,40 @@ abbrev pub reported-from-After-slice-known4 : at.After-slice-known4 → at.After
 reported-from-After-slice-known4 c = c .before .before
 
 abbrev pub room-from-After-enum-told3 : at.After-enum-told3 → at.Then1
-room-from-After-enum-told3 c =
-    c .before .before .before .before .before .before .before .before .before .before .before .before .before .before .before .before
+room-from-After-enum-told3 c = c .before .before .before .before .before .before .before .before .before .before .before .before .before
     .before .before .before .before .before .before .before .before .before .before .before .before .before .before .before .before .before
-    .before .before .before .before .before
+    .before .before .before .before .before .before .before .before
 
 abbrev pub room-from-After-expire : at.After-expire → at.Then1
-room-from-After-expire c =
-    c .before .before .before .before .before .before .before .before .before .before .before .before .before .before .before .before
+room-from-After-expire c = c .before .before .before .before .before .before .before .before .before .before .before .before .before .before
+    .before .before
 
 abbrev pub room-from-After-put-answer-arg2 : at.After-put-answer-arg2 → at.Then1
-room-from-After-put-answer-arg2 c =
-    c .before .before .before .before .before .before .before .before .before .before .before .before .before .before .before .before
-    .before .before .before .before .before .before .before
+room-from-After-put-answer-arg2 c = c .before .before .before .before .before .before .before .before .before .before .before .before
+    .before .before .before .before .before .before .before .before .before .before .before
 
 abbrev pub room-from-After-put-cut-arg : at.After-put-cut-arg → at.Then1
-room-from-After-put-cut-arg c =
-    c .before .before .before .before .before .before .before .before .before .before .before .before .before .before .before .before
+room-from-After-put-cut-arg c = c .before .before .before .before .before .before .before .before .before .before .before .before .before
     .before .before .before .before .before .before .before .before .before .before .before .before .before .before .before .before .before
-    .before .before .before .before .before .before .before
+    .before .before .before .before .before .before .before .before .before .before
 
 abbrev pub room-from-After-put-notices-arg : at.After-put-notices-arg → at.Then1
-room-from-After-put-notices-arg c =
-    c .before .before .before .before .before .before .before .before .before .before .before .before .before .before .before .before
+room-from-After-put-notices-arg c = c .before .before .before .before .before .before .before .before .before .before .before .before
     .before .before .before .before .before .before .before .before .before .before .before .before .before .before .before .before .before
+    .before .before .before .before
 
 abbrev pub room-from-After-put-txid-arg : at.After-put-txid-arg → at.Then1
-room-from-After-put-txid-arg c =
-    c .before .before .before .before .before .before .before .before .before .before .before .before .before .before .before .before
+room-from-After-put-txid-arg c = c .before .before .before .before .before .before .before .before .before .before .before .before .before
     .before .before .before .before .before .before .before .before .before .before .before .before .before .before .before .before .before
-    .before .before .before .before .before .before .before .before .before .before .before .before .before
+    .before .before .before .before .before .before .before .before .before .before .before .before .before .before .before .before
 
 abbrev pub room-from-After-refusal-of : at.After-refusal-of → at.Then1
 room-from-After-refusal-of c = c .before .before .before .before .before .before .before .before .before
 
 abbrev pub room-from-After-row-known2 : at.After-row-known2 → at.Then1
-room-from-After-row-known2 c =
-    c .before .before .before .before .before .before .before .before .before .before .before .before .before .before .before .before
+room-from-After-row-known2 c = c .before .before .before .before .before .before .before .before .before .before .before .before .before
     .before .before .before .before .before .before .before .before .before .before .before .before .before .before .before .before .before
-    .before .before .before .before .before .before .before
+    .before .before .before .before .before .before .before .before .before .before
 
 abbrev pub room-from-After-see : at.After-see → at.Then1
 room-from-After-see c = c .before .before .before .before .before
@@ -281,30 +265,26 @@ abbrev pub room-from-After-slice-known3 : at.After-slice-known3 → at.Then1
 room-from-After-slice-known3 c = c .before .before .before .before .before .before .before .before .before .before .before .before
 
 abbrev pub room-from-After-slice-known5 : at.After-slice-known5 → at.Then1
-room-from-After-slice-known5 c =
-    c .before .before .before .before .before .before .before .before .before .before .before .before .before .before .before .before
-    .before .before .before .before .before .before .before .before .before .before
+room-from-After-slice-known5 c = c .before .before .before .before .before .before .before .before .before .before .before .before .before
+    .before .before .before .before .before .before .before .before .before .before .before .before .before
 
 abbrev pub room-from-After-slice-known8 : at.After-slice-known8 → at.Then1
-room-from-After-slice-known8 c =
-    c .before .before .before .before .before .before .before .before .before .before .before .before .before .before .before .before
+room-from-After-slice-known8 c = c .before .before .before .before .before .before .before .before .before .before .before .before .before
     .before .before .before .before .before .before .before .before .before .before .before .before .before .before .before .before .before
-    .before .before .before .before .before .before .before .before .before .before
+    .before .before .before .before .before .before .before .before .before .before .before .before .before
 
 abbrev pub room-from-After-txid : at.After-txid → at.Then1
-room-from-After-txid c =
-    c .before .before .before .before .before .before .before .before .before .before .before .before .before .before .before .before
+room-from-After-txid c = c .before .before .before .before .before .before .before .before .before .before .before .before .before .before
     .before .before .before .before .before .before .before .before .before .before .before .before .before .before .before .before .before
-    .before .before .before .before .before .before .before
+    .before .before .before .before .before .before .before .before .before
 
 abbrev pub room-from-After-txids2 : at.After-txids2 → at.Then1
 room-from-After-txids2 c = c .before .before .before .before
 
 abbrev pub room-from-After-txids3 : at.After-txids3 → at.Then1
-room-from-After-txids3 c =
-    c .before .before .before .before .before .before .before .before .before .before .before .before .before .before .before .before
+room-from-After-txids3 c = c .before .before .before .before .before .before .before .before .before .before .before .before .before .before
     .before .before .before .before .before .before .before .before .before .before .before .before .before .before .before .before .before
-    .before .before .before .before .before .before .before .before .before .before .before .before
+    .before .before .before .before .before .before .before .before .before .before .before .before .before .before
 
 abbrev pub rows-from-After-total-of : at.After-total-of → at.After-txids-of
 rows-from-After-total-of c = c .before .before .before .before .before .before
@@ -319,31 +299,27 @@ abbrev pub seen-from-After-known-told : at.After-known-told → at.After-see
 seen-from-After-known-told c = c .before .before .before
 
 abbrev pub start-from-After-covers : at.After-covers → at.Start
-start-from-After-covers c =
-    c .before .before .before .before .before .before .before .before .before .before .before .before .before .before .before .before
-    .before
+start-from-After-covers c = c .before .before .before .before .before .before .before .before .before .before .before .before .before
+    .before .before .before .before
 
 abbrev pub start-from-After-covers2 : at.After-covers2 → at.Start
-start-from-After-covers2 c =
-    c .before .before .before .before .before .before .before .before .before .before .before .before .before .before .before .before
+start-from-After-covers2 c = c .before .before .before .before .before .before .before .before .before .before .before .before .before
     .before .before .before .before .before .before .before .before .before .before .before .before .before .before .before .before .before
-    .before .before
+    .before .before .before .before .before
 
 abbrev pub start-from-After-orders : at.After-orders → at.Start
 start-from-After-orders c = c .before .before .before .before .before .before .before .before .before .before .before
 
 abbrev pub start-from-After-total-of : at.After-total-of → at.Start
-start-from-After-total-of c =
-    c .before .before .before .before .before .before .before .before .before .before .before .before .before .before .before .before
-    .before .before
+start-from-After-total-of c = c .before .before .before .before .before .before .before .before .before .before .before .before .before
+    .before .before .before .before .before
 
 abbrev pub start-from-After-txids : at.After-txids → at.Start
 start-from-After-txids c = c .before .before .before .before .before .before .before .before .before .before .before .before .before
 
 abbrev pub start-from-At-loop : at.At-loop → at.Start
-start-from-At-loop c =
-    c .before .before .before .before .before .before .before .before .before .before .before .before .before .before .before .before
-    .before .before .before
+start-from-At-loop c = c .before .before .before .before .before .before .before .before .before .before .before .before .before .before
+    .before .before .before .before .before
 
 abbrev pub sum-from-After-moved3 : at.After-moved3 → at.After-total-moved
 sum-from-After-moved3 c = c .before .before .before
@@ -361,8 +337,8 @@ abbrev pub sweeping-from-After-order : at.After-order → at.In-loop2
 sweeping-from-After-order c = c .before .before .before .before .before .before .before
 
 abbrev pub sweeping-from-After-slice-known4 : at.After-slice-known4 → at.In-loop2
-sweeping-from-After-slice-known4 c =
-    c .before .before .before .before .before .before .before .before .before .before .before .before .before .before
+sweeping-from-After-slice-known4 c = c .before .before .before .before .before .before .before .before .before .before .before .before
+    .before .before
 
 abbrev pub sweeping-from-Else2 : at.Else2 → at.In-loop2
 sweeping-from-Else2 c = c .before .before .before
@@ -401,9 +377,8 @@ abbrev pub way-from-After-is-bank2 : at.After-is-bank2 → at.After-end-of
 way-from-After-is-bank2 c = c .before .before .before .before .before .before .before .before
 
 abbrev pub way-from-At-match2-came : at.At-match2-came → at.After-end-of
-way-from-At-match2-came c =
-    c .before .before .before .before .before .before .before .before .before .before .before .before .before .before .before .before
-    .before .before .before .before .before .before .before .before .before .before
+way-from-At-match2-came c = c .before .before .before .before .before .before .before .before .before .before .before .before .before
+    .before .before .before .before .before .before .before .before .before .before .before .before .before
 
 abbrev pub young-from-After-slice-known4 : at.After-slice-known4 → at.After-is-young
 young-from-After-slice-known4 c = c .before .before .before .before .before .before .before .before .before .before .before .before
