@@ -223,7 +223,7 @@ pub fn take<'a>(
         let how = second.how;
         let who = second.who;
         let old = b.covers[who];
-        let new = cover::moved(how, v.amount, old);
+        let new = cover::gained(how, v.amount, old);
         total = sums::total_moved(how, v.amount, old, total);
         b.covers[who] = new;
 

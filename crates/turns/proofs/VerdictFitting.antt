@@ -28,8 +28,8 @@ use Rattle.course.specs.declared.Entry.{Entry}
 use Rattle.course.proofs.SoughtFitting.{any-payer, any-payee, sought-sender-below, sought-order-below, reached-below}
 use Rattle.verdict.specs.OwnStep.{cutVerdict}
 use Rattle.verdict.specs.Judgement.{verdictOf}
-use Rattle.verdict.specs.Meaning.{factsOf, transferBy, noticesTold, decidedBy}
-use Rattle.verdict.proofs.VerdictLaws.{VerdictInRange, verdict-in-range, cuts-alone}
+use Rattle.verdict.specs.Meaning.{Gains, factsOf, transferBy, noticesTold, decidedBy}
+use Rattle.verdict.proofs.VerdictLaws.{VerdictInRange, verdict-in-range, verdict-gains, cuts-alone}
 use Rattle.verdict.proofs.VerdictMoving.{Put, stays-put, room-by, who-by, transferred-by}
 use Rattle.turns.proofs.Turn.{Expired, after-sound, verdict-applicable}
 
@@ -46,6 +46,7 @@ pub record Fits (c : Book) (v : Verdict) : Type 0 where
   pub second : v .second .who < mostParticipants
   pub firstRoom : Room (v .first .how) (v .amount) (coverOf (c .covers) (v .first .who))
   pub secondRoom : Room (v .second .how) (v .amount) (coverOf (movedBy (v .first) (v .amount) (c .covers)) (v .second .who))
+  pub secondGains : Gains (v .second .how)
   -- what moves is within the limit; who stays put moves by nothing
   pub firstMost : transferBy (v .first) (v .amount) .amount ≤ mostTotal
   pub secondMost : transferBy (v .second) (v .amount) .amount ≤ mostTotal
@@ -109,6 +110,7 @@ module _ {b : Book} {t : List ℕ} {e : Entry} {n₀ : ℕ} {text₀ : List ℕ}
       record {
         first = range .first;
         second = range .second;
+        secondGains = subst (λ (u : Verdict). Gains (u .second .how)) (sym is) (verdict-gains (factsOf x));
         firstRoom =
             room-by (v .first) (v .amount) (coverOf (c .covers) (v .first .who))
             (subst (λ (p : ℕ). Room (transferBy (v .first) (v .amount) .how)

@@ -2,6 +2,7 @@
 --     every               what holds of a refused ticket's verdict and of the step of its kind
 --     refused-alone       of a refused ticket all but the refusal is nothing
 --     verdict-in-range    who moves and who is told are participants, and the order that is told of is one
+--     verdict-gains       the second mover stays or is given
 --     cuts-alone          a cut moves no cover by itself, and tells by the cut alone
 use mathlib.Core.Path.{_≡_, refl}
 use mathlib.Core.Bool.{Bool, true, false, cond}
@@ -52,6 +53,7 @@ use Rattle.verdict.specs.OwnStep.{
   answerAlso,
   cutVerdict,
 }
+use Rattle.verdict.specs.Meaning.{Gains}
 use Rattle.verdict.specs.Judgement.{
   coverInRefusal,
   coverOutRefusal,
@@ -128,6 +130,24 @@ step-accepted kind.Tick x = refl
 pub refused-alone : (x : Facts) → (verdictOf x .refusal ≡ 0 → ⊥) → verdictOf x ≡ refusedVerdict (verdictOf x .refusal)
 refused-alone x =
     every (λ v. (v .refusal ≡ 0 → ⊥) → v ≡ refusedVerdict (v .refusal)) (λ n h. refl) x (λ h. absurd (h (step-accepted (x .kind) x)))
+
+-- the second mover stays or is given
+step-gains : (k : Kind) (x : Facts) → Gains (stepFor k x .second .how)
+step-gains kind.CoverIn x = tt
+step-gains kind.CoverOut x = tt
+step-gains kind.Order x = tt
+step-gains kind.Yes x = tt
+step-gains kind.No x = tt
+step-gains kind.Recall x = tt
+step-gains kind.Return x = tt
+step-gains kind.Decline x = tt
+step-gains kind.Inquiry x = tt
+step-gains kind.Cut x = tt
+step-gains kind.Confirm x = tt
+step-gains kind.Tick x = tt
+
+pub verdict-gains : (x : Facts) → Gains (verdictOf x .second .how)
+verdict-gains x = every (λ v. Gains (v .second .how)) (λ n. tt) x (step-gains (x .kind) x)
 
 -- the numbers of what was found
 pub record Known (size orders : ℕ) (x : Facts) : Type 0 where

@@ -2,6 +2,7 @@
 --     factsOf       of what was found, all that is looked at
 --     decisionBy    the decision that a verdict makes
 --     judgedBy      the same with its refusal
+--     Gains         a move that leaves who it is of as they are, or gives: the second of every verdict is one
 -- Assumes nothing.
 use Prim.Native.Nat.{ℕ, _+_}
 use mathlib.Core.Bool.{Bool, true, false, cond}
@@ -27,6 +28,16 @@ use Rattle.rules.specs.declared.verdict.Mover.{Mover}
 use Rattle.rules.specs.declared.verdict.Notice.{Notice}
 use Rattle.rules.specs.declared.verdict.Verdict.{Verdict}
 use Rattle.course.specs.declared.Judged.{Judged}
+
+abbrev pub Gains : Move → Type 0
+Gains Stay = Unit {0}
+Gains Give = Unit {0}
+Gains Draw = ⊥
+Gains Reserve = ⊥
+Gains Release = ⊥
+Gains Spend = ⊥
+Gains Credit = ⊥
+Gains Debit = ⊥
 
 abbrev pub aboutOf : Order → About
 aboutOf o = record { payer = o .payer; payee = o .payee; amount = o .amount; status = o .status }

@@ -26,7 +26,7 @@
 -- place first: After-moved2
 -- place sum: After-total-moved
 -- place next: After-old2
--- place second: After-moved3
+-- place second: After-gained
 -- place total: After-total-moved2
 -- place told: After-put-notices
 -- place carried: After-slice-known6
@@ -205,7 +205,7 @@ take-spec =
     (λ c. suits (to.judged-from-After-total-moved c) .first)
     (λ c. let h = suits (to.judged-from-After-second c) .second in search needs)
     (λ c. suits (to.judged-from-After-second c) .second)
-    (λ c κs. second-has c)
+    (λ c κs. (suits (to.judged-from-After-old2 c) .secondGains, second-has c))
     (λ c κs. second-sum c)
     (λ c. let h = suits (to.judged-from-After-total-moved2 c) .second in search needs)
     (λ c. suits (to.judged-from-After-total-moved2 c) .second)

@@ -70,15 +70,15 @@ module _ (c : at.After-old2) where
       second-room (expired (swept-at judged-2)) (suits judged-2) (moved-2 .moved2 .ensures) (loop-head (swept-at judged-2) .loop .inv .sum)
 
 -- it has
-module _ (c : at.After-moved3) where
+module _ (c : at.After-gained) where
   abbrev judged-3 : at.After-judge
-  judged-3 = to.judged-from-After-moved3 c
+  judged-3 = to.judged-from-After-gained c
 
   abbrev first-3 : at.After-moved2
-  first-3 = to.first-from-After-moved3 c
+  first-3 = to.first-from-After-gained c
 
   abbrev sum-3 : at.After-total-moved
-  sum-3 = to.sum-from-After-moved3 c
+  sum-3 = to.sum-from-After-gained c
 
   abbrev old-3 : Cover
   old-3 =
@@ -90,7 +90,7 @@ module _ (c : at.After-moved3) where
   second-sum =
       let fits = second-fits (expired (swept-at judged-3)) (suits judged-3) (first-3 .moved2 .ensures)
       (loop-head (swept-at judged-3) .loop .inv .sum) (first-all sum-3) refl in
-      (second-has (to.next-from-After-moved3 c), fits .0, fits .1)
+      (second-has (to.next-from-After-gained c), fits .0, fits .1)
 
 -- there is room for what is told
 module _ (c : at.After-put-notices-arg) where
@@ -116,7 +116,7 @@ module _ (c : at.After-slice-known6) where
   first-new = to.first-from-After-slice-known6 c .moved2 .result
 
   abbrev second-new : Cover
-  second-new = to.second-from-After-slice-known6 c .moved3 .result
+  second-new = to.second-from-After-slice-known6 c .gained .result
 
   -- the covers as the code has them
   abbrev pub both : List Cover
@@ -128,9 +128,9 @@ module _ (c : at.After-slice-known6) where
   carried-out =
       moves-carried-out (expired left-at) (suits judged-at) (to.first-from-After-slice-known6 c .moved2 .ensures)
       (loop-head left-at .loop .inv .sum)
-      (first-all (to.sum-from-After-slice-known6 c)) (to.second-from-After-slice-known6 c .moved3 .ensures)
+      (first-all (to.sum-from-After-slice-known6 c)) (to.second-from-After-slice-known6 c .gained .ensures)
       (all-with (to.sum-from-After-slice-known6 c .total-moved .result) (to.total-from-After-slice-known6 c .total-moved2 .result)
       (coverOf (set (swept-book left-at .covers) (v judged-at .first .who) first-new) (v judged-at .second .who))
-      (to.total-from-After-slice-known6 c .total-moved2 .ensures) (to.second-from-After-slice-known6 c .moved3 .ensures))
+      (to.total-from-After-slice-known6 c .total-moved2 .ensures) (to.second-from-After-slice-known6 c .gained .ensures))
       (to.told-from-After-slice-known6 c .put-notices .ensures .1)
       (to.told-from-After-slice-known6 c .put-notices .ensures .0)

@@ -29,6 +29,9 @@ After-first = tie.After-first Inv-loop2 μ-loop2 Inv-loop μ-loop
 abbrev pub After-freed : Type 0
 After-freed = tie.After-freed Inv-loop2 μ-loop2 Inv-loop μ-loop
 
+abbrev pub After-gained : Type 0
+After-gained = tie.After-gained Inv-loop2 μ-loop2 Inv-loop μ-loop
+
 abbrev pub After-heads2 : Type 0
 After-heads2 = tie.After-heads2 Inv-loop2 μ-loop2 Inv-loop μ-loop
 
@@ -67,9 +70,6 @@ After-moved-arg = tie.After-moved-arg Inv-loop2 μ-loop2 Inv-loop μ-loop
 
 abbrev pub After-moved2 : Type 0
 After-moved2 = tie.After-moved2 Inv-loop2 μ-loop2 Inv-loop μ-loop
-
-abbrev pub After-moved3 : Type 0
-After-moved3 = tie.After-moved3 Inv-loop2 μ-loop2 Inv-loop μ-loop
 
 abbrev pub After-number-of2 : Type 0
 After-number-of2 = tie.After-number-of2 Inv-loop2 μ-loop2 Inv-loop μ-loop

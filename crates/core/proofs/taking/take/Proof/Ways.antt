@@ -31,8 +31,8 @@ done-from-After-row-known2 c = c .before .before .before
 abbrev pub done-from-After-slice-known8 : at.After-slice-known8 → at.At-match2-came
 done-from-After-slice-known8 c = c .before .before .before .before .before .before
 
-abbrev pub first-from-After-moved3 : at.After-moved3 → at.After-moved2
-first-from-After-moved3 c = c .before .before .before .before
+abbrev pub first-from-After-gained : at.After-gained → at.After-moved2
+first-from-After-gained c = c .before .before .before .before
 
 abbrev pub first-from-After-old2 : at.After-old2 → at.After-moved2
 first-from-After-old2 c = c .before .before .before
@@ -116,11 +116,11 @@ joined-from-After-is-bank2 c = c .before .before .before .before .before .before
 abbrev pub judged-from-After-first : at.After-first → at.After-judge
 judged-from-After-first c = c .before .before .before
 
+abbrev pub judged-from-After-gained : at.After-gained → at.After-judge
+judged-from-After-gained c = c .before .before .before .before .before .before .before .before .before
+
 abbrev pub judged-from-After-moved2 : at.After-moved2 → at.After-judge
 judged-from-After-moved2 c = c .before .before .before .before .before
-
-abbrev pub judged-from-After-moved3 : at.After-moved3 → at.After-judge
-judged-from-After-moved3 c = c .before .before .before .before .before .before .before .before .before
 
 abbrev pub judged-from-After-old : at.After-old → at.After-judge
 judged-from-After-old c = c .before .before .before .before
@@ -176,8 +176,8 @@ late-from-After-slice-known5 c = c .before .before .before .before
 abbrev pub late-told-from-After-slice-known5 : at.After-slice-known5 → at.After-put-answer2
 late-told-from-After-slice-known5 c = c .before .before
 
-abbrev pub next-from-After-moved3 : at.After-moved3 → at.After-old2
-next-from-After-moved3 c = c .before
+abbrev pub next-from-After-gained : at.After-gained → at.After-old2
+next-from-After-gained c = c .before
 
 abbrev pub number-from-After-slice-known3 : at.After-slice-known3 → at.After-refusal-of
 number-from-After-slice-known3 c = c .before .before .before
@@ -289,7 +289,7 @@ room-from-After-txids3 c = c .before .before .before .before .before .before .be
 abbrev pub rows-from-After-total-of : at.After-total-of → at.After-txids-of
 rows-from-After-total-of c = c .before .before .before .before .before .before
 
-abbrev pub second-from-After-slice-known6 : at.After-slice-known6 → at.After-moved3
+abbrev pub second-from-After-slice-known6 : at.After-slice-known6 → at.After-gained
 second-from-After-slice-known6 c = c .before .before .before .before .before .before .before
 
 abbrev pub seen-from-After-enum-told : at.After-enum-told → at.After-see
@@ -321,8 +321,8 @@ abbrev pub start-from-At-loop : at.At-loop → at.Start
 start-from-At-loop c = c .before .before .before .before .before .before .before .before .before .before .before .before .before .before
     .before .before .before .before .before
 
-abbrev pub sum-from-After-moved3 : at.After-moved3 → at.After-total-moved
-sum-from-After-moved3 c = c .before .before .before
+abbrev pub sum-from-After-gained : at.After-gained → at.After-total-moved
+sum-from-After-gained c = c .before .before .before
 
 abbrev pub sum-from-After-slice-known6 : at.After-slice-known6 → at.After-total-moved
 sum-from-After-slice-known6 c = c .before .before .before .before .before .before .before .before .before .before
