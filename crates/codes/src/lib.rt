@@ -1,9 +1,8 @@
 // The checks of BIC, IBAN and TxId. Each takes unpadded bytes of any length and content and answers 1 for yes and 0 for no; nothing is
 // asked of a caller. They are the same functions for other crates and for C (include/zolfigar.h). Beside them the check of a TxId as it
 // stands in a ticket, padded with zero bytes; that of an IBAN is in `iban`. An IBAN's front and its number are each tested in one place,
-// in `iban`. The check for C asks for the front of the bytes where they stand, then that all are letters and digits, and only then copies
-// them into 34 zeroes for the number, so that a malformed code costs a few nanoseconds. Bytes of those classes don't end in a zero, so
-// the padded field has them as its value (`iban-unpadded`).
+// in `iban`. The check for C asks for the front of the bytes where they stand, then that all are letters and digits, and at last for the
+// number of the padded field. Bytes of those classes don't end in a zero, so the padded field has them as its value (`iban-unpadded`).
 use classes::Class;
 ghost use mathlib.Core.Path.{_≡_};
 ghost use Prim.Native.Nat.{_≤_};
@@ -66,8 +65,7 @@ fn field_of(s: &[u8]) -> [u8; 34]
     copied_from_ends(s)
 }
 
-// Its front and its classes are looked at where the bytes stand. The padded field for its number is written before that: by then its
-// bytes can be read many at once.
+// The padded field is written before front and classes are looked at: when its number is asked for, its bytes can be read many at once.
 #[no_mangle]
 pub extern "C" fn zolfigar_iban_ok(s: &[u8]) -> u8
     ensures { λ r. ⌜ r ≡ answer (isIban (now (s .entry))) ⌝ }
