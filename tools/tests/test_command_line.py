@@ -1,7 +1,8 @@
-"""Commands' lines: a command that is interrupted while it loads, one without arguments, and words that can't be printed."""
+"""Commands' lines: a command that is interrupted while it loads, one without arguments, words that are empty or can't be printed."""
 
 import os
 import subprocess
+import sys
 import tempfile
 import unittest
 
@@ -38,6 +39,20 @@ class Commands(unittest.TestCase):
                 self.assertEqual((ran.returncode, ran.stderr), (status, ""), command)
                 self.assertTrue(ran.stdout.startswith(f"{command} CRATE "), command)
 
+    def test_without_the_kit(self):
+        with tempfile.TemporaryDirectory() as folder:
+            os.symlink(sys.executable, os.path.join(folder, "python3"))
+            ran = run("begin", "fields", PATH=folder)
+        said = "begin: can't run rt, the Rattle kit's command: No such file or directory\n"
+        self.assertEqual((ran.returncode, ran.stdout, ran.stderr), (1, "", said))
+
+    def test_names_that_are_empty(self):
+        options = {"explain": ("--member", "--order", "--page", "--journal"), "run": ("--member", "--order")}
+        for command, option in ((command, option) for command, some in options.items() for option in some):
+            ran = run(command, "a", option, "")
+            self.assertEqual(ran.returncode, 2)
+            self.assertIn(f"argument {option}: expected a name, found none", ran.stderr)
+
     def test_words_that_can_not_be_printed(self):
         for command in ("run", "explain", "day", "anybytes", "unused"):
             ran = run(command, "\x1b[31m", "a", "b", "--c\n")
@@ -49,7 +64,7 @@ class Commands(unittest.TestCase):
 class Scripts(unittest.TestCase):
     """The commands in bash. What they would run ends with 9 here."""
 
-    NAMES = ("tools/check", "tools/lint", "hosts/check", "gateway/check", "peer/check", "bench/run")
+    NAMES = ("tools/check", "tools/lint", "hosts/check", "gateway/check", "peer/check", "bench/run", ".ci/run")
     RUN = ("python3", "rt", "cargo", "cc", "rustc", "black", "mypy", "pylint")
 
     def setUp(self):

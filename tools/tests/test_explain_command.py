@@ -55,6 +55,12 @@ class Command(unittest.TestCase):
         self.assertEqual(ran.returncode, 1)
         self.assertIn("AAAALV22XXX: available adds up to 6.00, and the output closes it at 6.01", ran.stdout)
 
+    def test_an_order_of_a_day_that_does_not(self):
+        ran = self.explain("case-d.bin", "tampered.out", "--order", "TX1")
+        self.assertEqual(ran.returncode, 1)
+        self.assertIn("available adds up to 6.00, and the output closes it at 6.01", ran.stdout)
+        self.assertNotIn("adds up", self.explain("case-d.bin", "case-d.out", "--order", "TX1").stdout)
+
     def test_the_output_of_another_day(self):
         self.assertEqual(self.explain("case-d.bin", "busy.out").returncode, 1)
 

@@ -1,4 +1,4 @@
-"""A command's line: its parser."""
+"""A command's line: its parser, and words that may not be empty."""
 
 import argparse
 from typing import NoReturn
@@ -11,3 +11,10 @@ class Parser(argparse.ArgumentParser):
 
     def error(self, message: str) -> NoReturn:
         super().error(files.shown(message))
+
+
+def given(word: str) -> str:
+    """A word of the command line that names something."""
+    if not word:
+        raise argparse.ArgumentTypeError("expected a name, found none")
+    return word

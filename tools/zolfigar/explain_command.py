@@ -46,8 +46,8 @@ class Words(Followed):
 def followed(parser: argparse.ArgumentParser) -> None:
     """The two ways to follow one thing through a day."""
     shown = parser.add_mutually_exclusive_group()
-    shown.add_argument("--member", metavar="BIC", help="follow one participant")
-    shown.add_argument("--order", metavar="TXID", help="follow one order")
+    shown.add_argument("--member", type=command_line.given, metavar="BIC", help="follow one participant")
+    shown.add_argument("--order", type=command_line.given, metavar="TXID", help="follow one order")
 
 
 def a_date(word: str) -> datetime.date:
@@ -72,8 +72,9 @@ def arguments(words: Sequence[str]) -> Words:
     parser.add_argument("day", help=A_DAY)
     parser.add_argument("output", help="what the clearing program printed of it; - is standard input")
     followed(parser)
-    parser.add_argument("--page", metavar="FILE", help="write one self-contained HTML page")
-    parser.add_argument("--journal", metavar="FILE", help="write a journal for hledger; - is standard output")
+    parser.add_argument("--page", type=command_line.given, metavar="FILE", help="write one self-contained HTML page")
+    what = "write a journal for hledger; - is standard output"
+    parser.add_argument("--journal", type=command_line.given, metavar="FILE", help=what)
     dated(parser)
     found = parser.parse_args(words, Words())
     if found.date and not found.journal:

@@ -27,7 +27,7 @@ def lines(
 ) -> Iterator[str]:
     """The day as lines: all of it, or what one participant or one order has to do with."""
     yield style(f"{day.name}: ", "head") + telling.summary(day)
-    if order is None:
+    if problems or order is None:
         yield from verdict(problems, style)
     events = followed(day, member, order)
     yield from section("Tickets", style)
