@@ -47,7 +47,8 @@ class Commands(unittest.TestCase):
         self.assertEqual((ran.returncode, ran.stdout, ran.stderr), (1, "", said))
 
     def test_names_that_are_empty(self):
-        options = {"explain": ("--member", "--order", "--page", "--journal"), "run": ("--member", "--order")}
+        followed = ("--member", "--order")
+        options = {"explain": (*followed, "--page", "--journal"), "run": (*followed, "--into", "--expect")}
         for command, option in ((command, option) for command, some in options.items() for option in some):
             ran = run(command, "a", option, "")
             self.assertEqual(ran.returncode, 2)
