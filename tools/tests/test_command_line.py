@@ -47,8 +47,7 @@ class Commands(unittest.TestCase):
         self.assertEqual((ran.returncode, ran.stdout, ran.stderr), (1, "", said))
 
     def test_names_that_are_empty(self):
-        followed = ("--member", "--order")
-        options = {"explain": (*followed, "--page", "--journal"), "run": (*followed, "--into", "--expect")}
+        options = {"explain": ("--member", "--order", "--page", "--journal"), "run": ("--member", "--order")}
         for command, option in ((command, option) for command, some in options.items() for option in some):
             ran = run(command, "a", option, "")
             self.assertEqual(ran.returncode, 2)

@@ -43,10 +43,8 @@ def arguments(words: Sequence[str]) -> Words:
     parser.add_argument("day", help=explain_command.A_DAY)
     explain_command.followed(parser)
     explain_command.dated(parser)
-    where = "the folder that is written to; target/run if it isn't given"
-    parser.add_argument("--into", type=command_line.given, metavar="DIR", help=where)
-    due = "the output that the program has to print"
-    parser.add_argument("--expect", type=command_line.given, metavar="FILE", help=due)
+    parser.add_argument("--into", metavar="DIR", help="the folder that is written to; target/run if it isn't given")
+    parser.add_argument("--expect", metavar="FILE", help="the output that the program has to print")
     return parser.parse_args(words, Words())
 
 
