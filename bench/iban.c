@@ -18,7 +18,7 @@
 #define PASSES 20
 #define GOAL 1.0
 
-/* What a character counts: 0 to 35, and 99 where it is no letter and no digit. */
+/* What a character counts: 0 to 35, and 99 where it is no capital letter and no digit. */
 static uint8_t value[256];
 
 static void make_table(void)
@@ -27,7 +27,7 @@ static void make_table(void)
     for (int i = 0; i < 10; i++)
         value['0' + i] = (uint8_t)i;
     for (int i = 0; i < 26; i++)
-        value['A' + i] = value['a' + i] = (uint8_t)(10 + i);
+        value['A' + i] = (uint8_t)(10 + i);
 }
 
 static int capital(uint8_t c)
@@ -95,12 +95,26 @@ static void add_wrong_digit(struct group *group, const char *example)
     add_changed(group, example, 3, example[3] == '9' ? '0' : (char)(example[3] + 1));
 }
 
-/* Of every fourth example one that is malformed: a space at the end or in the middle, a small country, a letter for a digit. */
+/* An example with its last letter small, behind the check digits; where it has none there, a small letter at its end. */
+static void add_small(struct group *group, const char *example)
+{
+    size_t last = strlen(example) - 1, at = last;
+
+    while (4 < at && !capital((uint8_t)example[at]))
+        at--;
+    if (capital((uint8_t)example[at]))
+        add_changed(group, example, at, (char)(example[at] + 32));
+    else
+        add_changed(group, example, last, 'a');
+}
+
+/* Of every fourth example one that is malformed: a space at the end or in the middle, a small country, a letter for a digit, a small
+ * letter. */
 static void add_malformed(struct group *group, const char *example, size_t number)
 {
     size_t length = strlen(example);
 
-    switch (number % 4) {
+    switch (number % 5) {
     case 0:
         add_changed(group, example, length - 1, ' ');
         break;
@@ -110,8 +124,11 @@ static void add_malformed(struct group *group, const char *example, size_t numbe
     case 2:
         add_changed(group, example, 1, (char)(example[1] + 32));
         break;
-    default:
+    case 3:
         add_changed(group, example, 2, 'X');
+        break;
+    default:
+        add_small(group, example);
     }
 }
 

@@ -1,6 +1,7 @@
 /* Holds the three checks of zolfigar.h to an implementation of their rules that shares nothing with them: on a million
  * random inputs, and on codes and examples of the IBAN registry with every byte at every place. Each input lies up
- * against a page that can't be read. Prints the counts, and exits with 1 at the first difference. */
+ * against a page that can't be read. Prints the counts, and exits with 1 at the first difference, or where no input was met
+ * that is an IBAN but for small letters. */
 #define _DEFAULT_SOURCE
 
 #include "../include/zolfigar.h"
@@ -35,6 +36,12 @@ static int all_of(const uint8_t *s, size_t n, const char *set)
 #define SMALL "abcdefghijklmnopqrstuvwxyz"
 #define DIGITS "0123456789"
 
+/* The place of a character in a table that has it. */
+static int place(uint8_t c, const char *set)
+{
+    return (int)(strchr(set, c) - set);
+}
+
 static int expected_bic(const uint8_t *s, size_t n)
 {
     return n == 11 && all_of(s, 6, CAPITALS) && one_of(s[6], CAPITALS "23456789") &&
@@ -53,21 +60,32 @@ static int expected_iban(const uint8_t *s, size_t n)
     int left = 0;
 
     if (n < 5 || 34 < n || !all_of(s, 2, CAPITALS) || !all_of(s + 2, 2, DIGITS) ||
-        !all_of(s + 4, n - 4, CAPITALS SMALL DIGITS))
+        !all_of(s + 4, n - 4, CAPITALS DIGITS))
         return 0;
     for (size_t i = 0; i < n; i++) {
         uint8_t c = s[(i + 4) % n];
-        const char *at;
-        if (one_of(c, DIGITS)) {
+        if (one_of(c, DIGITS))
             number[used++] = (char)c;
-            continue;
-        }
-        at = strchr(CAPITALS SMALL, c);
-        used += (size_t)sprintf(number + used, "%d", 10 + (int)((at - (CAPITALS SMALL)) % 26));
+        else
+            used += (size_t)sprintf(number + used, "%d", 10 + place(c, CAPITALS));
     }
     for (size_t i = 0; i < used; i++)
         left = (left * 10 + (number[i] - '0')) % 97;
     return left == 1;
+}
+
+/* Whether it is no IBAN, and capitals in place of the small letters behind its check digits would make it one. */
+static int small_letters_alone(const uint8_t *s, size_t n)
+{
+    uint8_t capitals[34];
+
+    if (n < 5 || 34 < n || all_of(s + 4, n - 4, CAPITALS DIGITS))
+        return 0;
+    memcpy(capitals, s, n);
+    for (size_t i = 4; i < n; i++)
+        if (one_of(s[i], SMALL))
+            capitals[i] = (uint8_t)CAPITALS[place(s[i], SMALL)];
+    return expected_iban(capitals, n);
 }
 
 /* ---- random inputs */
@@ -100,7 +118,8 @@ static size_t make_bic(uint8_t *s)
     return 11;
 }
 
-/* An IBAN, or with `extra` above 30 characters behind the first four something too long whose remainder is right. */
+/* An IBAN, or, read as capitals, one with small letters; with `extra` above 30 characters behind the first four something too
+ * long whose remainder is right. */
 static size_t make_iban(uint8_t *s, size_t extra)
 {
     uint32_t left = 0;
@@ -115,7 +134,7 @@ static size_t make_iban(uint8_t *s, size_t extra)
         if (one_of(c, DIGITS))
             left = (left * 10 + (uint32_t)(c - '0')) % 97;
         else
-            left = (left * 100 + 10 + (uint32_t)((strchr(CAPITALS SMALL, c) - (CAPITALS SMALL)) % 26)) % 97;
+            left = (left * 100 + 10 + (uint32_t)(place(c, CAPITALS SMALL) % 26)) % 97;
     }
     left = 98 - left;
     s[2] = (uint8_t)('0' + left / 10);
@@ -173,6 +192,7 @@ static struct check checks[3] = {
 };
 
 static long comparisons;
+static long small_letters;
 
 /* A page that can be read, between two that can't: a read outside of an input that lies at its edge ends the test. */
 static uint8_t *page;
@@ -207,6 +227,7 @@ static void compare(const uint8_t *s, size_t n)
 {
     uint8_t *places[2] = { page + page_size - n, n == 0 ? NULL : page };
 
+    small_letters += small_letters_alone(s, n);
     for (int p = 0; p < 2; p++) {
         if (n != 0)
             memcpy(places[p], s, n);
@@ -259,6 +280,7 @@ static const char *const codes[] = {
     "LV31A",
     "LV80BANK0000435195001",
     "LV80bank0000435195001",
+    "LV31BANK000043519500A",
     "LV70BANK01234567890123456789ABCDEF",
     "x",
     "AZaz09/-?:().,'+ABCDEFGHIJKLMNOPQRS",
@@ -278,8 +300,13 @@ int main(void)
         uint8_t s[LONGEST];
         compare(s, next_input(s));
     }
-    printf("gateway: %d random inputs, %ld BICs, %ld IBANs, %ld TxIds among them\n", INPUTS, checks[0].taken,
-           checks[1].taken, checks[2].taken);
+    printf("gateway: %d random inputs, %ld BICs, %ld IBANs, %ld TxIds among them, and %ld that small letters alone keep from "
+           "being IBANs\n",
+           INPUTS, checks[0].taken, checks[1].taken, checks[2].taken, small_letters);
+    if (small_letters == 0) {
+        fprintf(stderr, "gateway: no input with small letters was met\n");
+        return 1;
+    }
     for (size_t i = 0; i < changed; i++)
         compare_changed(codes[i]);
     for (size_t i = 0; i < examples; i++) {
@@ -287,6 +314,7 @@ int main(void)
         compare_changed(registry[i]);
     }
     printf("gateway: every byte at every place of %zu codes and of %zu registry examples\n", changed, examples);
-    printf("gateway: %ld comparisons, all alike\n", comparisons);
+    printf("gateway: %ld comparisons, all alike, %ld inputs that small letters alone keep from being IBANs\n", comparisons,
+           small_letters);
     return 0;
 }

@@ -14,7 +14,7 @@
 #include <stdint.h>
 
 /* The file VERSION has it too. */
-#define ZOLFIGAR_VERSION "1.0.0"
+#define ZOLFIGAR_VERSION "1.1.0"
 
 #ifdef __cplusplus
 extern "C" {
@@ -24,8 +24,8 @@ extern "C" {
  * characters is passed with XXX behind it. */
 uint8_t zolfigar_bic_ok(const uint8_t *bytes, size_t length);
 
-/* An IBAN: two A-Z, two digits, 1 to 30 letters or digits; its number by ISO 13616, letters of either case read
- * as 10 to 35, leaves 1 on division by 97. No spaces. */
+/* An IBAN: two A-Z, two digits, 1 to 30 of A-Z or 0-9; its number by ISO 13616, letters read as 10 to 35, leaves 1 on
+ * division by 97. No small letters, no spaces. */
 uint8_t zolfigar_iban_ok(const uint8_t *bytes, size_t length);
 
 /* A TxId: 1 to 35 of A-Z a-z 0-9 / - ? : ( ) . , ' + and no space. */

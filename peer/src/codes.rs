@@ -83,11 +83,11 @@ pub fn is_iban(bytes: &[u8]) -> bool {
     (5..=IBAN_LEN).contains(&bytes.len())
         && all_in(&bytes[..2], UPPER)
         && all_in(&bytes[2..4], DIGIT)
-        && all_in(&bytes[4..], UPPER | LOWER | DIGIT)
+        && all_in(&bytes[4..], UPPER | DIGIT)
         && iban_remainder(bytes) == 1
 }
 
-/// What the number of an IBAN leaves on division by 97. All bytes are letters or digits, at least four of them.
+/// What the number of an IBAN leaves on division by 97. All bytes are capital letters or digits, at least four of them.
 pub fn iban_remainder(iban: &[u8]) -> u64 {
     let (first_four, rest) = iban.split_at(4);
     let rest = rest.chunks(8).fold(0, read_on);
@@ -100,7 +100,7 @@ fn read_on(before: u64, part: &[u8]) -> u64 {
         if byte.is_ascii_digit() {
             number * 10 + u64::from(byte - b'0')
         } else {
-            number * 100 + u64::from(byte.to_ascii_lowercase() - b'a') + 10
+            number * 100 + u64::from(byte - b'A') + 10
         }
     });
     number % 97
@@ -175,7 +175,7 @@ mod tests {
             "GB29NWBK60161331926819",
             "MT84MALT011000012345MTLCAST001S",
             "NO9386011117947",
-            "LV80bank0000435195001",
+            "LV31BANK000043519500A",
         ] {
             assert!(is_iban(iban.as_bytes()), "{iban}");
         }
@@ -183,6 +183,29 @@ mod tests {
             ["LV81BANK0000435195001", "lv80BANK0000435195001", "LVA0BANK0000435195001", "LV80BANK0000435195 01", "LV80", ""]
         {
             assert!(!is_iban(iban.as_bytes()), "{iban}");
+        }
+    }
+
+    #[test]
+    fn small_letters_are_no_letters_of_an_iban() {
+        for iban in ["LV80bank0000435195001", "LV80bANK0000435195001", "LV80BANk0000435195001", "LV31BANK000043519500a"] {
+            assert!(is_iban(iban.to_ascii_uppercase().as_bytes()), "{iban}");
+            assert!(!is_iban(iban.as_bytes()), "{iban}");
+        }
+    }
+
+    #[test]
+    fn every_byte_at_every_place_behind_the_check_digits() {
+        for at in 4..21 {
+            for byte in 0..=255u8 {
+                let mut iban = *b"LV00BANK0000435195001";
+                iban[at] = byte;
+                let taken = (0..100).any(|check: u8| {
+                    iban[2..4].copy_from_slice(format!("{check:02}").as_bytes());
+                    is_iban(&iban)
+                });
+                assert_eq!(taken, byte.is_ascii_uppercase() || byte.is_ascii_digit(), "{byte} at {at}");
+            }
         }
     }
 
@@ -208,7 +231,7 @@ mod tests {
 
     #[test]
     fn remainder_agrees_with_long_division() {
-        for iban in ["ZZ99zzzzzzzzzzzzzzzzzzzzzzzzzzzzzz", "AB12c", "XY00ABCDefgh1234", "LV80BANK0000435195001"] {
+        for iban in ["ZZ99ZZZZZZZZZZZZZZZZZZZZZZZZZZZZZZ", "AB12C", "XY00ABCDEFGH1234", "LV80BANK0000435195001"] {
             assert_eq!(iban_remainder(iban.as_bytes()), u64::from(plain_remainder(iban.as_bytes())), "{iban}");
         }
     }

@@ -141,6 +141,25 @@ fn iban_of_an_order() {
     trial.accept(&order_fields(0, A, B, 1, "X"));
 }
 
+/// A small letter is refused by 8: after 7, before 9 to 11, and the clock stays.
+#[test]
+fn small_letters_in_the_iban_of_an_order() {
+    let mut trial = Trial::without_openings();
+    trial.accept(&fields(1, 10, A, 1000));
+    trial.accept(&order_fields(10, A, B, 400, "X"));
+    let small = |time, amount, tx_id, iban: &[u8]| TicketFields { iban: padded(iban), ..order_fields(time, A, B, amount, tx_id) };
+    let bank = b"LV80bank0000435195001";
+    assert_eq!(trial.refusal(&small(40, 400, "Y Z", bank)), 7);
+    for (time, amount) in [(40, 0), (40, MOST_PAID + 1), (9, 400), (40, 400)] {
+        assert_eq!(trial.all(&small(time, amount, "Y", bank)), (8, vec![]), "{amount} at {time}");
+    }
+    for iban in [b"LV80bANK0000435195001", b"LV31BANK000043519500a"] {
+        assert_eq!(trial.refusal(&small(40, 1, "Y", iban)), 8);
+        trial.accept(&small(10, 1, std::str::from_utf8(&iban[4..]).unwrap(), &iban.to_ascii_uppercase()));
+    }
+    trial.accept(&about_fields(4, 1, 29, B, "X"));
+}
+
 #[test]
 fn order_up_to_available() {
     let mut trial = Trial::without_openings();

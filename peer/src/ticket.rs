@@ -8,6 +8,7 @@ pub const TICKET_LEN: usize = 108;
 pub const MOST_PAID: u64 = 99_999_999_999;
 
 const TX_ID_AT: usize = 38;
+pub const IBAN_AT: usize = 73;
 
 /// What a ticket asks for.
 #[derive(Clone, Copy, PartialEq, Eq, Debug)]
@@ -92,7 +93,7 @@ impl<'a> Ticket<'a> {
         let sender: &[u8; BIC_LEN] = field(bytes, 16);
         let payee: &[u8; BIC_LEN] = field(bytes, 27);
         let tx_id: &[u8; TX_ID_LEN] = field(bytes, TX_ID_AT);
-        let iban: &[u8; IBAN_LEN] = field(bytes, 73);
+        let iban: &[u8; IBAN_LEN] = field(bytes, IBAN_AT);
 
         let unused_are_zero = bytes[2] == 0 && bytes[3] == 0 && bytes[107] == 0;
         let fields_fit = bic_fits(sender, form.sender)

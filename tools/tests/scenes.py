@@ -6,7 +6,7 @@ from zolfigar import history, packing
 
 ROOT = os.path.dirname(os.path.dirname(os.path.dirname(os.path.realpath(__file__))))
 EXAMPLES = os.path.join(ROOT, "examples")
-RUNNING = ("case-d", "case-e", "busy", "turned-back")
+RUNNING = ("case-d", "case-e", "busy", "turned-back", "small-letters")
 REFUSED = ("refused-1", "refused-2", "refused-3", "refused-4", "refused-5")
 
 

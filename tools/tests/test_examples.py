@@ -49,6 +49,16 @@ class Shown(unittest.TestCase):
         refusals = [event.refusal for event in scenes.day("turned-back").events if event.refusal]
         self.assertEqual(sorted(refusals), list(range(7, 23)))
 
+    def test_small_letters(self):
+        day = scenes.day("small-letters")
+        self.assertEqual([event.refusal for event in day.events], [0, 0, 8, 0, 0, 8, 0, 0, 0])
+        for small, capital in ((2, 4), (5, 6)):
+            first, second = day.events[small].ticket, day.events[capital].ticket
+            self.assertEqual({**first, "iban": first["iban"].upper()}, second)
+        in_time = day.orders[0].ended
+        self.assertGreater(day.events[2].time - day.orders[0].time, 20)
+        self.assertEqual((in_time.number, in_time.refusal), (3, 0))
+
     def test_refused_files(self):
         self.assertEqual([scenes.output(name) for name in scenes.REFUSED], [f"F {n}\n" for n in range(1, 6)])
 

@@ -130,8 +130,14 @@ MALFORMED = (
     (
         "1 order TX1 iban LV8",
         18,
-        'expected an IBAN, found "LV8"; an IBAN is two A-Z, two digits, 1 to 30 letters or digits; '
+        'expected an IBAN, found "LV8"; an IBAN is two A-Z, two digits, 1 to 30 of A-Z or 0-9; '
         "`but iban ..` writes one that is wrong",
+    ),
+    (
+        "1 order TX1 iban LV80bank0000435195001",
+        18,
+        'expected an IBAN, found "LV80bank0000435195001": character 5, b, and 3 more are small letters; '
+        "an IBAN is two A-Z, two digits, 1 to 30 of A-Z or 0-9; `but iban ..` writes one that is wrong",
     ),
     ("1 order TX1 from AAAALV22 to BBBBLV22 EUR 4.00 but flag 1", 48, 'expected iban, found "but"'),
     ("1 answer TX1 from AAAALV22", 27, "expected yes or no, found the line's end"),

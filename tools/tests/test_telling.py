@@ -32,6 +32,21 @@ class Telling(unittest.TestCase):
         self.assertEqual(told[15], "turned back, 15 TECH")
         self.assertEqual(told[22], "turned back, 22")
 
+    def test_small_letters_of_an_iban_are_named(self):
+        told = [telling.outcome(event) for event in scenes.day("small-letters").events if event.refusal]
+        wrong = "turned back, 8 XD19: the IBAN is wrong: "
+        due = ["character 5, b, and 3 more are small letters", "character 21, a, is a small letter"]
+        self.assertEqual(told, [wrong + letters for letters in due])
+
+    def test_a_wrong_iban_without_small_letters(self):
+        told = [telling.outcome(event) for event in scenes.day("turned-back").events if event.refusal == 8]
+        self.assertEqual(told, ["turned back, 8 XD19: the IBAN is wrong"])
+
+    def test_small_letters_are_told_of_no_other_refusal(self):
+        small = scenes.output("small-letters").replace("T 2 8 0 0", "T 2 11 0 0")
+        event = scenes.day("small-letters", small).events[2]
+        self.assertEqual(telling.outcome(event), "turned back, 11 DT01: the time is before the clock")
+
     def test_reports(self):
         told = [telling.report(self.day, report) for report in self.day.events[37].reports]
         self.assertEqual(told[1], "to BBBBLV22: the cut left an open debit (10), EUR 140.00")

@@ -75,11 +75,25 @@ class Values(unittest.TestCase):
         self.refused(text.txid, "", "A" * 36, "a b", "a_b", "a#", 'a"', "\u00e4", "a\n", "a;")
 
     def test_ibans(self):
-        for word in ("LV80BANK0000435195001", "GB82WEST12345698765432", "LV80bank0000435195001"):
+        for word in ("LV80BANK0000435195001", "GB82WEST12345698765432", "LV31BANK000043519500A", "DE89370400440532013000"):
             self.assertEqual(text.iban(word), word.encode())
         self.refused(text.iban, "LV81BANK0000435195001", "lv80BANK0000435195001", "LV80", "LV8", "LV80BANK" + "0" * 27)
         self.refused(text.iban, "LV80BANK 0000435195001", "LV80BANK0000435195001\n", "")
+        self.refused(text.iban, "LV80bank0000435195001", "LV80bANK0000435195001", "LV31BANK000043519500a")
         self.assertEqual(text.remainder("LV81BANK0000435195001"), 2)
+
+    def test_small_letters_are_named(self):
+        cases = {
+            "LV80BANK0000435195001": "",
+            "": "",
+            "\u00e4\u017f": "",
+            "LV80bANK0000435195001": "character 5, b, is a small letter",
+            "LV31BANK000043519500a": "character 21, a, is a small letter",
+            "lV80BANK0000435195001": "character 1, l, is a small letter",
+            "LV80bank0000435195001": "character 5, b, and 3 more are small letters",
+            "LV80BAnk0000435195001": "character 7, n, and 1 more are small letters",
+        }
+        self.assertEqual({word: text.small_letters(word) for word in cases}, cases)
 
     def test_lengths_of_ibans(self):
         for length in (0, 1, 30, 31):

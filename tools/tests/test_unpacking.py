@@ -190,6 +190,9 @@ class Texts(unittest.TestCase):
     def test_what_is_off_stands_behind_but(self):
         self.same(
             "00:00:01 order TX1 from AAAALV22 to BBBBLV22 EUR 1.00 but iban LV81BANK0000435195001",
+            "00:00:01 order TX1 from AAAALV22 to BBBBLV22 EUR 1.00 but iban LV80bank0000435195001",
+            "00:00:01 order TX1 from AAAALV22 to BBBBLV22 EUR 1.00 but iban LV31BANK000043519500a",
+            "00:00:01 order TX1 from AAAALV22 to BBBBLV22 EUR 1.00 iban LV31BANK000043519500A",
             "00:00:01 order from AAAALV22 to BBBBLV22 EUR 1.00 iban LV80BANK0000435195001 but txid empty",
             "00:00:01 order from AAAALV22 to BBBBLV22 EUR 1.00 iban LV80BANK0000435195001 but txid from",
             "00:00:01 order TX1 from AAAALV22 to BBBBLV22 EUR 1.00 iban LV80BANK0000435195001 but kind 12",

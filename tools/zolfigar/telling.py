@@ -5,6 +5,7 @@ from collections import Counter
 from .figures import counted, euro
 from .history import TERMS, Day, Event, Move, Order
 from .output import Report
+from .text import small_letters
 from .words import CUT_REPORTS, MEANING_BY_KIND, REFUSALS, REPORTS
 
 MOVES = {
@@ -52,10 +53,16 @@ def refused(day: Day) -> str:
     return f"the day file is refused by {refusal(day.refusal)}"
 
 
+def reason(event: Event) -> str:
+    """The refusal that a ticket got; of a wrong IBAN also which letters are small, as no IBAN has one."""
+    small = small_letters(event.ticket["iban"].decode("latin-1")) if event.refusal == 8 else ""
+    return ": ".join(filter(None, (refusal(event.refusal, event.ticket["kind"]), small)))
+
+
 def outcome(event: Event) -> str:
     """What became of a ticket."""
     if event.refusal:
-        return f"turned back, {refusal(event.refusal, event.ticket['kind'])}"
+        return f"turned back, {reason(event)}"
     if event.rows:
         return f"carried out, {counted(event.rows, 'route row')} followed"
     return "carried out"

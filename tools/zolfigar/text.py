@@ -17,7 +17,7 @@ A_TIME = "a time like 08:00:05 or 28805"
 AN_AMOUNT = "an amount like EUR 4.00 or cents 400"
 A_BIC = "six A-Z, one of A-Z or 2-9, one of A-Z but O or of 0-9, then three of A-Z or 0-9, or none and XXX is filled in"
 A_TXID = "1 to 35 of A-Z a-z 0-9 / - ? : ( ) . , ' +"
-AN_IBAN = "two A-Z, two digits, 1 to 30 letters or digits"
+AN_IBAN = "two A-Z, two digits, 1 to 30 of A-Z or 0-9"
 
 WORD = re.compile(r"[^ \t]+")
 DIGITS = re.compile(r"[0-9]+")
@@ -25,7 +25,8 @@ CLOCK = re.compile(r"([0-9]+):([0-5][0-9]):([0-5][0-9])")
 EUROS = re.compile(r"([0-9]+)\.([0-9]{2})")
 BIC = re.compile(r"[A-Z]{6}[A-Z2-9][A-NP-Z0-9](?:[A-Z0-9]{3})?")
 TXID = re.compile(r"[A-Za-z0-9/\-?:().,'+]{1,35}")
-IBAN = re.compile(r"[A-Z]{2}[0-9]{2}[A-Za-z0-9]{1,30}")
+IBAN = re.compile(r"[A-Z]{2}[0-9]{2}[A-Z0-9]{1,30}")
+SMALL = re.compile(r"[a-z]")
 NO_HEX = re.compile(r"[^0-9A-Fa-f]")
 PLAIN = re.compile(r"[!$-~]+")  # printable ASCII without white space, quote and #
 
@@ -211,9 +212,19 @@ def remainder(word: str) -> int:
     return int("".join(str(int(c, 36)) for c in word[4:] + word[:4])) % 97
 
 
+def small_letters(word: str) -> str:
+    """Which small letter comes first, counted from 1, and how many more there are; empty where there is none."""
+    found = list(SMALL.finditer(word))
+    if not found:
+        return ""
+    first = f"character {found[0].start() + 1}, {found[0].group()},"
+    return f"{first} is a small letter" if len(found) == 1 else f"{first} and {len(found) - 1} more are small letters"
+
+
 def iban(word: str) -> bytes:
     if not IBAN.fullmatch(word):
-        raise Wrong(f"expected an IBAN, found {quoted(word)}; an IBAN is {AN_IBAN}; `but iban ..` writes one that is wrong")
+        found = ": ".join(filter(None, (quoted(word), small_letters(word))))
+        raise Wrong(f"expected an IBAN, found {found}; an IBAN is {AN_IBAN}; `but iban ..` writes one that is wrong")
     if remainder(word) != 1:
         left = remainder(word)
         raise Wrong(f"not an IBAN: its check digits leave {left}, not 1; `but iban ..` writes it all the same")

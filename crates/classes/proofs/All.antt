@@ -11,12 +11,10 @@ use Rattle.classes.specs.Class.{isIn, allIn}
 use Rattle.classes.specs.declared.Class.{Class}
 use Rattle.classes.specs.declared.Class.the-variants.{
   Capital,
-  Small,
   Digit,
   CapitalOr2To9,
   CapitalButOOrDigit,
   CapitalOrDigit,
-  LetterOrDigit,
   Txid,
 }
 
@@ -27,12 +25,10 @@ in-at class (c ∷ s) (suc i) e h = in-at class s i (and-right (isIn class c) (a
 
 pub no-zero : (class : Class) → isIn class 0 ≡ false
 no-zero Capital = refl
-no-zero Small = refl
 no-zero Digit = refl
 no-zero CapitalOr2To9 = refl
 no-zero CapitalButOOrDigit = refl
 no-zero CapitalOrDigit = refl
-no-zero LetterOrDigit = refl
 no-zero Txid = refl
 
 not-zero : (class : Class) (c : ℕ) → isIn class c ≡ true → eqb c 0 ≡ false

@@ -15,12 +15,10 @@ use lib.Dec.{leb, eqb}
 use Rattle.classes.specs.declared.Class.{Class}
 use Rattle.classes.specs.declared.Class.the-variants.{
   Capital,
-  Small,
   Digit,
   CapitalOr2To9,
   CapitalButOOrDigit,
   CapitalOrDigit,
-  LetterOrDigit,
   Txid,
 }
 
@@ -41,12 +39,10 @@ digit c = between "0" "9" c
 
 abbrev pub isIn : Class → ℕ → Bool
 isIn Capital c = capital c
-isIn Small c = small c
 isIn Digit c = digit c
 isIn CapitalOr2To9 c = capital c || between "2" "9" c
 isIn CapitalButOOrDigit c = (capital c && not (is "O" c)) || digit c
 isIn CapitalOrDigit c = capital c || digit c
-isIn LetterOrDigit c = capital c || small c || digit c
 isIn Txid c =
     capital c || small c || digit c
     || is "/" c || is "-" c || is "?" c || is ":" c || is "(" c || is ")" c || is "." c || is "," c || is "'" c || is "+" c

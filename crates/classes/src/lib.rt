@@ -10,12 +10,10 @@ ghost use Rattle.classes.specs.Class.{isIn, allIn};
 
 pub enum Class {
     Capital,
-    Small,
     Digit,
     CapitalOr2To9,
     CapitalButOOrDigit,
     CapitalOrDigit,
-    LetterOrDigit,
     Txid,
 }
 
@@ -28,12 +26,10 @@ pub fn is_in(class: Class, c: u8) -> bool
     let digit = (b'0' <= c) & (c <= b'9');
     match class {
         Class::Capital => capital,
-        Class::Small => small,
         Class::Digit => digit,
         Class::CapitalOr2To9 => capital | ((b'2' <= c) & (c <= b'9')),
         Class::CapitalButOOrDigit => (capital & (c != b'O')) | digit,
         Class::CapitalOrDigit => capital | digit,
-        Class::LetterOrDigit => capital | small | digit,
         // From ' to : stand the digits and nine of the ten signs, and *, which is none.
         Class::Txid => capital | small | (c == b'?') | ((b'\'' <= c) & (c <= b':') & (c != b'*')),
     }

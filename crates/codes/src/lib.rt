@@ -1,7 +1,7 @@
 // The checks of BIC, IBAN and TxId. Each takes unpadded bytes of any length and content and answers 1 for yes and 0 for no; nothing is
 // asked of a caller. They are the same functions for other crates and for C (include/zolfigar.h). Beside them the check of a TxId as it
 // stands in a ticket, padded with zero bytes; that of an IBAN is in `iban`. An IBAN's front and its number are each tested in one place,
-// in `iban`. The check for C asks for the front of the bytes where they stand, then that all are letters and digits, and at last for the
+// in `iban`. The check for C asks for the front of the bytes where they stand, then that all are capitals and digits, and at last for the
 // number of the padded field. Bytes of those classes don't end in a zero, so the padded field has them as its value (`iban-unpadded`).
 use classes::Class;
 ghost use mathlib.Core.Path.{_≡_};
@@ -80,7 +80,7 @@ pub extern "C" fn zolfigar_iban_ok(s: &[u8]) -> u8
     if !iban::iban_front(s) {
         return 0;
     }
-    if !classes::all_in(Class::LetterOrDigit, s) {
+    if !classes::all_in(Class::CapitalOrDigit, s) {
         return 0;
     }
     iban::number_ok(&field) as u8

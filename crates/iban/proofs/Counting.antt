@@ -1,4 +1,4 @@
--- What a byte counts for and scales with: how much at most, and for a letter or a digit what it counts in the number of an IBAN.
+-- What a byte counts for and scales with: how much at most, and for a capital or a digit what it counts in the number of an IBAN.
 -- The last is compared at each byte. Assumes nothing.
 use mathlib.Core.Path.{_≡_, refl, sym, _∙_, ap, ap₂}
 use mathlib.Core.Bool.{Bool, true, false, _&&_, _||_, not, cond, and-false}
@@ -13,7 +13,7 @@ use Rattle.fields.proofs.Tests.{and-left, and-right}
 use Rattle.classes.specs.CheckAnswer.{answer}
 use Rattle.classes.specs.Class.{isIn}
 use Rattle.iban.specs.Iban.{value}
-use Rattle.classes.specs.declared.Class.the-variants.{LetterOrDigit}
+use Rattle.classes.specs.declared.Class.the-variants.{CapitalOrDigit}
 use Rattle.iban.proofs.SpeltNumber.{behind, behind-digit, behind-letter}
 use Rattle.iban.specs.Spelling.{worth, scale, pairWorth, pairScale}
 
@@ -44,16 +44,16 @@ if-so : (a b : Bool) → (not a || b) ≡ true → a ≡ true → b ≡ true
 if-so true b e h = e
 if-so false b e h = cc
 
--- a letter or a digit is a byte
-spelt-byte : (c : ℕ) → isIn LetterOrDigit c ≡ true → c < 256
+-- a capital or a digit is a byte
+spelt-byte : (c : ℕ) → isIn CapitalOrDigit c ≡ true → c < 256
 spelt-byte c e = go (ltb c 256) refl
   where
     go : (b : Bool) → ltb c 256 ≡ b → c < 256
     go true h = ltb-true c 256 h
     go false h =
         let far = ltb-false c 256 h in
-        let none : isIn LetterOrDigit c ≡ false =
-        simp (lt-leb c 90 (omega arith), lt-leb c 122 (omega arith), lt-leb c 57 (omega arith), and-false)
+        let none : isIn CapitalOrDigit c ≡ false =
+        simp (lt-leb c 90 (omega arith), lt-leb c 57 (omega arith), and-false)
         in
         let absurdity : _≡_ {A = ℕ} 0 1 = cc in
         absurd (omega arith)
@@ -61,18 +61,18 @@ spelt-byte c e = go (ltb c 256) refl
 abbrev countsAs : ℕ → Bool
 countsAs c = eqb (worth c) (value c) && eqb (scale c) (cond (ltb (value c) 10) 10 100)
 
-counts-as : (c : ℕ) → isIn LetterOrDigit c ≡ true → countsAs c ≡ true
+counts-as : (c : ℕ) → isIn CapitalOrDigit c ≡ true → countsAs c ≡ true
 counts-as c e =
-    if-so (isIn LetterOrDigit c) (countsAs c) (all-at (λ n. not (isIn LetterOrDigit n) || countsAs n) 256 c refl (spelt-byte c e)) e
+    if-so (isIn CapitalOrDigit c) (countsAs c) (all-at (λ n. not (isIn CapitalOrDigit n) || countsAs n) 256 c refl (spelt-byte c e)) e
 
-worth-value : (c : ℕ) → isIn LetterOrDigit c ≡ true → worth c ≡ value c
+worth-value : (c : ℕ) → isIn CapitalOrDigit c ≡ true → worth c ≡ value c
 worth-value c e = eqb-true (worth c) (value c) (and-left (eqb (worth c) (value c)) _ (counts-as c e))
 
-scale-value : (c : ℕ) → isIn LetterOrDigit c ≡ true → scale c ≡ cond (ltb (value c) 10) 10 100
+scale-value : (c : ℕ) → isIn CapitalOrDigit c ≡ true → scale c ≡ cond (ltb (value c) 10) 10 100
 scale-value c e = eqb-true (scale c) (cond (ltb (value c) 10) 10 100) (and-right (eqb (worth c) (value c)) _ (counts-as c e))
 
 -- so it is written behind a number by a product and a sum
-pub one-behind : (n c : ℕ) → isIn LetterOrDigit c ≡ true → n * scale c + worth c ≡ behind n (c ∷ [])
+pub one-behind : (n c : ℕ) → isIn CapitalOrDigit c ≡ true → n * scale c + worth c ≡ behind n (c ∷ [])
 one-behind n c e = ap₂ (λ (k v : ℕ). n * k + v) (scale-value c e) (worth-value c e) ∙ go (ltb (value c) 10) refl
   where
     go : (b : Bool) → ltb (value c) 10 ≡ b → n * cond (ltb (value c) 10) 10 100 + value c ≡ behind n (c ∷ [])

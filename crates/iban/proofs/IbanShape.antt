@@ -11,14 +11,14 @@ use Rattle.fields.specs.Text.{blank, unpadded}
 use Rattle.iban.specs.Iban.{ibanShape}
 use Rattle.iban.specs.Spelling.{ibanFront}
 use Rattle.classes.specs.Class.{isIn, allIn}
-use Rattle.classes.specs.declared.Class.the-variants.{Capital, Digit, LetterOrDigit}
+use Rattle.classes.specs.declared.Class.the-variants.{Capital, Digit, CapitalOrDigit}
 use Rattle.classes.proofs.Unpadding.{value-within, value-short, blank-first, zero-inside, used-first}
 
 -- four bytes before a field that is not blank
 pub four-before : (a b c d : ℕ) (t : List ℕ) → blank t ≡ false → unpadded (a ∷ b ∷ c ∷ d ∷ t) ≡ a ∷ b ∷ c ∷ d ∷ unpadded t
 four-before a b c d t e = simp (e, and-false)
 
--- two letters, two digits, a byte that is used, and all before the padding are of the class
+-- two capitals, two digits, a byte that is used, and all before the padding are of the class
 wider : (ca cb dc dd la lb lc ld r : Bool) → (ca ≡ true → la ≡ true) → (cb ≡ true → lb ≡ true) → (dc ≡ true → lc ≡ true)
     → (dd ≡ true → ld ≡ true)
     → (ca && cb && (dc && dd) && true && (la && (lb && (lc && (ld && r))))) ≡ (ca && (cb && true) && (dc && (dd && true)) && r)
@@ -28,14 +28,14 @@ wider true true false dd la lb lc ld r p q s t = refl
 wider true true true false la lb lc ld r p q s t = refl
 wider true true true true la lb lc ld r p q s t = simp (p refl, q refl, s refl, t refl)
 
-pub capital-spelt : (c : ℕ) → isIn Capital c ≡ true → isIn LetterOrDigit c ≡ true
+pub capital-spelt : (c : ℕ) → isIn Capital c ≡ true → isIn CapitalOrDigit c ≡ true
 capital-spelt c h = simp h
 
-pub digit-spelt : (c : ℕ) → isIn Digit c ≡ true → isIn LetterOrDigit c ≡ true
+pub digit-spelt : (c : ℕ) → isIn Digit c ≡ true → isIn CapitalOrDigit c ≡ true
 digit-spelt c h = simp (h, or-true)
 
 abbrev pub shapeTests : List ℕ → Bool
-shapeTests s = ibanFront s && allIn LetterOrDigit (unpadded s)
+shapeTests s = ibanFront s && allIn CapitalOrDigit (unpadded s)
 
 module _ (a b c d : ℕ) (t : List ℕ) (h : length t ≡ 30) where
   shape-long : blank t ≡ true → ibanShape (unpadded (a ∷ b ∷ c ∷ d ∷ t)) ≡ false
@@ -44,22 +44,22 @@ module _ (a b c d : ℕ) (t : List ℕ) (h : length t ≡ 30) where
   shape-used : blank t ≡ false → shapeTests (a ∷ b ∷ c ∷ d ∷ t) ≡ ibanShape (unpadded (a ∷ b ∷ c ∷ d ∷ t))
   shape-used e =
       let front = isIn Capital a && isIn Capital b && (isIn Digit c && isIn Digit d) in
-      ap (λ (u : List ℕ). front && not (eqb (getD t 0 0) 0) && allIn LetterOrDigit u) (four-before a b c d t e)
+      ap (λ (u : List ℕ). front && not (eqb (getD t 0 0) 0) && allIn CapitalOrDigit u) (four-before a b c d t e)
       ∙ go (eqb (getD t 0 0) 0) refl
       ∙ sym (ap ibanShape (four-before a b c d t e))
     where
       go : (z : Bool) → eqb (getD t 0 0) 0 ≡ z
           → (isIn Capital a && isIn Capital b && (isIn Digit c && isIn Digit d) && not z
-          && allIn LetterOrDigit (a ∷ b ∷ c ∷ d ∷ unpadded t))
+          && allIn CapitalOrDigit (a ∷ b ∷ c ∷ d ∷ unpadded t))
           ≡ ibanShape (a ∷ b ∷ c ∷ d ∷ unpadded t)
-      go true z = simp (zero-inside LetterOrDigit t e z, and-false)
+      go true z = simp (zero-inside CapitalOrDigit t e z, and-false)
       go false z =
           let n = length (unpadded t) in
           let least = used-first t z in
           let most = value-within t in
           wider (isIn Capital a) (isIn Capital b) (isIn Digit c) (isIn Digit d)
-          (isIn LetterOrDigit a) (isIn LetterOrDigit b) (isIn LetterOrDigit c) (isIn LetterOrDigit d)
-          (allIn LetterOrDigit (unpadded t))
+          (isIn CapitalOrDigit a) (isIn CapitalOrDigit b) (isIn CapitalOrDigit c) (isIn CapitalOrDigit d)
+          (allIn CapitalOrDigit (unpadded t))
           (capital-spelt a) (capital-spelt b) (digit-spelt c) (digit-spelt d)
           ∙ sym (simp (le-leb 5 (suc (suc (suc (suc n)))) (omega arith), le-leb (suc (suc (suc (suc n)))) 34 (omega arith)))
 

@@ -9,7 +9,7 @@ use lib.ListN.{length}
 use Rattle.fields.specs.Text.{unpadded}
 use Rattle.fields.proofs.Tests.{and-left, and-right}
 use Rattle.classes.specs.Class.{isIn, allIn}
-use Rattle.classes.specs.declared.Class.the-variants.{Capital, Digit, LetterOrDigit}
+use Rattle.classes.specs.declared.Class.the-variants.{Capital, Digit, CapitalOrDigit}
 use Rattle.iban.specs.Iban.{rearranged, remainder, ibanShape, isIban}
 use Rattle.iban.specs.Spelling.{spelt, speltMoved, ibanFront}
 use Rattle.iban.proofs.SpeltNumber.{behind, four-behind}
@@ -19,7 +19,7 @@ use Rattle.iban.proofs.Spelt.{spelt-behind, spelt-unpadded}
 four : {a b c d : Bool} → a ≡ true → b ≡ true → c ≡ true → d ≡ true → (a && (b && (c && (d && true)))) ≡ true
 four p q r s = rw (p, q, r, s)
 
--- what has the shape is letters and digits: its first four, and the others
+-- what has the shape is capitals and digits: its first four, and the others
 module _ (a b c d : ℕ) (t : List ℕ) (e : ibanShape (a ∷ b ∷ c ∷ d ∷ t) ≡ true) where
   abbrev lengths : Bool
   lengths = leb 5 (length (a ∷ b ∷ c ∷ d ∷ t)) && leb (length (a ∷ b ∷ c ∷ d ∷ t)) 34
@@ -30,9 +30,9 @@ module _ (a b c d : ℕ) (t : List ℕ) (e : ibanShape (a ∷ b ∷ c ∷ d ∷ 
   abbrev check : Bool
   check = isIn Digit c && (isIn Digit d && true)
 
-  first-spelt : allIn LetterOrDigit (a ∷ b ∷ c ∷ d ∷ []) ≡ true
+  first-spelt : allIn CapitalOrDigit (a ∷ b ∷ c ∷ d ∷ []) ≡ true
   first-spelt =
-      let front = and-left (lengths && country && check) (allIn LetterOrDigit t) e in
+      let front = and-left (lengths && country && check) (allIn CapitalOrDigit t) e in
       let letters = and-right lengths country (and-left (lengths && country) check front) in
       let digits = and-right (lengths && country) check front in
       four
@@ -41,8 +41,8 @@ module _ (a b c d : ℕ) (t : List ℕ) (e : ibanShape (a ∷ b ∷ c ∷ d ∷ 
       (digit-spelt c (and-left (isIn Digit c) _ digits))
       (digit-spelt d (and-left (isIn Digit d) true (and-right (isIn Digit c) _ digits)))
 
-  others-spelt : allIn LetterOrDigit t ≡ true
-  others-spelt = and-right (lengths && country && check) (allIn LetterOrDigit t) e
+  others-spelt : allIn CapitalOrDigit t ≡ true
+  others-spelt = and-right (lengths && country && check) (allIn CapitalOrDigit t) e
 
 number-of : (a b c d : ℕ) (t : List ℕ) → length t ≡ 30 → ibanShape (unpadded (a ∷ b ∷ c ∷ d ∷ t)) ≡ true
     → speltMoved (a ∷ b ∷ c ∷ d ∷ t) ≡ remainder (rearranged (unpadded (a ∷ b ∷ c ∷ d ∷ t)))
@@ -63,9 +63,9 @@ iban-number (a ∷ b ∷ []) h e = absurd (omega arith)
 iban-number (a ∷ b ∷ c ∷ []) h e = absurd (omega arith)
 iban-number (a ∷ b ∷ c ∷ d ∷ t) h e = number-of a b c d t (omega arith) e
 
--- so front, number and letters or digits make an IBAN
+-- so front, number and capitals or digits make an IBAN
 pub iban-tested : (s : List ℕ) → length s ≡ 34
-    → (ibanFront s && eqb (speltMoved s) 1 && allIn LetterOrDigit (unpadded s)) ≡ isIban (unpadded s)
+    → (ibanFront s && eqb (speltMoved s) 1 && allIn CapitalOrDigit (unpadded s)) ≡ isIban (unpadded s)
 unfolding isIban
 iban-tested s h = go (ibanShape (unpadded s)) refl
   where
@@ -77,12 +77,12 @@ iban-tested s h = go (ibanShape (unpadded s)) refl
     passed f a e z = rw (and-left f a z, and-right f a z) (and-true e)
 
     go : (b : Bool) → ibanShape (unpadded s) ≡ b
-        → (ibanFront s && eqb (speltMoved s) 1 && allIn LetterOrDigit (unpadded s))
+        → (ibanFront s && eqb (speltMoved s) 1 && allIn CapitalOrDigit (unpadded s))
         ≡ (ibanShape (unpadded s) && eqb (remainder (rearranged (unpadded s))) 1)
     go true e =
-        passed (ibanFront s) (allIn LetterOrDigit (unpadded s)) (eqb (speltMoved s) 1) (shape-padded s h ∙ e)
+        passed (ibanFront s) (allIn CapitalOrDigit (unpadded s)) (eqb (speltMoved s) 1) (shape-padded s h ∙ e)
         ∙ ap (λ (n : ℕ). eqb n 1) (iban-number s h e)
         ∙ sym (ap (λ (b : Bool). b && eqb (remainder (rearranged (unpadded s))) 1) e)
     go false e =
-        both (ibanFront s) (allIn LetterOrDigit (unpadded s)) (eqb (speltMoved s) 1) (shape-padded s h ∙ e)
+        both (ibanFront s) (allIn CapitalOrDigit (unpadded s)) (eqb (speltMoved s) 1) (shape-padded s h ∙ e)
         ∙ sym (ap (λ (b : Bool). b && eqb (remainder (rearranged (unpadded s))) 1) e)

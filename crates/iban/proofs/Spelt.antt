@@ -11,7 +11,7 @@ use lib.ListN.{take}
 use Rattle.fields.specs.Text.{blank, valueLength, unpadded}
 use Rattle.fields.proofs.Tests.{and-left, and-right}
 use Rattle.classes.specs.Class.{isIn, allIn}
-use Rattle.classes.specs.declared.Class.the-variants.{LetterOrDigit}
+use Rattle.classes.specs.declared.Class.the-variants.{CapitalOrDigit}
 use Rattle.iban.proofs.SpeltNumber.{behind, behind-append, nothing-behind}
 use Rattle.iban.specs.Spelling.{worth, scale, pairWorth, pairScale, spelt}
 use Rattle.iban.proofs.Counting.{one-behind}
@@ -20,12 +20,12 @@ pub spelt-append : (n : ℕ) (s t : List ℕ) → spelt n (s ++ t) ≡ spelt (sp
 spelt-append n [] t = refl
 spelt-append n (c ∷ s) t = spelt-append (n * scale c + worth c) s t
 
--- letters and digits are written behind the number
-pub spelt-behind : (n : ℕ) (s : List ℕ) → allIn LetterOrDigit s ≡ true → spelt n s ≡ behind n s
+-- capitals and digits are written behind the number
+pub spelt-behind : (n : ℕ) (s : List ℕ) → allIn CapitalOrDigit s ≡ true → spelt n s ≡ behind n s
 spelt-behind n [] e = sym (nothing-behind n)
 spelt-behind n (c ∷ s) e =
-    spelt-behind (n * scale c + worth c) s (and-right (isIn LetterOrDigit c) (allIn LetterOrDigit s) e)
-    ∙ ap (λ (k : ℕ). behind k s) (one-behind n c (and-left (isIn LetterOrDigit c) (allIn LetterOrDigit s) e))
+    spelt-behind (n * scale c + worth c) s (and-right (isIn CapitalOrDigit c) (allIn CapitalOrDigit s) e)
+    ∙ ap (λ (k : ℕ). behind k s) (one-behind n c (and-left (isIn CapitalOrDigit c) (allIn CapitalOrDigit s) e))
     ∙ sym (behind-append n (c ∷ []) s)
 
 -- and zero bytes change nothing

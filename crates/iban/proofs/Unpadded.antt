@@ -11,7 +11,7 @@ use Rattle.fields.specs.Text.{unpadded, padded}
 use Rattle.fields.proofs.Tests.{and-right}
 use Rattle.fields.proofs.Padding.{unpadded-whole, unpadded-padded, length-padded}
 use Rattle.classes.specs.Class.{allIn}
-use Rattle.classes.specs.declared.Class.the-variants.{LetterOrDigit}
+use Rattle.classes.specs.declared.Class.the-variants.{CapitalOrDigit}
 use Rattle.classes.proofs.All.{none-zero}
 use Rattle.iban.specs.Iban.{isIban}
 use Rattle.iban.specs.Spelling.{speltMoved, ibanFront}
@@ -32,23 +32,23 @@ module _ (s : List ℕ) (least : 5 ≤ length s) (most : length s ≤ 34) where
   number = eqb (speltMoved (padded 34 s)) 1
 
   -- where they are the value of their padded field, that tells
-  tested : unpadded (padded 34 s) ≡ s → (ibanFront s && number && allIn LetterOrDigit s) ≡ isIban s
+  tested : unpadded (padded 34 s) ≡ s → (ibanFront s && number && allIn CapitalOrDigit s) ≡ isIban s
   tested e =
-      sym (ap₂ (λ (f : Bool) (u : List ℕ). f && number && allIn LetterOrDigit u) (front-padded s least) e)
+      sym (ap₂ (λ (f : Bool) (u : List ℕ). f && number && allIn CapitalOrDigit u) (front-padded s least) e)
       ∙ iban-tested (padded 34 s) (length-padded 34 s most)
       ∙ ap isIban e
 
-  spelt-value : allIn LetterOrDigit s ≡ true → unpadded (padded 34 s) ≡ s
+  spelt-value : allIn CapitalOrDigit s ≡ true → unpadded (padded 34 s) ≡ s
   spelt-value e =
-      unpadded-padded 34 s ∙ unpadded-whole s (length s - 1) (omega arith) (none-zero LetterOrDigit s (length s - 1) e (omega arith))
+      unpadded-padded 34 s ∙ unpadded-whole s (length s - 1) (omega arith) (none-zero CapitalOrDigit s (length s - 1) e (omega arith))
 
-  iban-spelt : isIban s ≡ true → allIn LetterOrDigit s ≡ true
+  iban-spelt : isIban s ≡ true → allIn CapitalOrDigit s ≡ true
   iban-spelt e = and-right (ibanFront s && number) _ (tested (unpadded-padded 34 s ∙ iban-whole s e) ∙ e)
 
-  pub iban-unpadded : (ibanFront s && allIn LetterOrDigit s && number) ≡ isIban s
-  iban-unpadded = go (allIn LetterOrDigit s) refl
+  pub iban-unpadded : (ibanFront s && allIn CapitalOrDigit s && number) ≡ isIban s
+  iban-unpadded = go (allIn CapitalOrDigit s) refl
     where
-      none : allIn LetterOrDigit s ≡ false → (b : Bool) → isIban s ≡ b → isIban s ≡ false
+      none : allIn CapitalOrDigit s ≡ false → (b : Bool) → isIban s ≡ b → isIban s ≡ false
       none e true h = cc (iban-spelt h)
       none e false h = h
 
@@ -57,6 +57,6 @@ module _ (s : List ℕ) (least : 5 ≤ length s) (most : length s ≤ 34) where
       swapped true true n = sym (and-true n)
       swapped true false n = sym (and-false n)
 
-      go : (a : Bool) → allIn LetterOrDigit s ≡ a → (ibanFront s && allIn LetterOrDigit s && number) ≡ isIban s
-      go true e = swapped (ibanFront s) (allIn LetterOrDigit s) number ∙ tested (spelt-value e)
+      go : (a : Bool) → allIn CapitalOrDigit s ≡ a → (ibanFront s && allIn CapitalOrDigit s && number) ≡ isIban s
+      go true e = swapped (ibanFront s) (allIn CapitalOrDigit s) number ∙ tested (spelt-value e)
       go false e = simp (e, and-false) (sym (none e (isIban s) refl))

@@ -12,7 +12,7 @@ use Rattle.fields.specs.Text.{unpadded}
 use Rattle.fields.proofs.Tests.{and-left, and-right}
 use Rattle.fields.proofs.Padding.{unpadded-whole}
 use Rattle.classes.specs.Class.{allIn}
-use Rattle.classes.specs.declared.Class.the-variants.{Capital, Digit, LetterOrDigit}
+use Rattle.classes.specs.declared.Class.the-variants.{Capital, Digit, CapitalOrDigit}
 use Rattle.classes.proofs.All.{none-zero}
 use Rattle.iban.specs.Iban.{isIban, ibanShape, remainder, rearranged}
 
@@ -40,7 +40,7 @@ module _ (s : List ℕ) (e : isIban s ≡ true) where
   iban-end i h =
       let least = iban-least in
       let last : eqb (getD (drop 4 s) (i - 4) 0) 0 ≡ false =
-      none-zero LetterOrDigit (drop 4 s) (i - 4) (and-right front _ shaped) (rw length-drop (omega arith))
+      none-zero CapitalOrDigit (drop 4 s) (i - 4) (and-right front _ shaped) (rw length-drop (omega arith))
       in
       let at : 4 + (i - 4) ≡ i = omega arith in
       rw at at (rw (getD-drop 4 s (i - 4) 0) at last)

@@ -1,7 +1,7 @@
 -- The number that the bytes of a padded IBAN spell, by sums and products alone: no byte is asked what it is.
 --     letter       1 for a byte above the digits, else 0
 --     used         0 for a zero byte, else 1
---     worth        what a byte counts for: of a letter or a digit its value, of a zero byte 0
+--     worth        what a byte counts for: of a capital or a digit its value, of a zero byte 0
 --     scale        what a byte scales the number before it with: a letter 100, a digit 10, a zero byte 1
 --     pairWorth    the same for two bytes
 --     pairScale

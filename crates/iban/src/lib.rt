@@ -1,6 +1,6 @@
 // The check of an IBAN as it stands in a ticket, padded with zero bytes: every byte of the field is looked at, and where the padding
 // begins is never asked. A caller hands in the whole field. The check for C is in `codes`, and asks for front and number here. The first
-// bytes are looked at first, then the number, and then that all are letters and digits: the last reads many bytes at once, and a machine
+// bytes are looked at first, then the number, and then that all are capitals and digits: the last reads many bytes at once, and a machine
 // that does so right behind a write of the field waits for it. The number is defined for every byte, so the order of the tests doesn't
 // change the answer (`iban-tested`).
 mod pairs;
@@ -14,7 +14,7 @@ ghost use Rattle.iban.specs.Iban.{isIban};
 ghost use Rattle.iban.specs.Spelling.{speltMoved, ibanFront};
 ghost use Rattle.fields.specs.Text.{unpadded};
 
-// Two letters, two digits, and a character more: of a padded field or of bytes by themselves.
+// Two capitals, two digits, and a character more: of a padded field or of bytes by themselves.
 pub fn iban_front(s: &[u8]) -> bool
     requires { ⌜ 5 ≤ length (now s) ⌝ }
     ensures { λ r. ⌜ r ≡ ibanFront (now (s .entry)) ⌝ }
@@ -33,8 +33,8 @@ pub fn number_ok(s: &[u8]) -> bool
     pairs::of_moved(s) == 1
 }
 
-// First what its first bytes tell, two letters, two digits and a character more; then its number; and at last, when the bytes of a
-// field that was just written can be read many at once, that all are letters and digits.
+// First what its first bytes tell, two capitals, two digits and a character more; then its number; and at last, when the bytes of a
+// field that was just written can be read many at once, that all are capitals and digits.
 pub fn iban_ok(s: &[u8]) -> bool
     requires { ⌜ length (now s) ≡ 34 ⌝ }
     ensures { λ r. ⌜ r ≡ isIban (unpadded (now (s .entry))) ⌝ }
@@ -45,5 +45,5 @@ pub fn iban_ok(s: &[u8]) -> bool
     if !number_ok(s) {
         return false;
     }
-    classes::all_padded(Class::LetterOrDigit, s)
+    classes::all_padded(Class::CapitalOrDigit, s)
 }

@@ -1,6 +1,6 @@
 // The number that the characters of a padded IBAN spell, two bytes at a time. A zero byte counts 0 and scales the number before it with
 // 1, so the padding may stay in it (`spelt-unpadded`). What a byte counts and scales with are sums and products (`worth`, `scale`),
-// defined for every byte and compared with `value` at each letter and digit. Arrays with an element for each byte, made into pairs
+// defined for every byte and compared with `value` at each capital and digit. Arrays with an element for each byte, made into pairs
 // afterwards, would take fewer instructions and more time.
 ghost use mathlib.Core.Path.{_≡_};
 ghost use Prim.Native.Nat.{ℕ, _≤_, _<_};
@@ -19,7 +19,8 @@ fn used(c: u16) -> u16
     (c != 0) as u16
 }
 
-// A digit counts what 16 leaves of it, a letter what 32 leaves and 9 more, a zero byte nothing.
+// A digit counts what 16 leaves of it, a letter what 32 leaves and 9 more, a zero byte nothing. A small letter so counts what its
+// capital does; that it is no letter of an IBAN is for the test of the class.
 fn worth(c: u16) -> u16
     ensures { λ r. ⌜ (r ≡ worth c) × (r ≤ 40) ⌝ }
 {

@@ -14,12 +14,10 @@ use Rattle.classes.specs.Class.{isIn, allIn}
 use Rattle.classes.specs.declared.Class.{Class}
 use Rattle.classes.specs.declared.Class.the-variants.{
   Capital,
-  Small,
   Digit,
   CapitalOr2To9,
   CapitalButOOrDigit,
   CapitalOrDigit,
-  LetterOrDigit,
   Txid,
 }
 use Rattle.codes.specs.Bic.{isBic}
@@ -32,12 +30,10 @@ use Rattle.index.proofs.Comparing.{rest-bytes}
 -- no class has a number that is no byte
 none-far : (class : Class) (c : ℕ) → 256 ≤ c → isIn class c ≡ false
 none-far Capital c far = simp (lt-leb c 90 (omega arith), and-false)
-none-far Small c far = simp (lt-leb c 122 (omega arith), and-false)
 none-far Digit c far = simp (lt-leb c 57 (omega arith), and-false)
 none-far CapitalOr2To9 c far = simp (lt-leb c 90 (omega arith), lt-leb c 57 (omega arith), and-false)
 none-far CapitalButOOrDigit c far = simp (lt-leb c 90 (omega arith), lt-leb c 57 (omega arith), and-false)
 none-far CapitalOrDigit c far = simp (lt-leb c 90 (omega arith), lt-leb c 57 (omega arith), and-false)
-none-far LetterOrDigit c far = simp (lt-leb c 90 (omega arith), lt-leb c 122 (omega arith), lt-leb c 57 (omega arith), and-false)
 none-far Txid c far =
     let other : (k : ℕ) → k < 256 → eqb c k ≡ false = λ k l. ne-eqb c k (λ e. absurd (omega arith)) in
     simp (

@@ -1,4 +1,4 @@
--- The marked cases of 01 'At the edges' as rows, and all cases under one statement. Assumes nothing.
+-- The marked cases of 01 'At the edges' and those that 02 adds as rows, and all cases under one statement. Assumes nothing.
 use mathlib.Core.Path.{refl}
 use mathlib.Core.List.{List, [], _∷_, _++_}
 use Rattle.fields.specs.Text.{text}
@@ -46,6 +46,14 @@ markedCases =
     ∷ orderTicket 5 bicA bicB 400 tx1 (text "LV81BANK0000435195001")
     ∷ []))
     "T 0 0 0 0\nT 1 8 0 0\nC 0 1000 0 0\nC 1 0 0 0\n"
+    -- 02, slip 1
+    ∷ day "case D's IBAN with BANK in small letters is refused by 8, the same ticket with capitals accepted"
+    (twoBanks
+    (coverInTicket 0 bicA 1000
+    ∷ orderTicket 5 bicA bicB 400 tx1 (text "LV80bank0000435195001")
+    ∷ orderTicket 5 bicA bicB 400 tx1 ibanD
+    ∷ []))
+    "T 0 0 0 0\nT 1 8 0 0\nT 2 0 1 1\nR 1 1 0 400\nC 0 600 400 0\nC 1 0 0 0\n"
     ∷ day "an order equal to available is accepted"
     (twoBanks (coverInTicket 0 bicA 1000 ∷ orderTicket 5 bicA bicB 1000 tx1 ibanD ∷ []))
     "T 0 0 0 0\nT 1 0 1 1\nR 1 1 0 1000\nC 0 0 1000 0\nC 1 0 0 0\n"

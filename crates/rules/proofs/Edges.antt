@@ -170,4 +170,30 @@ edges =
     ∷ day "a confirm with neither held nor open debit is refused by 21"
     (fileBytes (bankOpening bicA 100 ∷ []) [] (confirmTicket 0 bicA 0 ∷ []))
     "T 0 21 0 0\nC 0 0 0 0\n"
+    -- 02, slip 1
+    ∷ day "one small letter, first or last behind the check digits, is refused by 8, and the capital there accepted"
+    (twoBanks
+    (coverInTicket 0 bicA 1000
+    ∷ orderTicket 5 bicA bicB 100 tx1 (text "LV80bANK0000435195001")
+    ∷ orderTicket 5 bicA bicB 100 tx1 ibanD
+    ∷ orderTicket 5 bicA bicB 100 tx2 (text "LV31BANK000043519500a")
+    ∷ orderTicket 5 bicA bicB 100 tx2 (text "LV31BANK000043519500A")
+    ∷ []))
+    "T 0 0 0 0\nT 1 8 0 0\nT 2 0 1 1\nR 1 1 0 100\nT 3 8 0 0\nT 4 0 1 1\nR 1 1 1 100\nC 0 800 200 0\nC 1 0 0 0\n"
+    ∷ day "an IBAN with digits alone behind the country is accepted"
+    (twoBanks (coverInTicket 0 bicA 1000 ∷ orderTicket 5 bicA bicB 400 tx1 (text "DE89370400440532013000") ∷ []))
+    "T 0 0 0 0\nT 1 0 1 1\nR 1 1 0 400\nC 0 600 400 0\nC 1 0 0 0\n"
+    ∷ dayOf "a small letter is looked at after 7 and before 9 to 11, and the clock stays"
+    (twoBanks
+    (coverInTicket 10 bicA 1000
+    ∷ orderTicket 10 bicA bicB 400 tx1 ibanD
+    ∷ orderTicket 40 bicA bicB 400 (text "TX 2") (text "LV80bank0000435195001")
+    ∷ orderTicket 40 bicA bicB 0 tx2 (text "LV80bank0000435195001")
+    ∷ orderTicket 40 bicA bicB 100_000_000_000 tx2 (text "LV80bank0000435195001")
+    ∷ orderTicket 9 bicA bicB 400 tx2 (text "LV80bank0000435195001")
+    ∷ orderTicket 40 bicA bicB 400 tx2 (text "LV80bank0000435195001")
+    ∷ yesTicket 29 bicB tx1
+    ∷ []))
+    (text "T 0 0 0 0\nT 1 0 1 1\nR 1 1 0 400\nT 2 7 0 0\nT 3 8 0 0\nT 4 8 0 0\nT 5 8 0 0\nT 6 8 0 0\n"
+    ++ text "T 7 0 2 0\nR 0 2 0 400\nR 1 2 0 400\nC 0 600 0 0\nC 1 400 0 0\n")
     ∷ []

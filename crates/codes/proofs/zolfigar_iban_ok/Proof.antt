@@ -13,7 +13,7 @@ use Rattle.fields.specs.Text.{padded}
 use Rattle.fields.proofs.Padding.{length-padded}
 use Rattle.classes.specs.CheckAnswer.{answer}
 use Rattle.classes.specs.Class.{allIn}
-use Rattle.classes.specs.declared.Class.the-variants.{LetterOrDigit}
+use Rattle.classes.specs.declared.Class.the-variants.{CapitalOrDigit}
 use Rattle.iban.specs.Iban.{isIban}
 use Rattle.iban.specs.Spelling.{speltMoved, ibanFront}
 use Rattle.iban.proofs.WholeIban.{too-few, too-many}
@@ -29,7 +29,7 @@ module _ (c : tie.Else2) where
   abbrev tests : Bool → Bool → Bool
   tests front spelt = front && spelt && eqb (speltMoved (padded 34 s)) 1
 
-  tested : tests (ibanFront s) (allIn LetterOrDigit s) ≡ isIban s
+  tested : tests (ibanFront s) (allIn CapitalOrDigit s) ≡ isIban s
   tested = iban-unpadded s (omega arith) (omega arith)
 
 -- the front is right
@@ -61,9 +61,9 @@ zolfigar-iban-ok-spec =
     (λ c.
     let l = c .before .before .before in
     let front = sym (c .before .iban-front .ensures) ∙ not-true _ (c .if3 .taken) in
-    ap answer (sym (ap (λ (b : Bool). tests l b (allIn LetterOrDigit (s l))) front) ∙ tested l))
+    ap answer (sym (ap (λ (b : Bool). tests l b (allIn CapitalOrDigit (s l))) front) ∙ tested l))
     (λ c κs. search needs)
-    -- other bytes than letters and digits
+    -- other bytes than capitals and digits
     (λ c.
     let l = c .before .before .before .before .before in
     let spelt = sym (c .before .all-in .ensures) ∙ not-true _ (c .if4 .taken) in

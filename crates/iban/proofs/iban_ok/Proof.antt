@@ -9,7 +9,7 @@ use borrow.Author.Tests.{not-true, not-false}
 use lib.Dec.{eqb}
 use Rattle.fields.specs.Text.{unpadded}
 use Rattle.classes.specs.Class.{allIn}
-use Rattle.classes.specs.declared.Class.the-variants.{LetterOrDigit}
+use Rattle.classes.specs.declared.Class.the-variants.{CapitalOrDigit}
 use Rattle.iban.specs.Spelling.{speltMoved, ibanFront}
 use Rattle.iban.proofs.Rearranged.{iban-tested}
 use Rattle.iban.proofs.iban_ok.Statement.{statement}
@@ -17,7 +17,7 @@ use Rattle.iban.proofs.iban_ok.Tie as tie
 
 -- the three tests
 abbrev tests : List ℕ → Bool → Bool → Bool
-tests s front number = front && number && allIn LetterOrDigit (unpadded s)
+tests s front number = front && number && allIn CapitalOrDigit (unpadded s)
 
 fronted : (c : tie.Else1) → ibanFront (now (c .before .before .before .args .s)) ≡ true
 fronted c = sym (c .before .iban-front .ensures) ∙ not-false _ (c .if1 .left)

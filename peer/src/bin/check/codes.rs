@@ -91,17 +91,17 @@ pub fn iban(random: &mut Random) -> Iban {
         1 => 34,
         _ => random.between(5, 34) as usize,
     };
-    let from = if random.one_in(3) { &ALL[52..62] } else { &ALL[..62] };
+    let from = if random.one_in(3) { &LAST[26..] } else { LAST };
     let mut iban: Vec<u8> = (0..length).map(|_| random.pick(from)).collect();
     iban[..2].copy_from_slice(&[random.pick(UPPER), random.pick(UPPER)]);
     set_check_digits(random, &mut iban);
     padded(&iban)
 }
 
-/// Sets any check digits that leave 1, among them 00, 01 and 99.
+/// Sets any check digits that leave 1, among them 00, 01 and 99; small letters are read as capitals.
 fn set_check_digits(random: &mut Random, iban: &mut [u8]) {
     iban[2..4].copy_from_slice(b"00");
-    let mut check = (1 + 97 - iban_remainder(iban)) % 97;
+    let mut check = (1 + 97 - iban_remainder(&iban.to_ascii_uppercase())) % 97;
     if check < 3 && random.one_in(2) {
         check += 97;
     }
@@ -112,7 +112,7 @@ pub fn wrong_iban(random: &mut Random) -> Iban {
     let mut iban = iban(random);
     let length = unpadded(&iban).len();
     let at = random.index(length);
-    match random.below(9) {
+    match random.below(12) {
         0 => iban.fill(0),
         1 => {
             iban[4..].fill(0);
@@ -127,9 +127,23 @@ pub fn wrong_iban(random: &mut Random) -> Iban {
         5 => iban[at] = random.pick(OUTSIDE),
         6 => iban.swap(at, length - 1),
         7 => iban[at] = random.pick(LAST),
+        8 => set_small_letter(random, &mut iban[..length]),
+        9 => iban[4..].make_ascii_lowercase(),
+        10 => {
+            iban[4..length].fill_with(|| random.pick(&ALL[..62]));
+            set_check_digits(random, &mut iban[..length]);
+        }
         _ => iban[2..4].copy_from_slice(format!("{:02}", random.below(100)).as_bytes()),
     }
     iban
+}
+
+/// Puts one small letter behind the check digits, often first or last; with its capital there it is an IBAN.
+fn set_small_letter(random: &mut Random, iban: &mut [u8]) {
+    let last = iban.len() - 1;
+    let any = random.between(4, last as u64) as usize;
+    iban[random.pick(&[4, any, any, last])] = random.pick(&ALL[26..52]);
+    set_check_digits(random, iban);
 }
 
 /// Puts a letter in place of a check digit, and by the other lets 1 be left, if one does.
@@ -138,7 +152,7 @@ fn set_check_letter(random: &mut Random, iban: &mut [u8]) {
     iban[letter] = random.pick(&ALL[..52]);
     for byte in LAST {
         iban[other] = *byte;
-        if iban_remainder(iban) == 1 {
+        if iban_remainder(&iban.to_ascii_uppercase()) == 1 {
             return;
         }
     }

@@ -3,9 +3,10 @@
 use crate::damage::FAULTS;
 use crate::verdict::Lacks;
 use peer::book::{Answer, Book, Cover, Recall, Status, WAIT};
+use peer::codes::{is_iban, unpadded, IBAN_LEN};
 use peer::dayfile::{DayFile, MOST_OPENING};
 use peer::report::{reports, Report, BUFFER_LEN, MOST_REPORTS};
-use peer::ticket::{Kind, Ticket, MOST_PAID, TICKET_LEN};
+use peer::ticket::{Kind, Ticket, IBAN_AT, MOST_PAID, TICKET_LEN};
 use peer::MOST_COVER;
 use std::collections::BTreeMap;
 
@@ -22,6 +23,10 @@ const STEPS: &[&str] = &[
     "order of one cent more than available",
     "order of 99,999,999,999",
     "order that fills the book",
+    "order with an IBAN but for one small letter",
+    "order with an IBAN but for a small letter behind the check digits",
+    "order with an IBAN but for a small letter at its end",
+    "order with an IBAN but for several small letters",
     "route of 1 row",
     "route of 2 to 9 rows",
     "route of 10 to 63 rows",
@@ -149,6 +154,9 @@ impl Tally {
         for report in reports(buffer, answer.reports) {
             self.reports[usize::from(report.code)] += 1;
         }
+        if refusal == 8 {
+            self.small_letters(unpadded(&bytes[IBAN_AT..IBAN_AT + IBAN_LEN]));
+        }
         if let Some(ticket) = ticket.filter(|_| !(7..=11).contains(&refusal)) {
             let seen = Seen { book, ticket: &ticket, answer, buffer, cover_before: cover, clock_before: clock };
             self.waits(&seen);
@@ -169,6 +177,21 @@ impl Tally {
         if is_met {
             self.count(name);
         }
+    }
+
+    /// An IBAN that is none because of small letters behind its check digits.
+    fn small_letters(&mut self, iban: &[u8]) {
+        let is_small = |byte: &u8| byte.is_ascii_lowercase();
+        let (first, rest) = iban.split_at(iban.len().min(4));
+        if !is_iban(&[first, &rest.to_ascii_uppercase()].concat()) {
+            return;
+        }
+        let count = rest.iter().filter(|byte| is_small(byte)).count();
+        self.count_if(count == 1, "order with an IBAN but for one small letter");
+        self.count_if(count > 1, "order with an IBAN but for several small letters");
+        let is_alone_at = |byte: Option<&u8>| count == 1 && byte.is_some_and(is_small);
+        self.count_if(is_alone_at(rest.first()), "order with an IBAN but for a small letter behind the check digits");
+        self.count_if(is_alone_at(rest.last()), "order with an IBAN but for a small letter at its end");
     }
 
     /// What the ticket's time does, before its own step.
