@@ -18,7 +18,7 @@ use Rattle.rules.specs.Cover.{total}
 use Rattle.rules.specs.Tick.{tick}
 use Rattle.rules.specs.Step.{stepOf, handed}
 use Rattle.rules.specs.Program.{decimal, numbers, output}
-use Rattle.rules.proofs.Names.{bicA, bicB, tx1, ibanD, twoBanks, day}
+use Rattle.rules.proofs.Names.{bicA, bicB, tx1, ibanD, smallIbanD, twoBanks, day}
 use Rattle.rules.proofs.Edges.{edges}
 use Rattle.rules.proofs.LimitEdges.{limits}
 
@@ -50,7 +50,7 @@ markedCases =
     ∷ day "case D's IBAN with BANK in small letters is refused by 8, the same ticket with capitals accepted"
     (twoBanks
     (coverInTicket 0 bicA 1000
-    ∷ orderTicket 5 bicA bicB 400 tx1 (text "LV80bank0000435195001")
+    ∷ orderTicket 5 bicA bicB 400 tx1 smallIbanD
     ∷ orderTicket 5 bicA bicB 400 tx1 ibanD
     ∷ []))
     "T 0 0 0 0\nT 1 8 0 0\nT 2 0 1 1\nR 1 1 0 400\nC 0 600 400 0\nC 1 0 0 0\n"

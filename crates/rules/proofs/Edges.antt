@@ -17,7 +17,7 @@ use Rattle.ticket.specs.TicketWriting.{
   tickTicket,
 }
 use Rattle.dayfile.specs.FileWriting.{fileBytes, bank, bankOpening, linked, direct, onward}
-use Rattle.rules.proofs.Names.{bicA, bicB, bicC, bicL, bicZ, tx1, tx2, tx3, ibanD, twoBanks, dayOf, day}
+use Rattle.rules.proofs.Names.{bicA, bicB, bicC, bicL, bicZ, tx1, tx2, tx3, ibanD, smallIbanD, twoBanks, dayOf, day}
 
 abbrev pub edges : List Row
 edges =
@@ -187,11 +187,11 @@ edges =
     (twoBanks
     (coverInTicket 10 bicA 1000
     ∷ orderTicket 10 bicA bicB 400 tx1 ibanD
-    ∷ orderTicket 40 bicA bicB 400 (text "TX 2") (text "LV80bank0000435195001")
-    ∷ orderTicket 40 bicA bicB 0 tx2 (text "LV80bank0000435195001")
-    ∷ orderTicket 40 bicA bicB 100_000_000_000 tx2 (text "LV80bank0000435195001")
-    ∷ orderTicket 9 bicA bicB 400 tx2 (text "LV80bank0000435195001")
-    ∷ orderTicket 40 bicA bicB 400 tx2 (text "LV80bank0000435195001")
+    ∷ orderTicket 40 bicA bicB 400 (text "TX 2") smallIbanD
+    ∷ orderTicket 40 bicA bicB 0 tx2 smallIbanD
+    ∷ orderTicket 40 bicA bicB 100_000_000_000 tx2 smallIbanD
+    ∷ orderTicket 9 bicA bicB 400 tx2 smallIbanD
+    ∷ orderTicket 40 bicA bicB 400 tx2 smallIbanD
     ∷ yesTicket 29 bicB tx1
     ∷ []))
     (text "T 0 0 0 0\nT 1 0 1 1\nR 1 1 0 400\nT 2 7 0 0\nT 3 8 0 0\nT 4 8 0 0\nT 5 8 0 0\nT 6 8 0 0\n"

@@ -58,6 +58,10 @@ tx8 = text "TX8"
 abbrev pub ibanD : List ℕ
 ibanD = text "LV80BANK0000435195001"
 
+-- and with its BANK in small letters
+abbrev pub smallIbanD : List ℕ
+smallIbanD = text "LV80bank0000435195001"
+
 -- two banks with no opening cover, a direct route each: cases D and E and most others
 abbrev pub twoBanks : List (List ℕ) → List ℕ
 twoBanks tickets = fileBytes (bank bicA ∷ bank bicB ∷ []) (direct bicA 0 ∷ direct bicB 1 ∷ []) tickets
