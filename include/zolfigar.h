@@ -14,7 +14,7 @@
 #include <stdint.h>
 
 /* The file VERSION has it too. */
-#define ZOLFIGAR_VERSION "1.1.0"
+#define ZOLFIGAR_VERSION "1.2.0"
 
 #ifdef __cplusplus
 extern "C" {

@@ -36,7 +36,8 @@ pub enum Status {
     Waiting,
     Refused,
     Expired,
-    Returned,
+    /// With the amount that was returned, from 1 cent to the order's.
+    Returned(u64),
     Settled(Recall),
 }
 
@@ -48,6 +49,13 @@ pub struct Order {
     pub amount: u64,
     pub time: u32,
     pub status: Status,
+}
+
+impl Order {
+    /// Whether less than its amount was returned.
+    pub fn is_returned_in_part(&self) -> bool {
+        matches!(self.status, Status::Returned(amount) if amount < self.amount)
+    }
 }
 
 /// The answer to a ticket.
@@ -261,18 +269,19 @@ impl Book {
         Ok(())
     }
 
+    /// The amount goes back to the payer; what the order has above it stays with the payee.
     fn return_order(&mut self, number: usize, amount: u64, reports: &mut Writer) -> Result<(), Refusal> {
         let order = &self.orders[number];
         let (payer, payee) = (order.payer, order.payee);
         if order.status != Status::Settled(Recall::Asked) {
             return Err(Refusal::Status);
         }
-        if amount != order.amount {
-            return Err(Refusal::AmountDiffers);
+        if amount > order.amount {
+            return Err(Refusal::AboveOrder);
         }
         self.take_available(payee, amount)?;
         self.cover(payer).available += amount;
-        self.orders[number].status = Status::Returned;
+        self.orders[number].status = Status::Returned(amount);
         reports.push(payer, Code::Returned, number as u16, amount);
         Ok(())
     }
@@ -291,7 +300,7 @@ impl Book {
             Status::Waiting => tell(order.payee, Code::AnswerDue),
             Status::Refused => tell(order.payer, Code::Refused),
             Status::Expired => tell(order.payer, Code::Expired),
-            Status::Returned => tell(order.payer, Code::Returned),
+            Status::Returned(amount) => reports.push(order.payer, Code::Returned, number as u16, amount),
             Status::Settled(recall) => {
                 tell(order.payer, Code::Settled);
                 match recall {

@@ -5,6 +5,7 @@ use crate::codes::unpadded;
 use crate::dayfile::{DayFile, Roster};
 use crate::printing::{print_answer, print_line, print_numbers};
 use crate::report::REPORT_LEN;
+use std::borrow::Cow;
 
 /// A ticket of any bytes and length, and a buffer of any length that one byte fills.
 #[derive(Clone, PartialEq, Eq, Debug)]
@@ -60,14 +61,15 @@ fn print_order(text: &mut Vec<u8>, number: u64, order: &Order) {
     text.push(b'\n');
 }
 
-pub fn status_word(status: Status) -> &'static str {
+/// A returned order's word has the amount that was returned behind it, a settled one's the recall mark.
+fn status_word(status: Status) -> Cow<'static, str> {
     match status {
-        Status::Waiting => "Waiting",
-        Status::Refused => "Refused",
-        Status::Expired => "Expired",
-        Status::Returned => "Returned",
-        Status::Settled(Recall::None) => "Settled-none",
-        Status::Settled(Recall::Asked) => "Settled-asked",
-        Status::Settled(Recall::Declined) => "Settled-declined",
+        Status::Waiting => "Waiting".into(),
+        Status::Refused => "Refused".into(),
+        Status::Expired => "Expired".into(),
+        Status::Returned(amount) => format!("Returned-{amount}").into(),
+        Status::Settled(Recall::None) => "Settled-none".into(),
+        Status::Settled(Recall::Asked) => "Settled-asked".into(),
+        Status::Settled(Recall::Declined) => "Settled-declined".into(),
     }
 }

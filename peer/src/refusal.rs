@@ -22,7 +22,7 @@ pub enum Refusal {
     TxIdNotHeld = 16,
     WrongParty = 17,
     Status = 18,
-    AmountDiffers = 19,
+    AboveOrder = 19,
     TooLittleCover = 20,
     CutOrConfirm = 21,
     TooMuchCover = 22,

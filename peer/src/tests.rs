@@ -2,6 +2,7 @@
 
 use crate::book::{Answer, Book, Cover, Recall, Status};
 use crate::dayfile::{DayFile, Roster};
+use crate::handing::{print_case, Input};
 use crate::printing::print_day;
 use crate::refusal::Refusal;
 use crate::report::{reports, Report, BUFFER_LEN};
@@ -29,6 +30,11 @@ fn order_fields(time: u32, payer: &[u8; 11], payee: &[u8; 11], amount: u64, tx_i
 /// A ticket of kinds 4 to 8.
 fn about_fields(kind: u8, flag: u8, time: u32, sender: &[u8; 11], tx_id: &str) -> TicketFields {
     TicketFields { flag, tx_id: padded(tx_id.as_bytes()), ..fields(kind, time, sender, 0) }
+}
+
+/// A return of the order X.
+fn return_fields(payee: &[u8; 11], amount: u64) -> TicketFields {
+    TicketFields { amount, ..about_fields(6, 0, 7, payee, "X") }
 }
 
 /// Banks A and B and a linked system, with the openings given, a direct route each.
@@ -93,6 +99,24 @@ impl Trial {
         let mut trial = Trial::set_up_order(payee);
         trial.accept(&about_fields(4, 1, 6, payee, "X"));
         trial
+    }
+
+    fn set_up_asked(payee: &[u8; 11]) -> Self {
+        let mut trial = Trial::set_up_settled(payee);
+        trial.accept(&about_fields(5, 4, 7, A, "X"));
+        trial
+    }
+
+    /// All that a refused return has to leave.
+    fn order_and_covers(&self) -> (Status, [Cover; 3]) {
+        (self.book.orders()[0].status, [0, 1, 2].map(|participant| self.cover(participant)))
+    }
+
+    /// A return that is refused, without reports, and leaves everything.
+    fn refuse_return(&mut self, refusal: u8, payee: &[u8; 11], amount: u64) {
+        let before = self.order_and_covers();
+        assert_eq!(self.all(&return_fields(payee, amount)), (refusal, vec![]), "return of {amount}");
+        assert_eq!(self.order_and_covers(), before);
     }
 }
 
@@ -275,19 +299,137 @@ fn recalls() {
 
 #[test]
 fn returns() {
+    for (payee, number) in [(B, 1), (SYSTEM, 2)] {
+        for amount in [1, 2, 200, 398, 399, 400] {
+            let mut trial = Trial::set_up_asked(payee);
+            assert_eq!(trial.all(&return_fields(payee, amount)), (0, vec![(0, 6, 0, amount)]));
+            assert_eq!(trial.cover(0), Cover { available: 600 + amount, ..Cover::default() });
+            assert_eq!(trial.cover(number), Cover { available: 400 - amount, ..Cover::default() });
+            assert_eq!(trial.book.total(), 1000);
+            let order = &trial.book.orders()[0];
+            assert_eq!((order.amount, order.status), (400, Status::Returned(amount)));
+            assert_eq!(order.is_returned_in_part(), amount < 400);
+        }
+    }
+}
+
+#[test]
+fn inquiries_repeat_what_was_returned() {
+    for amount in [1, 399, 400] {
+        let mut trial = Trial::set_up_asked(B);
+        trial.accept(&return_fields(B, amount));
+        for time in [7, 8] {
+            assert_eq!(trial.all(&about_fields(8, 0, time, A, "X")), (0, vec![(0, 6, 0, amount)]));
+        }
+    }
+}
+
+/// Neither the rest nor anything else: a return ends the recall.
+#[test]
+fn an_order_is_returned_once() {
+    for amount in [1, 200, 399, 400] {
+        let mut trial = Trial::set_up_asked(B);
+        trial.accept(&return_fields(B, amount));
+        trial.accept(&fields(1, 7, B, 400));
+        for second in [1, 200, 399, 400, 401, MOST_PAID] {
+            trial.refuse_return(18, B, second);
+        }
+        for refused in [about_fields(4, 1, 7, B, "X"), about_fields(5, 1, 7, A, "X"), about_fields(7, 1, 7, B, "X")] {
+            assert_eq!(trial.all(&refused), (18, vec![]));
+        }
+        assert_eq!(trial.all(&about_fields(8, 0, 7, A, "X")), (0, vec![(0, 6, 0, amount)]));
+    }
+}
+
+#[test]
+fn returns_before_a_recall_and_after_its_decline() {
     let mut trial = Trial::set_up_settled(B);
-    let return_of = |amount| TicketFields { amount, ..about_fields(6, 0, 7, B, "X") };
-    assert_eq!(trial.refusal(&return_of(399)), 18);
+    for amount in [1, 399, 400, 401] {
+        trial.refuse_return(18, B, amount);
+    }
     trial.accept(&about_fields(5, 4, 7, A, "X"));
+    trial.accept(&about_fields(7, 1, 7, B, "X"));
+    for amount in [1, 399, 400, 401] {
+        trial.refuse_return(18, B, amount);
+    }
+}
+
+#[test]
+fn returns_above_the_order() {
+    let mut trial = Trial::set_up_asked(B);
+    trial.refuse_return(9, B, 0);
+    trial.refuse_return(10, B, MOST_PAID + 1);
+    for more_cover in [0, 1, 600] {
+        if more_cover > 0 {
+            trial.accept(&fields(1, 7, B, more_cover));
+        }
+        for amount in [401, 402, 1002, MOST_PAID] {
+            trial.refuse_return(19, B, amount);
+        }
+    }
+    trial.accept(&return_fields(B, 400));
+}
+
+#[test]
+fn returns_up_to_available() {
+    let mut trial = Trial::set_up_asked(B);
     trial.accept(&fields(2, 7, B, 1));
-    assert_eq!(trial.refusal(&return_of(399)), 19);
-    assert_eq!(trial.refusal(&return_of(400)), 20);
+    trial.refuse_return(20, B, 400);
+    trial.refuse_return(19, B, 401);
     trial.accept(&fields(1, 7, B, 1));
-    assert_eq!(trial.all(&return_of(400)), (0, vec![(0, 6, 0, 400)]));
-    assert_eq!(trial.cover(0), Cover { available: 1000, ..Cover::default() });
+    trial.accept(&return_fields(B, 400));
     assert_eq!(trial.cover(1), Cover::default());
-    assert_eq!(trial.all(&about_fields(8, 0, 7, A, "X")), (0, vec![(0, 6, 0, 400)]));
-    assert_eq!(trial.refusal(&return_of(400)), 18);
+
+    let mut trial = Trial::set_up_asked(B);
+    trial.accept(&fields(2, 7, B, 250));
+    for amount in [151, 152, 399, 400] {
+        trial.refuse_return(20, B, amount);
+    }
+    trial.refuse_return(19, B, 401);
+    assert_eq!(trial.all(&return_fields(B, 150)), (0, vec![(0, 6, 0, 150)]));
+    assert_eq!(trial.cover(0), Cover { available: 750, ..Cover::default() });
+    assert_eq!(trial.cover(1), Cover::default());
+
+    let mut trial = Trial::set_up_asked(B);
+    trial.accept(&fields(2, 7, B, 400));
+    trial.refuse_return(20, B, 1);
+}
+
+/// The payee's own order expires at the return's time, so what it had reserved is available.
+#[test]
+fn returns_look_at_available_after_the_expiries() {
+    let paid_by_payee = || {
+        let mut trial = Trial::set_up_asked(B);
+        trial.accept(&order_fields(7, B, A, 300, "Y"));
+        trial.refuse_return(20, B, 101);
+        trial
+    };
+    let expired = vec![(1, 4, 1, 300), (0, 4, 1, 300)];
+    let late = |amount| TicketFields { time: 27, ..return_fields(B, amount) };
+    assert_eq!(paid_by_payee().all(&late(401)), (19, expired.clone()));
+    assert_eq!(paid_by_payee().all(&late(399)), (0, [&expired[..], &[(0, 6, 0, 399)]].concat()));
+    let mut trial = paid_by_payee();
+    trial.accept(&fields(2, 7, B, 100));
+    assert_eq!(trial.all(&late(301)), (20, expired));
+    trial.accept(&late(300));
+    assert_eq!(trial.cover(1), Cover::default());
+}
+
+#[test]
+fn a_returned_order_is_printed_with_what_was_returned() {
+    let tickets = [
+        fields(1, 0, A, 1000),
+        order_fields(5, A, B, 400, "X"),
+        about_fields(4, 1, 6, B, "X"),
+        about_fields(5, 1, 7, A, "X"),
+        return_fields(B, 399),
+    ];
+    let inputs = tickets.map(|ticket| Input { ticket: ticket.bytes().to_vec(), buffer: BUFFER_LEN, fill: OLD });
+    let mut text = Vec::new();
+    print_case(&day_with([None; 3]).bytes(), &inputs, &mut text);
+    let expected = "T 4 0 1 0\nR 0 6 0 399\nB 6528 6528\nK 7\nC 0 999 0 0 0\nC 1 1 0 0 0\nC 2 0 0 0 0\n\
+                    O 0 0 1 400 5 Returned-399 X\n";
+    assert!(String::from_utf8(text).unwrap().ends_with(expected));
 }
 
 #[test]
@@ -306,8 +448,30 @@ fn payer_pays_itself() {
     assert_eq!(trial.all(&about_fields(4, 1, 6, A, "X")), (0, vec![(0, 2, 0, 400), (0, 2, 0, 400)]));
     assert_eq!(trial.cover(0), Cover { available: 1000, ..Cover::default() });
     trial.accept(&about_fields(5, 1, 6, A, "X"));
-    trial.accept(&TicketFields { amount: 400, ..about_fields(6, 0, 6, A, "X") });
+    trial.accept(&return_fields(A, 400));
     assert_eq!(trial.cover(0), Cover { available: 1000, ..Cover::default() });
+}
+
+/// Nothing moves, and the amount is held to the order and to what is available all the same.
+#[test]
+fn payer_returns_to_itself() {
+    for amount in [1, 150, 399, 400] {
+        let mut trial = Trial::set_up_asked(A);
+        trial.refuse_return(19, A, 401);
+        trial.refuse_return(19, A, 1001);
+        assert_eq!(trial.all(&return_fields(A, amount)), (0, vec![(0, 6, 0, amount)]));
+        assert_eq!(trial.cover(0), Cover { available: 1000, ..Cover::default() });
+        assert_eq!(trial.all(&about_fields(8, 0, 7, A, "X")), (0, vec![(0, 6, 0, amount)]));
+        trial.refuse_return(18, A, 400);
+    }
+    let mut trial = Trial::set_up_asked(A);
+    trial.accept(&fields(2, 7, A, 800));
+    for amount in [201, 400] {
+        trial.refuse_return(20, A, amount);
+    }
+    trial.refuse_return(19, A, 401);
+    trial.accept(&return_fields(A, 200));
+    assert_eq!(trial.cover(0), Cover { available: 200, ..Cover::default() });
 }
 
 #[test]
@@ -457,6 +621,14 @@ fn order_of_refusals() {
     assert_eq!(trial.refusal(&ticket), 17);
     ticket.sender = *B;
     assert_eq!(trial.refusal(&ticket), 18);
+    trial.accept(&about_fields(4, 1, 5, B, "X"));
+    trial.accept(&about_fields(5, 1, 5, A, "X"));
+    trial.accept(&fields(2, 5, B, 100));
+    assert_eq!(trial.refusal(&ticket), 19);
+    ticket.amount = 400;
+    assert_eq!(trial.refusal(&ticket), 20);
+    ticket.amount = 300;
+    assert_eq!(trial.refusal(&ticket), 0);
 }
 
 #[test]

@@ -6,7 +6,7 @@ from zolfigar import history, packing
 
 ROOT = os.path.dirname(os.path.dirname(os.path.dirname(os.path.realpath(__file__))))
 EXAMPLES = os.path.join(ROOT, "examples")
-RUNNING = ("case-d", "case-e", "busy", "turned-back", "small-letters")
+RUNNING = ("case-d", "case-e", "busy", "turned-back", "small-letters", "part-return")
 REFUSED = ("refused-1", "refused-2", "refused-3", "refused-4", "refused-5")
 
 
@@ -31,6 +31,52 @@ def output(name):
 def day(name, text=None):
     """An example as it is seen, with its own output or another."""
     return history.read(name, day_file(name), output(name) if text is None else text)
+
+
+RETURNING = """\
+participant AAAALV22 bank
+participant BBBBLV22 bank
+route AAAALV22 to AAAALV22
+route BBBBLV22 to BBBBLV22
+00:00:00 cover-in from AAAALV22 EUR 1000.00
+00:00:05 order TX1 from AAAALV22 to {payee} EUR 400.00 iban LV80BANK0000435195001
+00:00:09 answer TX1 yes from {payee}
+00:01:00 recall TX1 FRAD from AAAALV22
+00:01:30 inquiry TX1 from AAAALV22
+00:02:00 return TX1 from {payee} cents {back}
+00:02:05 inquiry TX1 from AAAALV22
+"""
+RETURNED = """\
+T 0 0 0 0
+T 1 0 1 1
+R {to} 1 0 40000
+T 2 0 2 0
+R 0 2 0 40000
+R {to} 2 0 40000
+T 3 0 1 0
+R {to} 5 0 40000
+T 4 0 2 0
+R 0 2 0 40000
+R {to} 8 0 40000
+T 5 0 1 0
+R 0 6 0 {back}
+T 6 0 1 0
+R 0 6 0 {back}
+C 0 {payer} 0 0
+C 1 {kept} 0 0
+"""
+
+
+def returned(back, to=1):
+    """A day file and its output: an order of 400.00, settled, recalled, returned by so many cents, and asked about; from
+    participant 0 to 1, or to itself."""
+    file = packing.pack("returned.day", RETURNING.format(payee=("AAAALV22", "BBBBLV22")[to], back=back))
+    kept = 40000 - back if to else 0
+    return file, RETURNED.format(to=to, back=back, payer=100000 - kept, kept=kept)
+
+
+def returned_day(back, to=1):
+    return history.read("returned", *returned(back, to))
 
 
 def changed(text, line, other):

@@ -158,7 +158,8 @@ class Contrast(Access):
         grounds = []
         for scheme in ("light", "dark"):
             self.browser.scheme(scheme)
-            for name, where, width in (("tampered", "#t10", 1280), ("busy", "#p0", 360), ("refused", "", 1280)):
+            places = (("tampered", "#t10", 1280), ("busy", "#p0", 360), ("part", "#o0", 1280), ("refused", "", 1280))
+            for name, where, width in places:
                 self.browser.size(width, 900)
                 self.open(name, where)
                 found = self.js(WEAK)
@@ -222,12 +223,12 @@ SMALL = """(() => {
 class Targets(Access):
     def test_targets_on_a_phone_are_not_too_small(self):
         self.browser.size(360, 800)
-        for name in ("tampered", "big", "full"):
+        for name, least in (("tampered", 500), ("part", 100), ("big", 500), ("full", 500)):
             self.open(name)
             self.js(UNFOLD)
             found = self.js(SMALL)
             self.assertEqual(found["bad"], [], name)
-            self.assertGreater(found["count"], 500, name)
+            self.assertGreater(found["count"], least, name)
 
     def test_a_small_target_is_found(self):
         self.browser.size(360, 800)

@@ -39,7 +39,7 @@ class AnyOutput(unittest.TestCase):
         rng = random.Random(8)
         told = 0
         for _ in range(150):
-            name = rng.choice(("case-d", "case-e", "busy"))
+            name = rng.choice(("case-d", "case-e", "busy", "part-return"))
             day = history.read(name, any_file(rng, scenes.day_file(name)), any_output(rng, scenes.output(name)))
             problems = audit.problems(day)
             told += bool(problems)

@@ -59,6 +59,17 @@ class Shown(unittest.TestCase):
         self.assertGreater(day.events[2].time - day.orders[0].time, 20)
         self.assertEqual((in_time.number, in_time.refusal), (3, 0))
 
+    def test_part_return(self):
+        """A part, and the rest of it; a cent above the order, and all of it. The payee closes with what it kept."""
+        day = scenes.day("part-return")
+        returns = [event for event in day.events if event.ticket["kind"] == 6]
+        found = [(event.number, event.ticket["amount"], day.orders[event.order].amount, event.refusal) for event in returns]
+        due = [(4, 39900, 40000, 0), (6, 100, 40000, 18), (10, 10001, 10000, 19), (11, 10000, 10000, 0)]
+        self.assertEqual(found, due)
+        told = [(event.number, report.amount) for event in day.events for report in event.reports if report.code == 6]
+        self.assertEqual(told, [(4, 39900), (5, 39900), (11, 10000)])
+        self.assertEqual([position.available for position in day.positions], [99900, 100])
+
     def test_refused_files(self):
         self.assertEqual([scenes.output(name) for name in scenes.REFUSED], [f"F {n}\n" for n in range(1, 6)])
 

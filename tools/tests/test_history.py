@@ -43,6 +43,40 @@ class Orders(unittest.TestCase):
         self.assertEqual([o.txid for o in scenes.day("busy").waiting(0)], ["TO-FI-3"])
 
 
+class Returns(unittest.TestCase):
+    def test_an_order_knows_its_return(self):
+        """One that was turned back is none: of TX1 the second, of TX2 and INVOICE-3 the first."""
+        known = lambda name: {o.txid: [(e.number, e.ticket["amount"]) for e in o.returns] for o in scenes.day(name).orders}
+        self.assertEqual(known("part-return"), {"TX1": [(4, 39900)], "TX2": [(11, 10000)]})
+        returned = {txid: found for txid, found in known("busy").items() if found}
+        self.assertEqual(returned, {"SALARY-1": [(22, 4000)], "INVOICE-3": [(46, 12000)]})
+
+    def test_the_first_of_two_returns(self):
+        text = scenes.changed(scenes.output("part-return"), "T 6 18 0 0", "T 6 0 1 0\nR 0 6 0 100")
+        order = scenes.day("part-return", text).orders[0]
+        self.assertEqual(([event.number for event in order.returns], order.returned.number), ([4, 6], 4))
+
+    def test_a_return_of_no_order(self):
+        file, text = scenes.returned(39900)
+        self.assertEqual(history.read("x", file.replace(b"TX1", b"TX9", 1), text).orders[0].returns, [])
+
+    def test_a_return_moves_its_own_amount(self):
+        for back in (1, 39999, 40000):
+            day = scenes.returned_day(back)
+            moved = [(m.participant, m.term, m.amount, m.parts()) for m in day.moves if m.event.number == 5]
+            due = [(1, "returns by it", back, (-back, 0, 0)), (0, "returns to it", back, (back, 0, 0))]
+            self.assertEqual(moved, due)
+            sums = day.sums(1)
+            self.assertEqual((sums["orders settled to it"], sums["returns by it"]), (40000, back))
+
+    def test_where_payer_and_payee_are_one_nothing_moves_in_sum(self):
+        for back in (1, 39999, 40000):
+            day = scenes.returned_day(back, to=0)
+            sums = day.sums(0)
+            self.assertEqual((sums["returns by it"], sums["returns to it"]), (back, back))
+            self.assertEqual([after for _, after in day.statement(0)][-1], (100000, 0, 0))
+
+
 class Files(unittest.TestCase):
     def test_a_refused_file(self):
         for number, name in enumerate(scenes.REFUSED, 1):

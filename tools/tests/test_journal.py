@@ -50,6 +50,14 @@ class Hledger(unittest.TestCase):
             ran = hledger(journal.journal(scenes.day(name)), "check", "--strict", "ordereddates")
             self.assertEqual((ran.returncode, ran.stderr), (0, ""), name)
 
+    def test_what_is_returned_and_what_is_kept(self):
+        """A cent of an order, all but a cent, the whole; of one who pays itself nothing moves in sum."""
+        for back in (1, 39999, 40000):
+            kept = 40000 - back
+            for to, covers in ((1, (100000 - kept, kept)), (0, (100000, 0))):
+                found = balances(journal.journal(scenes.returned_day(back, to)))
+                self.assertEqual([found[f"cover:{bic}XXX:available"] for bic in ("AAAALV22", "BBBBLV22")], [*covers])
+
     def test_an_altered_entry(self):
         """Both sides of one entry by a cent, one side alone, the closing position: hledger refuses each."""
         text = journal.journal(scenes.day("busy"))
@@ -75,6 +83,18 @@ class Entries(unittest.TestCase):
         due += "    cover:AAAALV22XXX:reserved                               EUR -4.00\n"
         due += "    cover:BBBBLV22XXX:available                               EUR 4.00"
         self.assertEqual(entries[-2], due)
+
+    def test_a_part_returned(self):
+        """The entry has the returned amount, and says what was kept; that of a whole return has no more words."""
+        entries = journal.journal(scenes.day("part-return")).split("\n\n")
+        part = "2000-01-01 * (4) BBBBLV22 | order 0 TX1 returned, to AAAALV22: "
+        part += "399.00 of 400.00, charge 1.00  ; time: 09:10:00\n"
+        part += "    cover:BBBBLV22XXX:available                            EUR -399.00\n"
+        part += "    cover:AAAALV22XXX:available                             EUR 399.00"
+        whole = "2000-01-01 * (11) BBBBLV22 | order 1 TX2 returned, to AAAALV22  ; time: 10:40:10\n"
+        whole += "    cover:BBBBLV22XXX:available                            EUR -100.00\n"
+        whole += "    cover:AAAALV22XXX:available                             EUR 100.00"
+        self.assertEqual([entry for entry in entries if " returned, " in entry], [part, whole])
 
     def test_dates_go_on_behind_midnight(self):
         self.assertEqual(journal.date_of(journal.DATE, 86399), "2000-01-01")

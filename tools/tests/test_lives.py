@@ -50,6 +50,19 @@ class Lives(unittest.TestCase):
     def test_a_yes_that_comes_too_late_is_the_end_and_turned_back(self):
         self.assertEqual(signs("case-e", "TX1"), [("expired", 20, 2), ("turned", 20, 2), ("inquiry", 25, 3)])
 
+    def test_a_return_says_what_came_back_and_what_was_kept(self):
+        cases = {39999: " 399.99 of 400.00, charge 0.01", 1: " 0.01 of 400.00, charge 399.99", 40000: ""}
+        for back, part in cases.items():
+            marks = lives.marks_of(scenes.returned_day(back).orders[0])
+            told = [mark.words for mark in marks if mark.sign == "return"]
+            self.assertEqual(told, [f"115 s: returned{part}, ticket 5 (return)"])
+
+    def test_a_return_that_is_turned_back_says_why(self):
+        marks = lives.marks_of(scenes.day("part-return").orders[1])
+        told = [mark.words for mark in marks if mark.sign == "turned"]
+        why = "19 XT77: the return is above the order"
+        self.assertEqual(told, [f"2,400 s: a ticket turned back, ticket 10 (return): {why}"])
+
     def test_a_ticket_that_is_no_end_and_does_not_name_the_order(self):
         text = scenes.changed(scenes.output("busy"), "T 48 0 0 0", "T 48 0 1 0\nR 1 1 0 4000")
         order = scenes.day("busy", text).orders[0]

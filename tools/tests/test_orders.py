@@ -9,6 +9,8 @@ from zolfigar import history
 from zolfigar.page import lives, orders
 from zolfigar.page.view import View
 
+PART = "399.00 of 400.00, charge 1.00"
+
 
 class Words(unittest.TestCase):
     def setUp(self):
@@ -31,6 +33,24 @@ class Words(unittest.TestCase):
     def test_returned_though_no_end_was_told(self):
         order = dataclasses.replace(self.orders["SALARY-1"], ended=None, code=None)
         self.assertEqual(words_of(*orders.status_words(self.day, order)), "returned")
+
+    def test_a_part_returned(self):
+        """What came back and what was kept, which leads to the return; of a whole return the word alone."""
+        cases = {39900: PART, 1: "0.01 of 400.00, charge 399.99"}
+        for back, part in cases.items():
+            for to in (1, 0):
+                day = scenes.returned_day(back, to)
+                words = orders.status_words(day, day.orders[0])
+                self.assertEqual(words_of(*words), f"settled after 4 s, returned {part}")
+                self.assertEqual(leads_of(*words), [(part, "#t5")])
+        whole = scenes.returned_day(40000)
+        words = orders.status_words(whole, whole.orders[0])
+        self.assertEqual((words_of(*words), leads_of(*words)), ("settled after 4 s, returned", []))
+
+    def test_a_part_returned_though_no_end_was_told(self):
+        day = scenes.day("part-return")
+        order = dataclasses.replace(day.orders[0], ended=None, code=None)
+        self.assertEqual(words_of(*orders.status_words(day, order)), f"returned {PART}")
 
     def test_payee(self):
         cases = {"SALARY-1": "BBBBLV22", "IN-TIME": "BBBBLV22 for BBBBLV22RIX", "TO-FI-1": "RTONFRPP for EEEEFIHH"}
@@ -58,6 +78,14 @@ class Words(unittest.TestCase):
 
 
 class Seen(pages.InBrowser):
+    def test_what_came_back_leads_to_the_return(self):
+        for width in (1280, 360):
+            self.browser.size(width, 900)
+            self.open("part")
+            self.assertEqual(self.texts("#o0 .status, #o0 .status + a"), ["settled", "returned", PART])
+            self.browser.click("#o0 .status + a")
+            self.assertEqual(self.js(FOCUS), "t4")
+
     def test_marks_lead_to_their_tickets(self):
         self.open("busy")
         self.browser.click("#o4 .sign.decline")

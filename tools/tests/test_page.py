@@ -107,7 +107,7 @@ class Colours(unittest.TestCase):
                     self.assertGreaterEqual(found, 4.5, f"{text} {scheme[text]} on {ground} {scheme[ground]}")
 
 
-REPORT = re.compile(r"to (\S+): [^(]+ \((\d+)\), (?:order (\d+) \S+, )?EUR ([\d,.]+)")
+REPORT = re.compile(r"to (\S+): [^(]+ \((\d+)\), (?:order (\d+) \S+, )?EUR ([\d,.]+)(?: of [\d,.]+)?")
 
 
 def report_of(text, numbers):
@@ -159,7 +159,7 @@ class Seen(pages.InBrowser):
     # The figures
 
     def test_figures_are_those_of_the_output(self):
-        for name in ("case D", "busy", "big", "full"):
+        for name in ("case D", "busy", "part", "big", "full"):
             _, file, output = DAYS[name]
             refusals, reports, positions = printed(output)
             self.open(name)

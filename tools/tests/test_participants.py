@@ -46,6 +46,17 @@ class Parts(unittest.TestCase):
         debit = rows_of(participants.statement(self.view, 1))
         self.assertIn(["open debit at the cut, 140.00 to be confirmed", "none"], [row[2:4] for row in debit])
 
+    def test_a_part_returned(self):
+        """Both parties' statements say what was kept."""
+        view = View(scenes.day("part-return"))
+        part = "399.00 of 400.00, charge 1.00"
+        row = rows_of(participants.statement(view, 0))[4]
+        figures = ["available+399.00", "999.00", "0.00", "0.00"]
+        self.assertEqual(row, ["09:10:00", "4", f"order 0 TX1 returned, from BBBBLV22: {part}", *figures])
+        row = rows_of(participants.statement(view, 1))[2]
+        figures = ["available-399.00", "1.00", "0.00", "0.00"]
+        self.assertEqual(row, ["09:10:00", "4", f"order 0 TX1 returned, to AAAALV22: {part}", *figures])
+
     def test_statements_are_open_on_a_small_day(self):
         for name, is_open in (("case D", True), ("busy", True), ("big", False)):
             view = View(history.read(*DAYS[name]))

@@ -73,5 +73,66 @@ class Telling(unittest.TestCase):
         self.assertEqual(telling.member(self.day, 40), "participant 40")
 
 
+# Cents returned of an order of 400.00, and what is said behind a colon on both statements and behind returned of the order.
+PARTS = {
+    39900: "399.00 of 400.00, charge 1.00",
+    39999: "399.99 of 400.00, charge 0.01",
+    1: "0.01 of 400.00, charge 399.99",
+    40000: "",
+}
+
+
+class Returns(unittest.TestCase):
+    def lines(self, day, number):
+        return [telling.move(day, move) for move, _ in day.statement(number) if move.term in telling.RETURNS]
+
+    def test_both_statements_say_what_was_kept(self):
+        for back, words in PARTS.items():
+            day, kept = scenes.returned_day(back), f": {words}" if words else ""
+            self.assertEqual(self.lines(day, 0), [f"order 0 TX1 returned, from BBBBLV22{kept}"])
+            self.assertEqual(self.lines(day, 1), [f"order 0 TX1 returned, to AAAALV22{kept}"])
+
+    def test_payer_and_payee_are_one(self):
+        for back, words in PARTS.items():
+            day, kept = scenes.returned_day(back, to=0), f": {words}" if words else ""
+            self.assertEqual(self.lines(day, 0), [f"order 0 TX1 returned, {way} AAAALV22{kept}" for way in ("to", "from")])
+
+    def test_the_order_says_what_was_kept(self):
+        for back, words in PARTS.items():
+            for to in (1, 0):
+                [order] = scenes.returned_day(back, to).orders
+                self.assertEqual(telling.standing(order), f"returned {words}".rstrip())
+                self.assertEqual((telling.status(order), telling.part_returned(order)), ("returned", words))
+
+    def test_an_order_that_is_not_returned(self):
+        for order in scenes.day("busy").orders:
+            self.assertEqual((telling.standing(order), telling.part_returned(order)), (telling.status(order), ""))
+
+    def test_report_6_has_the_returned_amount_beside_the_orders(self):
+        for back, amount in ((39900, "399.00 of 400.00"), (1, "0.01 of 400.00"), (40000, "400.00")):
+            day = scenes.returned_day(back)
+            told = [telling.report(day, event.reports[0]) for event in day.events[5:]]
+            self.assertEqual(told, [f"to AAAALV22: the order is returned (6), order 0 TX1, EUR {amount}"] * 2)
+
+    def test_the_summary_counts_a_part_as_returned(self):
+        due = "12 tickets: 10 carried out, 2 turned back; 2 orders: 2 returned"
+        self.assertEqual(telling.summary(scenes.day("part-return")), due)
+
+    def test_a_return_above_its_order(self):
+        """It is turned back; an output that takes it has no charge."""
+        events = scenes.day("part-return").events
+        self.assertEqual(telling.outcome(events[10]), "turned back, 19 XT77: the return is above the order")
+        [order] = scenes.returned_day(40001, to=0).orders
+        self.assertEqual(telling.standing(order), "returned 400.01 of 400.00")
+
+    def test_a_report_6_about_no_order(self):
+        text = scenes.output("busy").replace("R 0 6 0 4000\nT 23", "R 0 6 99 3999\nT 23")
+        day = scenes.day("busy", text)
+        told = telling.report(day, day.events[22].reports[0])
+        self.assertEqual(told, "to AAAALV22: the order is returned (6), order 99, EUR 39.99")
+        moved = [telling.move(day, move) for move in day.moves if move.event.number == 22]
+        self.assertEqual(moved, ["order 99 returned, to AAAALV22", "order 99 returned, from BBBBLV22"])
+
+
 if __name__ == "__main__":
     unittest.main()

@@ -53,6 +53,29 @@ class Followed(unittest.TestCase):
         self.assertEqual(lines[-1], "  08:01:20      10  AAAALV22  order 3 LATE expired, freed             +60.00    -60.00")
 
 
+class Returned(unittest.TestCase):
+    def test_an_order_says_what_was_kept(self):
+        orders = "\n".join(shown("part-return")).split("\nOrders\n")[1].split("\n\n")[0]
+        self.assertEqual(orders, PART_ORDERS)
+
+    def test_a_statement_says_what_was_kept(self):
+        self.assertTrue("\n".join(shown("part-return")).endswith(PART_STATEMENT))
+
+    def test_one_order(self):
+        order = scenes.day("part-return").orders[0]
+        lines = shown("part-return", order=order)
+        self.assertIn(PART_ORDERS.split("\n")[1], lines)
+        told = "                  to AAAALV22: the order is returned (6), order 0 TX1, EUR 399.00 of 400.00"
+        self.assertEqual(lines.count(told), 2)
+        self.assertEqual("\n".join(lines[-2:]), PART_MOVED)
+
+    def test_a_whole_return_has_no_more_words(self):
+        orders = [line for line in shown("busy") if line.startswith("      0  SALARY-1")]
+        due = "      0  SALARY-1   AAAALV22  BBBBLV22   40.00  08:00:05  returned              4    4 s"
+        self.assertEqual(orders, [due])
+        self.assertFalse([line for line in shown("busy") if "charge" in line])
+
+
 class Colour(unittest.TestCase):
     def test_only_where_it_is_wanted(self):
         day = scenes.day("case-e")
@@ -97,6 +120,29 @@ Cover of BBBBLV22 (participant 1, bank, no opening cover)
   00:00:24       2  order 0 TX1 settled, from AAAALV22   +4.00       4.00      0.00  0.00
   4.00 orders settled to it = 4.00
   4.00 available + 0.00 reserved + 0.00 held = 4.00, the program's line C 1"""
+
+
+PART_ORDERS = """\
+  order  TxId  payer     payee     amount        at  status                                  wait ended by  after
+      0  TX1   AAAALV22  BBBBLV22  400.00  08:00:05  returned 399.00 of 400.00, charge 1.00              2    4 s
+      1  TX2   AAAALV22  BBBBLV22  100.00  10:00:00  returned                                            8    4 s"""
+
+
+PART_STATEMENT = """
+Cover of BBBBLV22 (participant 1, bank, no opening cover)
+      time  ticket  what                                                               change  available  reserved  held
+                    from zero                                                                       0.00      0.00  0.00
+  08:00:09       2  order 0 TX1 settled, from AAAALV22                                +400.00     400.00      0.00  0.00
+  09:10:00       4  order 0 TX1 returned, to AAAALV22: 399.00 of 400.00, charge 1.00  -399.00       1.00      0.00  0.00
+  10:00:04       8  order 1 TX2 settled, from AAAALV22                                +100.00     101.00      0.00  0.00
+  10:40:10      11  order 1 TX2 returned, to AAAALV22                                 -100.00       1.00      0.00  0.00
+  500.00 orders settled to it - 499.00 returns by it = 1.00
+  1.00 available + 0.00 reserved + 0.00 held = 1.00, the program's line C 1"""
+
+
+PART_MOVED = """\
+  09:10:00       4  BBBBLV22  order 0 TX1 returned, to AAAALV22: 399.00 of 400.00, charge 1.00      -399.00
+  09:10:00       4  AAAALV22  order 0 TX1 returned, from BBBBLV22: 399.00 of 400.00, charge 1.00    +399.00"""
 
 
 if __name__ == "__main__":

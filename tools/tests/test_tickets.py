@@ -26,6 +26,16 @@ class Rows(unittest.TestCase):
         facts = {"id": "t10", "class": "turned", "data-kind": "answer", "data-members": "0 1", "data-reports": "2"}
         self.assertEqual(row.attrib, facts)
 
+    def test_a_part_returned(self):
+        """The return and the inquiry behind it tell the returned amount beside the order's."""
+        view = View(scenes.day("part-return"))
+        told = "to AAAALV22: the order is returned (6), order 0 TX1, EUR 399.00 of 400.00"
+        for number in (4, 5):
+            row = tickets.ticket_row(view, view.day.events[number])
+            self.assertEqual([words_of(item) for item in row[4].iter("li")], [told])
+        moved = [words_of(item) for item in tickets.ticket_row(view, view.day.events[4])[5].iter("li")]
+        self.assertEqual(moved, ["BBBBLV22: available -399.00", "AAAALV22: available +399.00"])
+
     def test_an_open_debit_moves_nothing_and_is_told(self):
         moved = [words_of(item) for item in self.row(37)[5].iter("li")]
         self.assertEqual(moved[1:], ["BBBBLV22: open debit 140.00", "DDDDEE2X: available -150.00, held +150.00"])

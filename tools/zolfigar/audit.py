@@ -1,5 +1,5 @@
-"""What doesn't add up in a day as it was seen: the clauses of 01 'Demand 3, word by word', held against tickets, answers,
-reports and closing positions.
+"""What doesn't add up in a day as it was seen: the clauses of 01 'Demand 3, word by word' and what slip 2 of 02 says of
+returns, held against tickets, answers, reports and closing positions.
 
 No rule of the book is recomputed: which refusal a ticket should have had, how many route rows it followed, how large an open
 debit is and what an inquiry should have told are not looked at. A problem is a sentence that names the ticket, the order or
@@ -65,14 +65,26 @@ def about_orders(day: Day) -> Iterator[str]:
 
 
 def to_a_party(day: Day, event: Event, report: Report) -> Iterator[str]:
-    """A report about an order goes to the party that its code is for, and carries the order's amount."""
+    """A report about an order goes to the party that its code is for, and carries its amount; a 6 that of its return."""
     order = day.orders[report.order]
     told = f"ticket {event.number}: a report {report.code} about {name_of(order)}"
     receivers = {"payer": [order.payer], "payee": [order.payee]}
     if report.to not in receivers.get(RECEIVERS.get(report.code, ""), [order.payer, order.payee]):
         yield f"{told} goes to {day.bic(report.to)}, and must not"
-    if report.amount != order.amount:
+    if report.code == 6:
+        yield from of_a_return(order, event, report, told)
+    elif report.amount != order.amount:
         yield f"{told} tells {euro(report.amount)}, and the order is over {euro(order.amount)}"
+
+
+def of_a_return(order: Order, event: Event, report: Report, told: str) -> Iterator[str]:
+    """A report 6 carries the amount of the order's return, at the return itself and whenever an inquiry repeats it."""
+    by_then = [each for each in order.returns if each.number <= event.number]
+    if not by_then:
+        yield f"{told}, and no return of it was accepted by then"
+    elif report.amount != by_then[-1].ticket["amount"]:
+        returned = f"ticket {by_then[-1].number} returns {euro(by_then[-1].ticket['amount'])}"
+        yield f"{told} tells {euro(report.amount)}, and {returned}"
 
 
 def caused(day: Day) -> Iterator[str]:
@@ -188,6 +200,20 @@ def alike(day: Day) -> Iterator[str]:
             yield f"ticket {event.number} tells ending {report.code} of {name_of(order)}, and it ended with {order.code}"
 
 
+def returns(day: Day) -> Iterator[str]:
+    """An order is returned once at most, by 1 cent to its amount: 18, 19 and 9 turn other returns back."""
+    for order in day.orders:
+        if len(order.returns) > 1:
+            tickets = ", ".join(str(event.number) for event in order.returns)
+            yield f"{name_of(order)} is returned more than once: at tickets {tickets}"
+        for event in order.returns:
+            told, amount = f"ticket {event.number} was accepted, and returns", event.ticket["amount"]
+            if amount > order.amount:
+                yield f"{told} {euro(amount)} of {name_of(order)}, which is over {euro(order.amount)}: 19 turns that back"
+            elif amount == 0:
+                yield f"{told} nothing of {name_of(order)}: 9 turns that back"
+
+
 def never_below(day: Day) -> Iterator[str]:
     """No part of a participant's cover is ever below zero."""
     for participant in day.participants:
@@ -226,6 +252,7 @@ CLAUSES = (
     once,
     repeated,
     alike,
+    returns,
     never_below,
     positions,
 )

@@ -55,7 +55,8 @@ class Event(NamedTuple):
 
 @dataclass
 class Order:
-    """An accepted order. `ended` is the event with its first ending, `code` that ending's; `events` are all that touch it."""
+    """An accepted order. `ended` is the event with its first ending, `code` that ending's; `returns` are the accepted returns
+    of it, of which there is one at most if all is right; `events` are all that touch it."""
 
     number: int
     event: Event
@@ -65,11 +66,17 @@ class Order:
     amount: int
     ended: Event | None = None
     code: int | None = None
+    returns: list[Event] = field(default_factory=list)
     events: list[Event] = field(default_factory=list)
 
     @property
     def time(self) -> int:
         return self.event.time
+
+    @property
+    def returned(self) -> Event | None:
+        """The accepted return of it, which has the returned amount; the first where there are several."""
+        return self.returns[0] if self.returns else None
 
 
 class Move(NamedTuple):
@@ -250,6 +257,8 @@ class Reader:
 
     def returned(self, event: Event) -> None:
         """By its sender, to the one to whom its report 6 goes, with its own amount."""
+        if event.order is not None:
+            self.orders[event.order].returns.append(event)
         told, amount = event.first(6), event.ticket["amount"]
         payer, order = (told.to, told.order) if told else (None, None)
         self.move(event, event.sender, "returns by it", amount, Parts(available=-amount), order, payer)

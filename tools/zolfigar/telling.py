@@ -23,6 +23,7 @@ MOVES = {
     "confirmed debits": "confirmed debit",
     "confirmed credits": "confirmed credit",
 }
+RETURNS = ("returns by it", "returns to it")
 
 STATUSES = {2: "settled", 3: "refused", 4: "expired", None: "waiting"}
 
@@ -68,32 +69,58 @@ def outcome(event: Event) -> str:
     return "carried out"
 
 
+def order_of(day: Day, number: int | None) -> Order | None:
+    """The order with the number, if there is one."""
+    return day.orders[number] if number is not None and number < len(day.orders) else None
+
+
 def order_name(day: Day, number: int | None) -> str:
-    if number is not None and number < len(day.orders):
-        return f"order {number} {day.orders[number].txid}"
-    return f"order {number}"
+    order = order_of(day, number)
+    return f"order {number}" if order is None else f"order {number} {order.txid}"
+
+
+def of_order(amount: int, order: Order | None) -> str:
+    """A returned amount, beside the order's where it is another: 399.00 of 400.00."""
+    return euro(amount) if order is None or amount == order.amount else f"{euro(amount)} of {euro(order.amount)}"
+
+
+def part(amount: int, order: Order | None) -> str:
+    """What came back of an order and what the payee kept, 399.00 of 400.00, charge 1.00; nothing where all came back."""
+    if order is None or amount == order.amount:
+        return ""
+    kept = order.amount - amount
+    return of_order(amount, order) + (f", charge {euro(kept)}" if kept > 0 else "")
 
 
 def report(day: Day, told: Report) -> str:
-    """What a report tells, and to whom."""
+    """What a report tells, and to whom. A 6 carries the returned amount."""
     meaning = REPORTS.get(told.code, "a code that the paper doesn't have")
     about = "" if told.code in CUT_REPORTS else f"{order_name(day, told.order)}, "
-    return f"to {member(day, told.to)}: {meaning} ({told.code}), {about}EUR {euro(told.amount)}"
+    amount = of_order(told.amount, order_of(day, told.order)) if told.code == 6 else euro(told.amount)
+    return f"to {member(day, told.to)}: {meaning} ({told.code}), {about}EUR {amount}"
 
 
 def move(day: Day, entry: Move) -> str:
-    """What moved a cover: the order, what became of it, and the other party."""
+    """What moved a cover: the order, what became of it, the other party, and of a return what was kept."""
     order = "" if entry.order is None else order_name(day, entry.order)
-    return MOVES[entry.term].format(order=order, other=member(day, entry.other), amount=euro(entry.amount))
-
-
-def is_returned(order: Order) -> bool:
-    return any(event.is_accepted(6) and event.order == order.number for event in order.events)
+    words = MOVES[entry.term].format(order=order, other=member(day, entry.other), amount=euro(entry.amount))
+    kept = part(entry.amount, order_of(day, entry.order)) if entry.term in RETURNS else ""
+    return f"{words}: {kept}" if kept else words
 
 
 def status(order: Order) -> str:
-    """How an order stands at the end of the day."""
-    return "returned" if is_returned(order) else STATUSES.get(order.code, "waiting")
+    """How an order stands at the end of the day, in a word."""
+    return "returned" if order.returned else STATUSES.get(order.code, "waiting")
+
+
+def part_returned(order: Order) -> str:
+    """What came back of an order that is returned in part, and what the payee kept; nothing of another."""
+    return part(order.returned.ticket["amount"], order) if order.returned else ""
+
+
+def standing(order: Order) -> str:
+    """How an order stands, and what was kept: returned 399.00 of 400.00, charge 1.00."""
+    return " ".join(filter(None, (status(order), part_returned(order))))
 
 
 def ended_after(order: Order) -> int | None:

@@ -89,7 +89,7 @@ def order_table(day: Day, orders: Iterable[Order]) -> Iterator[str]:
     for order in orders:
         ended = (str(order.ended.number), f"{telling.ended_after(order)} s") if order.ended else ("", "")
         parties = (telling.member(day, order.payer), telling.member(day, order.payee))
-        figures = (euro(order.amount), clock(order.time), telling.status(order))
+        figures = (euro(order.amount), clock(order.time), telling.standing(order))
         rows.append((str(order.number), order.txid, *parties, *figures, *ended))
     yield from ("  " + line for line in columns(rows, "><<<>><>>"))
 

@@ -57,7 +57,7 @@ REFUSALS = {
     16: ("AG09", "no order with this TxId is held"),
     17: ("XT87", "the sender is the wrong party"),
     18: ("XT75", "the order's status or recall mark is not as the step needs"),
-    19: ("XT77", "the amount differs from the order's"),
+    19: ("XT77", "the return is above the order"),
     20: ("AM04", "available cover is below the amount"),
     21: ("", "a cut with held or open debit somewhere, a confirm with neither or with an amount that its rule excludes"),
     22: ("", "all cover together would be above 10^18 cents"),

@@ -95,11 +95,11 @@ overNight =
     ∷ order tx4 0 1 150 90 Waiting
     ∷ order tx5 1 0 60 91 Waiting
     ∷ order tx6 1 0 70 92 Refused
-    ∷ order tx7 0 1 30 93 Returned
+    ∷ order tx7 0 1 30 93 (Returned 29)
     ∷ [])
 
 -- The linked system says yes to an order of long before; all that ended before are asked about; held is confirmed; one order is answered in
--- its last second, and one expires; one that was settled before is recalled and returned; a new one has the number behind them.
+-- its last second, and one expires; one that was settled before is recalled and returned less a charge of 10; a new one has the number behind them.
 abbrev pub nextDay : Day
 nextDay = record {
   shows = "a day that goes on from orders of every status";
@@ -114,12 +114,12 @@ nextDay = record {
       ∷ yesTicket 109 bicB tx4
       ∷ tickTicket 111
       ∷ recallTicket 112 bicA 1 tx1
-      ∷ returnTicket 113 bicB 400 tx1
+      ∷ returnTicket 113 bicB 390 tx1
       ∷ inquiryTicket 114 bicA tx1
       ∷ orderTicket 115 bicB bicA 10 tx8 ibanD
       ∷ []);
-  sums = ((0 ∷ 0 ∷ 0 ∷ 80 ∷ 0 ∷ 200 ∷ 0 ∷ 400 ∷ [])
-      ∷ (0 ∷ 0 ∷ 0 ∷ 0 ∷ 150 ∷ 0 ∷ 400 ∷ 0 ∷ [])
+  sums = ((0 ∷ 0 ∷ 0 ∷ 80 ∷ 0 ∷ 200 ∷ 0 ∷ 390 ∷ [])
+      ∷ (0 ∷ 0 ∷ 0 ∷ 0 ∷ 150 ∷ 0 ∷ 390 ∷ 0 ∷ [])
       ∷ (0 ∷ 0 ∷ 0 ∷ 0 ∷ 50 ∷ 0 ∷ 0 ∷ 0 ∷ [])
       ∷ []);
   orders = ((400 ∷ 5 ∷ 1 ∷ 0 ∷ 2 ∷ 2 ∷ [])
@@ -131,7 +131,7 @@ nextDay = record {
       ∷ (30 ∷ 93 ∷ 1 ∷ 0 ∷ 2 ∷ [])
       ∷ (10 ∷ 115 ∷ 1 ∷ 1 ∷ [])
       ∷ []);
-  covers = ((900 ∷ 0 ∷ 0 ∷ []) ∷ (800 ∷ 10 ∷ 0 ∷ []) ∷ (50 ∷ 0 ∷ 0 ∷ []) ∷ []);
+  covers = ((890 ∷ 0 ∷ 0 ∷ []) ∷ (810 ∷ 10 ∷ 0 ∷ []) ∷ (50 ∷ 0 ∷ 0 ∷ []) ∷ []);
 }
 
 pub afternoon-right : IsRight afternoon
@@ -224,8 +224,8 @@ ofEndingsBefore =
     freedCovers (Refused ∷ []) "alike"
     ∷ since "an order that expired before, told as refused by an inquiry" (startOf banks freedCovers Expired) (told 3 400 ∷ [])
     freedCovers (Expired ∷ []) "alike"
-    ∷ since "an order returned before, told as refused by an inquiry" (startOf banks freedCovers Returned) (told 3 400 ∷ [])
-    freedCovers (Returned ∷ []) "alike"
+    ∷ since "an order returned before, told as refused by an inquiry" (startOf banks freedCovers (Returned 400)) (told 3 400 ∷ [])
+    freedCovers (Returned 400 ∷ []) "alike"
     ∷ since "a repeat with another amount than the row's" settled (told 2 401 ∷ []) settledCovers (Settled None ∷ []) "alike"
     ∷ since "an order that waits in the start, ended by an inquiry alone" waiting (toldAt 10 2 400 ∷ []) freedCovers
     (Settled None ∷ []) "once"
@@ -237,7 +237,7 @@ ofEndingsBefore =
     (cover 100 500 0 ∷ cover 400 0 0 ∷ []) (Settled None ∷ Waiting ∷ []) "once"
     ∷ since "an order settled before, returned and nobody told" (startOf banks settledCovers (Settled Asked))
     (event (returnTicket 9 bicB 400 tx1) 0 [] ∷ [])
-    (cover 600 0 0 ∷ cover 0 0 0 ∷ []) (Returned ∷ []) "told"
+    (cover 600 0 0 ∷ cover 0 0 0 ∷ []) (Returned 400 ∷ []) "told"
     ∷ []
 
 pub starts-false : AllFalse ofStarts

@@ -105,7 +105,7 @@ busyDay = record {
       ∷ noTicket 11 bicA tx4
       ∷ recallTicket 12 bicA 1 tx1
       ∷ (1 ∷ 2 ∷ 3 ∷ [])
-      ∷ returnTicket 13 bicB 399 tx1
+      ∷ returnTicket 13 bicB 401 tx1
       ∷ returnTicket 14 bicB 400 tx1
       ∷ orderTicket 14 bicA bicB 70 tx6 ibanD
       ∷ tickWithFlag

@@ -3,7 +3,7 @@
 use mathlib.Core.List.{List, [], _∷_}
 use Prim.Native.Nat.{ℕ}
 use Prim.Native.String.{String}
-use Rattle.ticket.specs.TicketWriting.{coverInTicket, orderTicket, yesTicket, tickTicket}
+use Rattle.ticket.specs.TicketWriting.{coverInTicket, orderTicket, yesTicket, recallTicket, returnTicket, tickTicket}
 use Rattle.dayfile.specs.FileWriting.{fileBytes, bank, bankOpening, linked, direct}
 use Rattle.rules.specs.Book.{bookOf}
 use Rattle.rules.specs.declared.Status.{Status}
@@ -46,6 +46,16 @@ orderedMore = event (orderTicket 6 bicA bicB 500 tx2 ibanD) 0 (report 1 1 1 500 
 -- B says yes, and both are told
 abbrev pub settledAt : ℕ → Event
 settledAt time = event (yesTicket time bicB tx1) 0 (report 0 2 0 400 ∷ report 1 2 0 400 ∷ [])
+
+-- A recalls the order that was settled, and B returns 399 of its 400
+abbrev pub returnedLessACharge : List Event
+returnedLessACharge =
+    lodged
+    ∷ ordered
+    ∷ settledAt 7
+    ∷ event (recallTicket 8 bicA 1 tx1) 0 (report 1 5 0 400 ∷ [])
+    ∷ event (returnTicket 9 bicB 399 tx1) 0 (report 0 6 0 399 ∷ [])
+    ∷ []
 
 -- a tick that tells nothing, and one that lets order 0 expire
 abbrev pub quiet : ℕ → Event

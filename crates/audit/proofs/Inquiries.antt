@@ -17,7 +17,7 @@ use Rattle.rules.specs.Status.{isWaiting}
 use Rattle.rules.specs.Cover.{transferred}
 use Rattle.rules.specs.Tell.{listed}
 use Rattle.rules.specs.Find.{finding}
-use Rattle.rules.specs.Decision.{nobody, toPayer, toPayee, settledAnswer, inquiryAnswer, orderKept, applied}
+use Rattle.rules.specs.Decision.{nobody, toPayer, toPayee, returnReport, settledAnswer, inquiryAnswer, orderKept, applied}
 use Rattle.rules.specs.declared.finding.Finding.{Finding}
 use Rattle.rules.specs.declared.decision.Told.{Told}
 use Rattle.rules.specs.declared.Recall.{Recall}
@@ -109,7 +109,7 @@ module _ {ps : Roster} {h : History} {w : Book} {t : List ℕ} {time n : ℕ} {r
       answered _ (refl, tt) (refl, tt) (repeat-order (toPayer x 3) [] (ap isWaiting e) (simp (eq-eqb j j refl)) (sym (ap endCode e)) refl)
   by-status status.Expired e =
       answered _ (refl, tt) (refl, tt) (repeat-order (toPayer x 4) [] (ap isWaiting e) (simp (eq-eqb j j refl)) (sym (ap endCode e)) refl)
-  by-status status.Returned e = answered _ (refl, tt) (refl, tt) (quiet-order (toPayer x 6 ∷ []) (simp and-false))
+  by-status (status.Returned m) e = answered _ (refl, tt) (refl, tt) (quiet-order (returnReport x m ∷ []) (simp and-false))
   by-status (status.Settled m) e = settled m e
 
   pub inquiry-own : OwnStepOf ps h w t (fieldsOf kind.Inquiry time n) rs₀

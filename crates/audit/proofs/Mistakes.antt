@@ -67,7 +67,7 @@ mistakes =
     ∷ event (recallTicket 8 bicA 1 tx1) 0 (report 1 5 0 400 ∷ [])
     ∷ event (returnTicket 9 bicB 400 tx1) 0 (report 0 6 0 400 ∷ [])
     ∷ [])
-    (cover 900 100 0 ∷ cover 0 0 0 ∷ []) (Returned ∷ Waiting ∷ []) "reserved"
+    (cover 900 100 0 ∷ cover 0 0 0 ∷ []) (Returned 400 ∷ Waiting ∷ []) "reserved"
     ∷ []
 
 pub reviewers-false : AllFalse reviewers
@@ -90,6 +90,15 @@ unseen =
     ∷ row "telling the payee of its own no" banks
     (lodged ∷ ordered ∷ event (noTicket 6 bicB tx1) 0 (report 0 3 0 400 ∷ report 1 3 0 400 ∷ []) ∷ [])
     freedCovers (Refused ∷ []) ""
+    -- 02, slip 2
+    ∷ row "a return of 399 of 400 told with the order's amount" banks
+    (lodged
+    ∷ ordered
+    ∷ settledAt 7
+    ∷ event (recallTicket 8 bicA 1 tx1) 0 (report 1 5 0 400 ∷ [])
+    ∷ event (returnTicket 9 bicB 399 tx1) 0 (report 0 6 0 400 ∷ [])
+    ∷ [])
+    (cover 999 0 0 ∷ cover 1 0 0 ∷ []) (Returned 399 ∷ []) ""
     ∷ []
 
 pub unseen-true : AllTrue unseen

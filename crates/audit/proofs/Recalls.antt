@@ -41,14 +41,14 @@ unmarked-code : (s : Status) → isUnmarked s ≡ true → endCode s ≡ 2
 unmarked-code status.Waiting e = let z : _≡_ {A = ℕ} 0 1 = cc in absurd (omega arith)
 unmarked-code status.Refused e = let z : _≡_ {A = ℕ} 0 1 = cc in absurd (omega arith)
 unmarked-code status.Expired e = let z : _≡_ {A = ℕ} 0 1 = cc in absurd (omega arith)
-unmarked-code status.Returned e = refl
+unmarked-code (status.Returned n) e = refl
 unmarked-code (status.Settled m) e = refl
 
 asked-code : (s : Status) → isAsked s ≡ true → endCode s ≡ 2
 asked-code status.Waiting e = let z : _≡_ {A = ℕ} 0 1 = cc in absurd (omega arith)
 asked-code status.Refused e = let z : _≡_ {A = ℕ} 0 1 = cc in absurd (omega arith)
 asked-code status.Expired e = let z : _≡_ {A = ℕ} 0 1 = cc in absurd (omega arith)
-asked-code status.Returned e = refl
+asked-code (status.Returned n) e = refl
 asked-code (status.Settled m) e = refl
 
 -- one report that is no ending, and a status with the same end
@@ -110,9 +110,9 @@ module _ {ps : Roster} {h : History} {w : Book} {t : List ℕ} {time n : ℕ} {r
       let s = k .midway .sound in
       let held = order-held k (r ∷ []) refl in
       let first : firstWith 6 (rs₀ ++ (r ∷ [])) ≡ r ∷ [] = first-after 6 rs₀ (r ∷ []) (k .code) refl in
-      about-own k (r ∷ []) (withStatus o status.Returned)
+      about-own k (r ∷ []) (withStatus o (status.Returned n))
       (transferred (by (o .payer) Give n) (transferred (by (o .payee) Draw n) (w .covers))) refl (rw (kind-is k)) (refl, tt)
-      (marked-order _ j o status.Returned r (and-false (eqb j j)) refl (asked-not-waiting (o .status) right)
+      (marked-order _ j o (status.Returned n) r (and-false (eqb j j)) refl (asked-not-waiting (o .status) right)
       (sym (asked-code (o .status) right)))
       (λ p l.
       two-covers k (r ∷ []) (refl, tt) (by (o .payee) Draw n) (by (o .payer) Give n) (s .orders .payee j held) (s .orders .payer j held)

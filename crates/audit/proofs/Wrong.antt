@@ -32,6 +32,7 @@ use Rattle.audit.proofs.HistoryParts.{
   orderedLinked,
   orderedMore,
   settledAt,
+  returnedLessACharge,
   quiet,
   expiredAt,
   atFirst,
@@ -52,6 +53,12 @@ ofCover =
     (lodged ∷ event (coverOutTicket 1 bicA 1001) 0 [] ∷ [])
     (cover 0 0 0 ∷ cover 0 0 0 ∷ []) [] "cover"
     ∷ row "reserved one cent off" banks (lodged ∷ ordered ∷ []) (cover 601 399 0 ∷ cover 0 0 0 ∷ []) (Waiting ∷ []) "reserved"
+    -- 02, slip 2
+    ∷ row "a return of 399 of 400, and the payer gets the charge too" banks returnedLessACharge
+    (cover 1000 0 0 ∷ cover 1 0 0 ∷ []) (Returned 399 ∷ []) "cover"
+    ∷ row "a return of 399 of 400 that moves all 400" banks returnedLessACharge freedCovers (Returned 399 ∷ []) "cover"
+    ∷ row "a return of 399 of 400 whose charge is nobody's" banks returnedLessACharge
+    (cover 999 0 0 ∷ cover 0 0 0 ∷ []) (Returned 399 ∷ []) "cover"
     ∷ []
 
 -- the reports that sums and orders go by are not there
@@ -64,7 +71,7 @@ ofParties =
     ∷ event (recallTicket 8 bicA 1 tx1) 0 (report 1 5 0 400 ∷ [])
     ∷ event (returnTicket 9 bicB 400 tx1) 0 []
     ∷ [])
-    (cover 600 0 0 ∷ cover 0 0 0 ∷ []) (Returned ∷ []) "told"
+    (cover 600 0 0 ∷ cover 0 0 0 ∷ []) (Returned 400 ∷ []) "told"
     ∷ row "a return told to one who is no participant" banks
     (lodged
     ∷ ordered
@@ -72,7 +79,7 @@ ofParties =
     ∷ event (recallTicket 8 bicA 1 tx1) 0 (report 1 5 0 400 ∷ [])
     ∷ event (returnTicket 9 bicB 400 tx1) 0 (report 2 6 0 400 ∷ [])
     ∷ [])
-    (cover 600 0 0 ∷ cover 0 0 0 ∷ []) (Returned ∷ []) "told"
+    (cover 600 0 0 ∷ cover 0 0 0 ∷ []) (Returned 400 ∷ []) "told"
     ∷ row "an order that tells nobody, and never expires" banks
     (lodged ∷ event (orderTicket 5 bicA bicB 400 tx1 ibanD) 0 [] ∷ quiet 4294967295 ∷ [])
     atFirst (Waiting ∷ []) "told"

@@ -27,7 +27,7 @@ use Rattle.rules.specs.declared.Status.the-variants as status
 use Rattle.rules.specs.declared.Order.{Order}
 use Rattle.rules.specs.declared.Book.{Book}
 use Rattle.rules.proofs.CoverMoving.{for-none}
-use Rattle.rules.proofs.SoundKeeping.{backed}
+use Rattle.rules.proofs.SoundLimits.{waiting-reserved}
 use Rattle.rules.proofs.Accepting.{fieldsOf}
 use Rattle.rules.proofs.Accepting as accepting
 use Rattle.audit.specs.History.{History}
@@ -91,7 +91,7 @@ module _ {ps : Roster} {h : History} {w : Book} {t : List ℕ} {time n : ℕ} {r
           let held = order-held k rs refl in
           two-covers k rs (refl, quiet) (by (o .payer) Spend (o .amount)) (by (o .payee) Give (o .amount)) (s .orders .payer j held)
           (s .orders .payee j held)
-          (backed w s j held (status.Settled mark.None) refl yes-waits) tt refl refl refl refl p
+          (waiting-reserved w s j held yes-waits) tt refl refl refl refl p
           (rw (kind-is k, yes-flag, first-told) (let z = for-none (o .payee) p in omega arith))
           (rw (kind-is k, yes-flag, first-told, sent k refl p l, yes-party) (let z = for-none (o .payer) p in omega arith))
 
@@ -141,6 +141,6 @@ module _ {ps : Roster} {h : History} {w : Book} {t : List ℕ} {time n : ℕ} {r
         })
         (λ p l.
         two-covers k (r ∷ []) (refl, tt) (freed o) nobody (s .orders .payer j held) (let b = sender-below k refl in omega arith)
-        (backed w s j held status.Refused refl waits) tt refl refl refl refl p
+        (waiting-reserved w s j held waits) tt refl refl refl refl p
         (rw (kind-is k, no-flag) (let z = for-none (o .payer) p in let v = for-none 0 p in omega arith))
         (rw (kind-is k, no-flag) (let z = for-none (o .payer) p in let v = for-none 0 p in omega arith)))

@@ -78,7 +78,7 @@ abbrev pub endCode : Status → ℕ
 endCode Waiting = 0
 endCode Refused = 3
 endCode Expired = 4
-endCode Returned = 2
+endCode (Returned n) = 2
 endCode (Settled mark) = 2
 
 -- that ending, with the order's own amount

@@ -135,15 +135,15 @@ pub fn asked_check(s: Status) -> Standing
     standing(status::is_asked(s))
 }
 
-// 19. Return: amount differs from the order's.
+// 19. Return: amount above the order's.
 pub fn sum_check(n: u64, amount: u64) -> Sum
     ensures { λ r. ⌜ r ≡ sumCheck n amount ⌝ }
 {
-    let whole = n == amount;
-    if whole {
-        return Sum::Whole;
+    let above = amount < n;
+    if above {
+        return Sum::AboveOrder;
     }
-    Sum::Differs
+    Sum::UpToOrder
 }
 
 // 20. Kinds 2, 3, 6: available of payer or drawer (for 6 the payee) below the amount.

@@ -294,7 +294,7 @@ module _ (b : Book) (s : Sound b) where
         let enough : n ≤ coverOf (b .covers) (o .payee) .available =
         rw (← accepting.right-party b (f kind.Return) t (none .r17) refl) (accepting.cover-there b (f kind.Return) t (none .r20) refl) in
         let m = by (o .payee) Draw n in
-        becomes-applicable (entry kind.Return) t status.Returned m (by (o .payer) Give n) _ refl
+        becomes-applicable (entry kind.Return) t (status.Returned n) m (by (o .payer) Give n) _ refl
         (participant-below b s (o .payee) payee) most enough (participant-below b s (o .payer) payer) most
         (room-to-move Give n (coverOf (transferred m (b .covers)) (o .payer)) tt most
         (left-limited m payee enough refl (o .payer) (whole-limited b s (o .payer) payer)))

@@ -145,7 +145,7 @@ module _ (w : Step) (t : List ℕ) (r time n : ℕ) where
   answers-alike status.Waiting = refl
   answers-alike status.Refused = refl
   answers-alike status.Expired = refl
-  answers-alike status.Returned = refl
+  answers-alike (status.Returned n) = refl
   answers-alike (status.Settled mark.None) = refl
   answers-alike (status.Settled mark.Asked) = refl
   answers-alike (status.Settled mark.Declined) = refl

@@ -26,6 +26,7 @@ ghost use Rattle.verdict.specs.OwnStep.{
   answerTold,
   markTold,
   answerAlso,
+  answerAmount,
   answered,
   cutVerdict,
 };
@@ -205,13 +206,13 @@ pub fn declined(i: usize, a: About) -> Verdict
     marked(Recall::Declined, i, a.amount, told)
 }
 
-// Return: payee's available falls, payer's rises; Returned; report 6 to payer.
+// Return: payee's available falls, payer's rises; Returned; report 6 to payer. All by the ticket's amount, n.
 pub fn returned(i: usize, a: About, n: u64) -> Verdict
     ensures { λ r. ⌜ r ≡ returned i a n ⌝ }
 {
     Verdict {
         refusal: 0,
-        does: Does::Becomes(Status::Returned),
+        does: Does::Becomes(Status::Returned(n)),
         number: i,
         first: Mover {
             who: a.payee,
@@ -259,7 +260,7 @@ fn answer_told(a: About, bank: bool, s: Status) -> Notice
             to: a.payer,
             code: 4,
         },
-        Status::Returned => Notice {
+        Status::Returned(_) => Notice {
             to: a.payer,
             code: 6,
         },
@@ -294,8 +295,21 @@ fn answer_also(a: About, s: Status) -> Notice
         Status::Waiting => Notice { to: 0, code: 0 },
         Status::Refused => Notice { to: 0, code: 0 },
         Status::Expired => Notice { to: 0, code: 0 },
-        Status::Returned => Notice { to: 0, code: 0 },
+        Status::Returned(_) => Notice { to: 0, code: 0 },
         Status::Settled(mark) => mark_told(a, mark),
+    }
+}
+
+// Report 6 carries the returned amount, the others the order's.
+fn answer_amount(a: About, s: Status) -> u64
+    ensures { λ r. ⌜ r ≡ answerAmount a s ⌝ }
+{
+    match s {
+        Status::Waiting => a.amount,
+        Status::Refused => a.amount,
+        Status::Expired => a.amount,
+        Status::Returned(n) => n,
+        Status::Settled(_) => a.amount,
     }
 }
 
@@ -316,7 +330,7 @@ pub fn answered(i: usize, a: About, bank: bool) -> Verdict
             who: 0,
             how: Move::Stay,
         },
-        amount: a.amount,
+        amount: answer_amount(a, status),
         told: answer_told(a, bank, status),
         also: answer_also(a, status),
     }

@@ -16,7 +16,8 @@
 //                                                 fill: the length again if all are, else the place of the first that isn't
 //     K clock                                     of the book at the end
 //     C number available reserved held debit      of each participant
-//     O number payer payee amount time status TxId    of each order; a settled one with its recall mark behind a hyphen
+//     O number payer payee amount time status TxId    of each order; a settled one with its recall mark behind a hyphen, a returned one
+//                                                 with the returned amount there
 //
 // `stdin` is made from the text beside it: tools/day pack --inputs crates/hands/inputs.txt -o crates/hands/stdin
 mod input;

@@ -38,12 +38,18 @@ fn print_settled(mark: Recall) {
     }
 }
 
+fn print_returned(n: u64) {
+    io::write_all(STDOUT_FILENO, b" Returned-");
+    io::print_decimal(STDOUT_FILENO, n);
+    io::write_all(STDOUT_FILENO, b" ");
+}
+
 fn print_status(status: Status) {
     match status {
         Status::Waiting => print_word(b"Waiting"),
         Status::Refused => print_word(b"Refused"),
         Status::Expired => print_word(b"Expired"),
-        Status::Returned => print_word(b"Returned"),
+        Status::Returned(n) => print_returned(n),
         Status::Settled(mark) => print_settled(mark),
     }
 }

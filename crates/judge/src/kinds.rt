@@ -152,7 +152,7 @@ pub fn recall(sender: Found, order: Found, a: About) -> Verdict
     granting::recalled(i, a)
 }
 
-// Return of the payee, of Settled, asked, by the full amount.
+// Return of the payee, of Settled, asked, by an amount up to the order's.
 pub fn return_of(sender: Found, order: Found, a: About, available: u64, n: u64) -> Verdict
     ensures { λ r. ⌜ r ≡ returnVerdict sender order a available n ⌝ }
 {
@@ -169,7 +169,7 @@ pub fn return_of(sender: Found, order: Found, a: About, available: u64, n: u64) 
     let Standing::AsNeeded = checks::asked_check(status) else {
         return granting::refused(18);
     };
-    let Sum::Whole = checks::sum_check(n, a.amount) else {
+    let Sum::UpToOrder = checks::sum_check(n, a.amount) else {
         return granting::refused(19);
     };
     let Funds::Enough = checks::funds_check(available, n) else {

@@ -12,7 +12,7 @@ pub fn is_waiting(s: Status) -> bool
         Status::Waiting => true,
         Status::Refused => false,
         Status::Expired => false,
-        Status::Returned => false,
+        Status::Returned(_) => false,
         Status::Settled(_) => false,
     }
 }
@@ -34,7 +34,7 @@ pub fn is_unmarked(s: Status) -> bool
         Status::Waiting => false,
         Status::Refused => false,
         Status::Expired => false,
-        Status::Returned => false,
+        Status::Returned(_) => false,
         Status::Settled(mark) => no_mark(mark),
     }
 }
@@ -56,7 +56,7 @@ pub fn is_asked(s: Status) -> bool
         Status::Waiting => false,
         Status::Refused => false,
         Status::Expired => false,
-        Status::Returned => false,
+        Status::Returned(_) => false,
         Status::Settled(mark) => was_asked(mark),
     }
 }

@@ -28,6 +28,7 @@ use Rattle.rules.specs.Refusal.{
   refusal16,
   refusal17,
   refusal18,
+  refusal19,
   refusal20,
   refusal22,
 }
@@ -103,6 +104,10 @@ module _ (b : Book) (f : Fields) (t : List ℕ) where
   -- 18 passed
   pub status-meets : refusal18 (finding b f t) ≡ false → meets (terms .needs) (theOrder .status) ≡ true
   status-meets e = not-false _ e
+
+  -- 19 passed
+  pub order-covers : refusal19 (finding b f t) ≡ false → terms .within ≡ true → f .amount ≤ theOrder .amount
+  order-covers e is = ltb-false _ _ (second (terms .within) (ltb (theOrder .amount) (f .amount)) e is)
 
   -- 20 passed
   pub cover-there : refusal20 (finding b f t) ≡ false → draws (terms .flow) ≡ true → f .amount ≤ coverOf (b .covers) senderNumber .available

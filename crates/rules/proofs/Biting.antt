@@ -1,4 +1,5 @@
--- Soundness rules something out: a book whose reserved cover is a cent off is not sound. Assumes nothing.
+-- Soundness rules something out: a book whose reserved cover is a cent off is not sound, nor is one in which nothing was returned of a
+-- returned order, or a cent more than its amount. Assumes nothing.
 use mathlib.Core.Path.{_≡_}
 use mathlib.Core.List.{[], _∷_}
 use Prim.Native.Nat.{ℕ}
@@ -6,13 +7,16 @@ use native.Mathlib.Omega.{arith}
 use Rattle.codes.specs.Bic.{isBic}
 use Rattle.dayfile.specs.DayFile.{dayFile}
 use Rattle.dayfile.specs.FileWriting.{fileBytes, bank}
+use lib.ListN.{set}
+use Rattle.fields.specs.Text.{padded}
 use Rattle.rules.specs.Book.{withCovers, bookOf}
 use Rattle.rules.specs.Cover.{transferred}
 use Rattle.rules.specs.Decision.{by}
 use Rattle.rules.specs.Sound.{Sound}
 use Rattle.rules.specs.declared.decision.Move.the-variants.{Give, Reserve}
+use Rattle.rules.specs.declared.Status.the-variants.{Returned}
 use Rattle.rules.specs.declared.Book.{Book}
-use Rattle.rules.proofs.Names.{bicA}
+use Rattle.rules.proofs.Names.{bicA, tx1}
 
 -- one participant, a cent reserved and no order
 abbrev centOff : Book
@@ -23,3 +27,24 @@ centOff =
 pub cent-off-not-sound : Sound centOff → ⊥
 unfolding isBic dayFile
 cent-off-not-sound s = let e : _≡_ {A = ℕ} 1 0 = s .covers .reserved 0 (omega arith) in omega arith
+
+-- one participant, and an order of 400 to itself that was returned
+abbrev returning : ℕ → Book
+returning n =
+    let b = bookOf (fileBytes (bank bicA ∷ []) [] []) in
+    record {
+      clock = 0;
+      covers = b .covers;
+      orders =
+          set (b .orders) 0 (record { txid = padded 35 tx1; payer = 0; payee = 0; amount = 400; time = 0; status = Returned n });
+      count = 1;
+      roster = b .roster;
+    }
+
+pub nothing-returned-not-sound : Sound (returning 0) → ⊥
+unfolding isBic dayFile
+nothing-returned-not-sound s = let e = s .orders .returned 0 (omega arith) .0 in omega arith
+
+pub too-much-returned-not-sound : Sound (returning 401) → ⊥
+unfolding isBic dayFile
+too-much-returned-not-sound s = let e = s .orders .returned 0 (omega arith) .1 in omega arith

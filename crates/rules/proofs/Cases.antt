@@ -21,6 +21,7 @@ use Rattle.rules.specs.Program.{decimal, numbers, output}
 use Rattle.rules.proofs.Names.{bicA, bicB, tx1, ibanD, smallIbanD, twoBanks, day}
 use Rattle.rules.proofs.Edges.{edges}
 use Rattle.rules.proofs.LimitEdges.{limits}
+use Rattle.rules.proofs.ReturnEdges.{returnEdges}
 
 abbrev pub markedCases : List Row
 markedCases =
@@ -79,7 +80,7 @@ markedCases =
 
 -- the rows of `iban`, those of `codes` and these, under one statement
 abbrev pub cases : List Row
-cases = iban.cases ++ codes.cases ++ markedCases ++ edges ++ limits
+cases = iban.cases ++ codes.cases ++ markedCases ++ edges ++ limits ++ returnEdges
 
 pub cases-met : AllMet cases
 unfolding isBic isIban isTxid reading dayFile followed senderIn orderIn routeIn wayIn anyOpen total tick stepOf

@@ -79,7 +79,7 @@ edges =
     ∷ []))
     (text "T 0 0 0 0\nT 1 0 1 1\nR 1 1 0 400\nT 2 0 1 1\nR 1 1 1 300\nT 3 0 2 0\nR 0 2 0 400\nR 1 2 0 400\n"
     ++ text "T 4 0 1 0\nR 1 5 0 400\nT 5 0 2 0\nR 0 2 0 400\nR 1 8 0 400\nT 6 0 1 0\nR 0 6 0 400\nC 0 700 300 0\nC 1 0 0 0\n")
-    ∷ dayOf "a return without available cover is refused by 20"
+    ∷ dayOf "a return without available cover is refused by 20, and one of what there is accepted"
     (twoBanks
     (coverInTicket 0 bicA 1000
     ∷ orderTicket 5 bicA bicB 400 tx1 ibanD
@@ -90,7 +90,7 @@ edges =
     ∷ returnTicket 10 bicB 399 tx1
     ∷ []))
     (text "T 0 0 0 0\nT 1 0 1 1\nR 1 1 0 400\nT 2 0 2 0\nR 0 2 0 400\nR 1 2 0 400\nT 3 0 0 0\n"
-    ++ text "T 4 0 1 0\nR 1 5 0 400\nT 5 20 0 0\nT 6 19 0 0\nC 0 600 0 0\nC 1 399 0 0\n")
+    ++ text "T 4 0 1 0\nR 1 5 0 400\nT 5 20 0 0\nT 6 0 1 0\nR 0 6 0 399\nC 0 999 0 0\nC 1 0 0 0\n")
     ∷ dayOf "a decline ends the recall"
     (twoBanks
     (coverInTicket 0 bicA 1000

@@ -24,7 +24,8 @@ use Rattle.rules.specs.declared.Cover.{Cover}
 use Rattle.rules.specs.declared.Book.{Book}
 use Rattle.fields.proofs.Compared.{same-or-not, below-or-not}
 use Rattle.rules.proofs.CoverMoving.{for-none, fitted, transfer-whole, transfer-leaves}
-use Rattle.rules.proofs.SoundKeeping.{later-sound, backed}
+use Rattle.rules.proofs.SoundLimits.{waiting-reserved}
+use Rattle.rules.proofs.SoundKeeping.{later-sound}
 use Rattle.rules.proofs.SweepSound.{Swept, swept, due-waits, tick-swept}
 
 -- order i is due in the book
@@ -104,7 +105,7 @@ module _ (b : Book) (n : ℕ) (w : Step) (h : n < w .book .count) (s : Sound (w 
   apart : (p : ℕ) → p < b .roster .size → Apart (coverOf (b .covers) p) (coverOf (transferred (freed o) (w .book .covers)) p)
   apart p l =
       let v = w .book in
-      let enough = backed v s n h Expired refl waits in
+      let enough = waiting-reserved v s n h waits in
       let payer = s .orders .payer n h in
       let e = transfer-whole (fitted (s .roster .size) (s .covers)) (freed o) payer enough p in
       let z = for-none (o .payer) p in

@@ -1,6 +1,7 @@
 pub mod Names
 pub mod Edges
 pub mod LimitEdges
+pub mod ReturnEdges
 pub mod Cases
 pub mod CoverMoving
 pub mod OrdersKeeping
@@ -14,6 +15,7 @@ pub mod Courses
 pub mod Cutting
 pub mod StepSound
 pub mod Inputs
+pub mod Returning
 pub mod SoundLimits
 pub mod Reporting
 pub mod Biting

@@ -31,7 +31,7 @@ use Rattle.rules.specs.declared.finding.Finding.{Finding}
 use Rattle.rules.specs.declared.refusal.Naming.{Naming}
 use Rattle.rules.specs.declared.refusal.Naming.the-variants.{Known, NoParticipant, TxidHeld, NoRoute, Full, TxidNotHeld}
 use Rattle.rules.specs.declared.refusal.Permission.{Permission}
-use Rattle.rules.specs.declared.refusal.Permission.the-variants.{Granted, WrongParty, WrongStatus, WrongAmount}
+use Rattle.rules.specs.declared.refusal.Permission.the-variants.{Granted, WrongParty, WrongStatus, AboveOrder}
 use Rattle.rules.specs.declared.refusal.Backing.{Backing}
 use Rattle.rules.specs.declared.refusal.Backing.the-variants.{Backed, TooLittle, NotAsCut, AboveLimit}
 
@@ -72,7 +72,7 @@ none-applies x e =
     let s16 = on namingRefusal (refusal16 x) TxidNotHeld _ (omega arith) (s15 .1) in
     let s17 = on permissionRefusal (refusal17 x) WrongParty _ (omega arith) (c .0) in
     let s18 = on permissionRefusal (refusal18 x) WrongStatus _ (omega arith) (s17 .1) in
-    let s19 = on permissionRefusal (refusal19 x) WrongAmount _ (omega arith) (s18 .1) in
+    let s19 = on permissionRefusal (refusal19 x) AboveOrder _ (omega arith) (s18 .1) in
     let s20 = on backingRefusal (refusal20 x) TooLittle _ (omega arith) (c .1) in
     let s21 = on backingRefusal (refusal21 x) NotAsCut _ (omega arith) (s20 .1) in
     let s22 = on backingRefusal (refusal22 x) AboveLimit _ (omega arith) (s21 .1) in
@@ -106,7 +106,7 @@ late-permission : (a : Permission) → Late (permissionRefusal a)
 late-permission Granted = inl refl
 late-permission WrongParty = inr (omega arith)
 late-permission WrongStatus = inr (omega arith)
-late-permission WrongAmount = inr (omega arith)
+late-permission AboveOrder = inr (omega arith)
 
 late-backing : (a : Backing) → Late (backingRefusal a)
 late-backing Backed = inl refl
@@ -141,7 +141,7 @@ small-permission : (a : Permission) → permissionRefusal a < 256
 small-permission Granted = omega arith
 small-permission WrongParty = omega arith
 small-permission WrongStatus = omega arith
-small-permission WrongAmount = omega arith
+small-permission AboveOrder = omega arith
 
 small-backing : (a : Backing) → backingRefusal a < 256
 small-backing Backed = omega arith

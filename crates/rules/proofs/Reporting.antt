@@ -24,9 +24,9 @@ use Rattle.rules.specs.Tell.{tellOrder, tellCut, listed}
 use Rattle.rules.specs.Tick.{Step, due, expireTold, sweepTo, atTime, tick}
 use Rattle.rules.specs.Find.{finding}
 use Rattle.rules.specs.Cut.{cutReport, cutReportsTo}
-use Rattle.rules.specs.Decision.{toPayer, toPayee, settledTold, settledAnswer, inquiryAnswer, decisionOf, toldBy}
+use Rattle.rules.specs.Decision.{toPayer, toPayee, returnReport, settledTold, settledAnswer, inquiryAnswer, decisionOf, toldBy}
 use Rattle.rules.specs.Step.{stepOf, handed, outcome}
-use Rattle.rules.specs.Sound.{Sound}
+use Rattle.rules.specs.Sound.{ReturnedWithin, Sound}
 use Rattle.rules.specs.declared.finding.Finding.{Finding}
 use Rattle.rules.specs.declared.decision.Told.the-variants.{One, Two}
 use Rattle.rules.specs.declared.Recall.{Recall}
@@ -158,25 +158,25 @@ module _ (b : Book) (s : Sound b) where
     settled-answer-few mark.Asked = few-two 30 _ _ (fit-payer 2 (omega arith)) (fit-payee 8 (omega arith))
     settled-answer-few mark.Declined = few-two 30 _ _ (fit-payer 2 (omega arith)) (fit-payer 7 (omega arith))
 
-    answer-few : (u : Status) → Few 32 (listed (inquiryAnswer x u))
-    answer-few status.Waiting = go (x .bank)
+    return-few : (m : ℕ) → m ≤ mostOrder → Few 32 (returnReport x m ∷ [])
+    return-few m l = few-one 31 _ (fit-order b s _ 6 (numberOf (x .order)) m (s .orders .payer _ h) (omega arith) (order-below b s _ h) l)
+
+    answer-few : (u : Status) → ReturnedWithin (x .about .amount) u → Few 32 (listed (inquiryAnswer x u))
+    answer-few status.Waiting w = go (x .bank)
       where
         go : (z : Bool) → Few 32 (cond z (toPayer x 9) (toPayee x 8) ∷ [])
         go true = few-one 31 _ (fit-payer 9 (omega arith))
         go false = few-one 31 _ (fit-payee 8 (omega arith))
-    answer-few status.Refused = few-one 31 _ (fit-payer 3 (omega arith))
-    answer-few status.Expired = few-one 31 _ (fit-payer 4 (omega arith))
-    answer-few status.Returned = few-one 31 _ (fit-payer 6 (omega arith))
-    answer-few (status.Settled m) = settled-answer-few m
+    answer-few status.Refused w = few-one 31 _ (fit-payer 3 (omega arith))
+    answer-few status.Expired w = few-one 31 _ (fit-payer 4 (omega arith))
+    answer-few (status.Returned m) w = return-few m (let l = w .1 in let o = s .orders .most _ h in omega arith)
+    answer-few (status.Settled m) w = settled-answer-few m
 
     payer-few : (code : ℕ) → code < 12 → Few 32 (toPayer x code ∷ [])
     payer-few code c = few-one 31 _ (fit-payer code c)
 
     payee-few : (code : ℕ) → code < 12 → Few 32 (toPayee x code ∷ [])
     payee-few code c = few-one 31 _ (fit-payee code c)
-
-    return-few : n ≤ mostOrder → Few 32 (listed (One (record { to = x .about .payer; code = 6; order = numberOf (x .order); amount = n })))
-    return-few m = few-one 31 _ (fit-order b s _ 6 (numberOf (x .order)) n (s .orders .payer _ h) (omega arith) (order-below b s _ h) m)
 
   module _ (n time : ℕ) (t : List ℕ) where
     -- the ticket's own reports: at most 32
@@ -194,12 +194,13 @@ module _ (b : Book) (s : Sound b) where
     own-few kind.Recall tells r =
         payee-few n time t kind.Recall (accepting.order-found b (fieldsOf kind.Recall time n) t (r .r16) refl .below) 5 (omega arith)
     own-few kind.Return tells r =
-        return-few n time t kind.Return (accepting.order-found b (fieldsOf kind.Return time n) t (r .r16) refl .below) (tells .most)
+        return-few n time t kind.Return (accepting.order-found b (fieldsOf kind.Return time n) t (r .r16) refl .below) n (tells .most)
     own-few kind.Decline tells r =
         payer-few n time t kind.Decline (accepting.order-found b (fieldsOf kind.Decline time n) t (r .r16) refl .below) 7 (omega arith)
     own-few kind.Inquiry tells r =
-        answer-few n time t kind.Inquiry (accepting.order-found b (fieldsOf kind.Inquiry time n) t (r .r16) refl .below)
-        (accepting.theOrder b (fieldsOf kind.Inquiry time n) t .status)
+        let f = fieldsOf kind.Inquiry time n in
+        let h = accepting.order-found b f t (r .r16) refl .below in
+        answer-few n time t kind.Inquiry h (accepting.theOrder b f t .status) (s .orders .returned _ h)
     own-few kind.Cut tells r = few-more (b .roster .size) 32 _ (s .roster .size) (cut-few (b .roster .size) (omega arith))
     own-few kind.Confirm tells r = few-none 32
     own-few kind.Tick tells r = few-none 32

@@ -17,7 +17,7 @@ use Rattle.rules.specs.Status.{isWaiting, withStatus}
 use Rattle.rules.specs.Cover.{Enough, transferred, whole, totalOf, total, mostTotal}
 use Rattle.rules.specs.Tick.{atTime, freed}
 use Rattle.rules.specs.Decision.{by}
-use Rattle.rules.specs.Sound.{waitingAmount, waitingSum, CoversSound, Sound}
+use Rattle.rules.specs.Sound.{waitingAmount, waitingSum, ReturnedWithin, CoversSound, Sound}
 use Rattle.rules.specs.declared.decision.Move.the-variants.{Give, Draw, Reserve, Spend}
 use Rattle.rules.specs.declared.decision.Transfer.{Transfer}
 use Rattle.rules.specs.declared.Status.{Status}
@@ -25,7 +25,8 @@ use Rattle.rules.specs.declared.Order.{Order}
 use Rattle.rules.specs.declared.Cover.{Cover}
 use Rattle.rules.specs.declared.Book.{Book}
 use Rattle.rules.proofs.CoverMoving.{fitted, bound, unbound, gain, onlyFor, for-none, transfer-keeps, transfer-total}
-use Rattle.rules.proofs.OrdersKeeping.{NewOrder, orders-later, status-keeps, sum-ended, order-keeps, sum-new, sum-holds}
+use Rattle.rules.proofs.OrdersKeeping.{NewOrder, orders-later, status-keeps, sum-ended, order-keeps, sum-new}
+use Rattle.rules.proofs.SoundLimits.{waiting-reserved}
 
 -- a fresh book
 pub fresh-sound : (r : Roster) → Guaranteed r → Sound (freshBook r)
@@ -41,6 +42,7 @@ fresh-sound r g =
             payee = λ i h. absurd (not-suc-le-zero h);
             least = λ i h. absurd (not-suc-le-zero h);
             most = λ i h. absurd (not-suc-le-zero h);
+            returned = λ i h. absurd (not-suc-le-zero h);
             padded = λ i h. absurd (not-suc-le-zero h);
             txid = λ i h. absurd (not-suc-le-zero h);
             distinct = λ i j l h. absurd (not-suc-le-zero h);
@@ -105,7 +107,8 @@ module _ (b : Book) (s : Sound b) where
       (transfer-keeps few (s .covers) m h enough due (λ p. ap (λ (n : ℕ). due p + n) (same p)))
       (let e = transfer-total (fitted few (s .covers)) m h enough in omega arith)
 
-  module _ (i : ℕ) (h : i < b .count) (t : Status) (ended : isWaiting t ≡ false) where
+  module _ (i : ℕ) (h : i < b .count) (t : Status) (ended : isWaiting t ≡ false)
+      (within : ReturnedWithin (orderOf (b .orders) i .amount) t) where
     o : Order
     o = orderOf (b .orders) i
 
@@ -128,7 +131,7 @@ module _ (b : Book) (s : Sound b) where
     ended-sound cs c l =
         record {
           roster = s .roster;
-          orders = status-keeps (b .roster .size) (b .clock) (b .count) (b .orders) (s .orders) i h t;
+          orders = status-keeps (b .roster .size) (b .clock) (b .count) (b .orders) (s .orders) i h t within;
           covers = c;
           limited = l;
         }
@@ -139,8 +142,8 @@ module _ (b : Book) (s : Sound b) where
 
     -- the order waited: its amount was reserved, and is so no longer
     module _ (w : isWaiting (orderOf (b .orders) i .status) ≡ true) where
-      pub backed : orderOf (b .orders) i .amount ≤ coverOf (b .covers) (orderOf (b .orders) i .payer) .reserved
-      backed = rw (s .covers .reserved (orderOf (b .orders) i .payer) (s .orders .payer i h)) (sum-holds (b .count) (b .orders) i h w)
+      backed : orderOf (b .orders) i .amount ≤ coverOf (b .covers) (orderOf (b .orders) i .payer) .reserved
+      backed = waiting-reserved b s i h w
 
       less : (p : ℕ) → due′ p + onlyFor (o .payer) p (o .amount) ≡ due p + onlyFor (o .payer) p 0
       unfolding o

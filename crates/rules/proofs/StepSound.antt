@@ -46,14 +46,14 @@ pub unmarked-not-waiting : (s : Status) → isUnmarked s ≡ true → isWaiting 
 unmarked-not-waiting status.Waiting e = sym e
 unmarked-not-waiting status.Refused e = refl
 unmarked-not-waiting status.Expired e = refl
-unmarked-not-waiting status.Returned e = refl
+unmarked-not-waiting (status.Returned n) e = refl
 unmarked-not-waiting (status.Settled m) e = refl
 
 pub asked-not-waiting : (s : Status) → isAsked s ≡ true → isWaiting s ≡ false
 asked-not-waiting status.Waiting e = sym e
 asked-not-waiting status.Refused e = refl
 asked-not-waiting status.Expired e = refl
-asked-not-waiting status.Returned e = refl
+asked-not-waiting (status.Returned n) e = refl
 asked-not-waiting (status.Settled m) e = refl
 
 -- a decision that keeps the order: one cover moves
@@ -118,6 +118,7 @@ module _ (b : Book) (s : Sound b) (n time : ℕ) (t : List ℕ) where
         payee = accepting.payee-known b f t (s .roster) (r .r14) refl;
         least = tells .least;
         most = tells .most;
+        returned = tt;
         padded = length-part 35 38 t (rw (tells .whole) (omega arith));
         txid = listed-txid t f tells refl;
         fresh = accepting.txid-free b f t (r .r13) refl;
@@ -127,29 +128,31 @@ module _ (b : Book) (s : Sound b) (n time : ℕ) (t : List ℕ) where
   own-sound kind.Yes tells r =
       let f = fieldsOf kind.Yes time n in
       keeping.settled-sound b s (accepting.orderNumber b f t) (accepting.order-found b f t (r .r16) refl .below)
-      (status.Settled mark.None) refl
+      (status.Settled mark.None) refl tt
       (accepting.status-meets b f t (r .r18))
   own-sound kind.No tells r =
       let f = fieldsOf kind.No time n in
       rw (nobody-moves _)
-      (keeping.freed-sound b s (accepting.orderNumber b f t) (accepting.order-found b f t (r .r16) refl .below) status.Refused refl
+      (keeping.freed-sound b s (accepting.orderNumber b f t) (accepting.order-found b f t (r .r16) refl .below) status.Refused refl tt
       (accepting.status-meets b f t (r .r18)))
   own-sound kind.Recall tells r =
       let f = fieldsOf kind.Recall time n in
       rw (nobody-moves (transferred nobody (b .covers)), nobody-moves (b .covers))
       (keeping.remarked-sound b s (accepting.orderNumber b f t) (accepting.order-found b f t (r .r16) refl .below)
-      (status.Settled mark.Asked) refl
+      (status.Settled mark.Asked) refl tt
       (unmarked-not-waiting (accepting.theOrder b f t .status) (accepting.status-meets b f t (r .r18))))
   own-sound kind.Return tells r =
       let f = fieldsOf kind.Return time n in
-      keeping.returned-sound b s (accepting.orderNumber b f t) (accepting.order-found b f t (r .r16) refl .below) status.Returned refl
+      keeping.returned-sound b s (accepting.orderNumber b f t) (accepting.order-found b f t (r .r16) refl .below)
+      (status.Returned n) refl
+      (tells .least, accepting.order-covers b f t (r .r19) refl)
       (asked-not-waiting (accepting.theOrder b f t .status) (accepting.status-meets b f t (r .r18))) n
       (rw (← accepting.right-party b f t (r .r17) refl) (accepting.cover-there b f t (r .r20) refl))
   own-sound kind.Decline tells r =
       let f = fieldsOf kind.Decline time n in
       rw (nobody-moves (transferred nobody (b .covers)), nobody-moves (b .covers))
       (keeping.remarked-sound b s (accepting.orderNumber b f t) (accepting.order-found b f t (r .r16) refl .below)
-      (status.Settled mark.Declined) refl
+      (status.Settled mark.Declined) refl tt
       (asked-not-waiting (accepting.theOrder b f t .status) (accepting.status-meets b f t (r .r18))))
   own-sound kind.Inquiry tells r = rw (same-applied b (fieldsOf kind.Inquiry time n) t _) s
   own-sound kind.Cut tells r =

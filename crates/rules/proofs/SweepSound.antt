@@ -38,7 +38,7 @@ swept b s (suc i) h = go (swept b s i (omega arith)) (due (w .book .clock) o (is
     go r true e =
         record {
           sound =
-              freed-sound (w .book) (r .sound) i (let c = r .count in omega arith) Expired refl
+              freed-sound (w .book) (r .sound) i (let c = r .count in omega arith) Expired refl tt
               (due-waits (w .book .clock) o (isBank (w .book .roster) (o .payee)) e);
           count = r .count;
           clock = r .clock;

@@ -35,7 +35,7 @@ use Rattle.rules.specs.declared.checks.Party.the-variants.{Right, Wrong}
 use Rattle.rules.specs.declared.checks.Standing.{Standing}
 use Rattle.rules.specs.declared.checks.Standing.the-variants.{AsNeeded, NotAsNeeded}
 use Rattle.rules.specs.declared.checks.Sum.{Sum}
-use Rattle.rules.specs.declared.checks.Sum.the-variants.{Whole, Differs}
+use Rattle.rules.specs.declared.checks.Sum.the-variants.{UpToOrder, AboveOrder}
 use Rattle.rules.specs.declared.checks.Funds.{Funds}
 use Rattle.rules.specs.declared.checks.Funds.the-variants.{Enough, TooLittle}
 use Rattle.rules.specs.declared.checks.Cutting.{Cutting}
@@ -133,13 +133,13 @@ abbrev pub standingRefusal : Standing → ℕ
 standingRefusal AsNeeded = 0
 standingRefusal NotAsNeeded = 18
 
--- 19. Return: amount differs from the order's (XT77)
+-- 19. Return: amount above the order's (XT77)
 abbrev pub sumCheck : ℕ → ℕ → Sum
-sumCheck n amount = cond (eqb n amount) Whole Differs
+sumCheck n amount = cond (ltb amount n) AboveOrder UpToOrder
 
 abbrev pub sumRefusal : Sum → ℕ
-sumRefusal Whole = 0
-sumRefusal Differs = 19
+sumRefusal UpToOrder = 0
+sumRefusal AboveOrder = 19
 
 -- 20. Kinds 2, 3, 6: available of payer or drawer (for 6 the payee) below the amount (AM04)
 abbrev pub fundsCheck : ℕ → ℕ → Funds

@@ -107,9 +107,13 @@ orderOpened x o =
 abbrev pub settledTold : Finding → Told
 settledTold x = cond (x .bank) (Two (toPayer x 2) (toPayee x 2)) (One (toPayer x 2))
 
--- Return: report 6 to payer, with the amount that the ticket states: by 19 the order's
+-- 02, slip 2: report 6 carries the returned amount, also when an inquiry repeats it
+abbrev pub returnReport : Finding → ℕ → Report
+returnReport x n = record { to = x .about .payer; code = 6; order = numberOf (x .order); amount = n }
+
+-- Return: report 6 to payer
 abbrev pub returnTold : Finding → Told
-returnTold x = One (record { to = x .about .payer; code = 6; order = numberOf (x .order); amount = x .amount })
+returnTold x = One (returnReport x (x .amount))
 
 -- Inquiry. Settled: 2 to payer, then 8 to payee if asked, or 7 to payer if declined
 abbrev pub settledAnswer : Finding → Recall → Told
@@ -122,7 +126,7 @@ abbrev pub inquiryAnswer : Finding → Status → Told
 inquiryAnswer x status.Waiting = One (cond (x .bank) (toPayer x 9) (toPayee x 8))
 inquiryAnswer x status.Refused = One (toPayer x 3)
 inquiryAnswer x status.Expired = One (toPayer x 4)
-inquiryAnswer x status.Returned = One (toPayer x 6)
+inquiryAnswer x (status.Returned n) = One (returnReport x n)
 inquiryAnswer x (status.Settled mark) = settledAnswer x mark
 
 -- Confirm: with held, a confirmed credit; with open debit, a confirmed debit
@@ -144,9 +148,13 @@ decidedFor kind.Yes x =
 decidedFor kind.No x = orderBecomes x status.Refused (freed (x .about)) nobody (One (toPayer x 3))
 -- Recall of Settled with mark none: asked; report 5 to payee
 decidedFor kind.Recall x = orderBecomes x (status.Settled mark.Asked) nobody nobody (One (toPayee x 5))
--- Return of Settled, asked: payee's available falls, payer's rises; Returned
+-- Return of Settled, asked: payee's available falls, payer's rises; Returned. 02, slip 2: by the ticket's amount; a charge stays with the
+-- payee
 decidedFor kind.Return x =
-    orderBecomes x status.Returned (by (x .about .payee) Draw (x .amount)) (by (x .about .payer) Give (x .amount)) (returnTold x)
+    orderBecomes x (status.Returned (x .amount))
+    (by (x .about .payee) Draw (x .amount))
+    (by (x .about .payer) Give (x .amount))
+    (returnTold x)
 -- Decline of Settled, asked: declined; report 7 to payer
 decidedFor kind.Decline x = orderBecomes x (status.Settled mark.Declined) nobody nobody (One (toPayer x 7))
 -- Inquiry changes no order

@@ -26,7 +26,7 @@ use Rattle.rules.specs.declared.refusal.Timing.the-variants.{InTime, Ear
 use Rattle.rules.specs.declared.refusal.Naming.{Naming}
 use Rattle.rules.specs.declared.refusal.Naming.the-variants.{Known, NoParticipant, TxidHeld, NoRoute, Full, TxidNotHeld}
 use Rattle.rules.specs.declared.refusal.Permission.{Permission}
-use Rattle.rules.specs.declared.refusal.Permission.the-variants.{Granted, WrongParty, WrongStatus, WrongAmount}
+use Rattle.rules.specs.declared.refusal.Permission.the-variants.{Granted, WrongParty, WrongStatus, AboveOrder}
 use Rattle.rules.specs.declared.refusal.Backing.{Backing}
 use Rattle.rules.specs.declared.refusal.Backing.the-variants.{Backed, TooLittle, NotAsCut, AboveLimit}
 use Rattle.rules.specs.declared.Cover.{Cover}
@@ -95,18 +95,18 @@ refusal17 x =
 abbrev pub refusal18 : Finding → Bool
 refusal18 x = not (meets (termsOf (x .kind) .needs) (x .about .status))
 
--- 19. Return: amount differs from the order's (XT77)
+-- 19. Return: amount above the order's (XT77). 02, slip 2: a return may be any amount from 1 cent to the order's; 0 is 9's
 abbrev pub refusal19 : Finding → Bool
-refusal19 x = termsOf (x .kind) .whole && not (eqb (x .amount) (x .about .amount))
+refusal19 x = termsOf (x .kind) .within && ltb (x .about .amount) (x .amount)
 
 abbrev pub permissionOf : Finding → Permission
-permissionOf x = cond (refusal17 x) WrongParty (cond (refusal18 x) WrongStatus (cond (refusal19 x) WrongAmount Granted))
+permissionOf x = cond (refusal17 x) WrongParty (cond (refusal18 x) WrongStatus (cond (refusal19 x) AboveOrder Granted))
 
 abbrev pub permissionRefusal : Permission → ℕ
 permissionRefusal Granted = 0
 permissionRefusal WrongParty = 17
 permissionRefusal WrongStatus = 18
-permissionRefusal WrongAmount = 19
+permissionRefusal AboveOrder = 19
 
 -- 20. Kinds 2, 3, 6: available of payer or drawer (for 6 the payee) below the amount (AM04): in each case the sender's
 abbrev pub refusal20 : Finding → Bool

@@ -2,8 +2,10 @@
 --     isWaiting      Waiting
 --     isUnmarked     Settled with mark none; noMark: of the mark
 --     isAsked        Settled, asked; wasAsked: of the mark
+--     returnedOf     the returned amount that a status keeps, 0 where there is none; returnedAmount: of an order
 --     withStatus     the order with another status
 -- Assumes nothing.
+use Prim.Native.Nat.{ℕ}
 use mathlib.Core.Bool.{Bool, true, false}
 use Rattle.rules.specs.declared.Recall.{Recall}
 use Rattle.rules.specs.declared.Recall.the-variants.{None, Asked, Declined}
@@ -15,7 +17,7 @@ abbrev pub isWaiting : Status → Bool
 isWaiting Waiting = true
 isWaiting Refused = false
 isWaiting Expired = false
-isWaiting Returned = false
+isWaiting (Returned n) = false
 isWaiting (Settled mark) = false
 
 abbrev pub noMark : Recall → Bool
@@ -27,7 +29,7 @@ abbrev pub isUnmarked : Status → Bool
 isUnmarked Waiting = false
 isUnmarked Refused = false
 isUnmarked Expired = false
-isUnmarked Returned = false
+isUnmarked (Returned n) = false
 isUnmarked (Settled mark) = noMark mark
 
 abbrev pub wasAsked : Recall → Bool
@@ -39,8 +41,19 @@ abbrev pub isAsked : Status → Bool
 isAsked Waiting = false
 isAsked Refused = false
 isAsked Expired = false
-isAsked Returned = false
+isAsked (Returned n) = false
 isAsked (Settled mark) = wasAsked mark
+
+-- 02, slip 2: the order keeps it beside its own amount
+abbrev returnedOf : Status → ℕ
+returnedOf Waiting = 0
+returnedOf Refused = 0
+returnedOf Expired = 0
+returnedOf (Returned n) = n
+returnedOf (Settled mark) = 0
+
+abbrev pub returnedAmount : Order → ℕ
+returnedAmount o = returnedOf (o .status)
 
 abbrev pub withStatus : Order → Status → Order
 withStatus o s = record { txid = o .txid; payer = o .payer; payee = o .payee; amount = o .amount; time = o .time; status = s }

@@ -1,5 +1,5 @@
 -- Reports.
---     tellOrder     a report of codes 1 to 9: the order's number and its amount
+--     tellOrder     a report of codes 1 to 9, but 6: the order's number and its amount (6 is `returnReport` in Decision.antt)
 --     tellCut       a report 10 or 11: no order, and an amount of its own
 --     listed        the reports of a decision, in their order
 -- Assumes nothing.

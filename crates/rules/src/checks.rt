@@ -47,8 +47,8 @@ pub enum Standing {
 
 // 19
 pub enum Sum {
-    Whole,
-    Differs,
+    UpToOrder,
+    AboveOrder,
 }
 
 // 20

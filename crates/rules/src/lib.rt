@@ -17,11 +17,12 @@ pub enum Recall {
     Declined,
 }
 
+// 02, slip 2: a returned order keeps the returned amount beside its own.
 pub enum Status {
     Waiting,
     Refused,
     Expired,
-    Returned,
+    Returned(u64),
     Settled(Recall),
 }
 

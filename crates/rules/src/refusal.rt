@@ -27,7 +27,7 @@ pub enum Permission {
     Granted,
     WrongParty,
     WrongStatus,
-    WrongAmount,
+    AboveOrder,
 }
 
 // 20 to 22: whether there is cover and room.

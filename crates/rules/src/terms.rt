@@ -32,11 +32,11 @@ pub enum Flow {
     Confirms,
 }
 
-// Whole: it is about the order's full amount.
+// Within: its amount is at most the order's.
 pub struct Terms {
     pub subject: Subject,
     pub party: Party,
     pub needs: Needs,
-    pub whole: bool,
+    pub within: bool,
     pub flow: Flow,
 }

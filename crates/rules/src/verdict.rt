@@ -1,8 +1,8 @@
 // What a ticket is judged on, and the verdict: all that is carried out then. A verdict is small values. It has no TxId, and neither has
 // what is judged: only opening an order needs it, which is carrying out. Nor has it the rows followed, which are those of the order's
-// way. One amount is enough: what is told is what moves, and where nothing moves the order's amount is told. Who stays put is participant
-// 0 (`stays-put`) and code 0 is no report, so every number of a verdict is in range where those of what was found are (`in-range`).
-// Participants are as wide as in the book: a narrower number would ask every caller that it fits.
+// way. One amount is enough: what is told is what moves, and where nothing moves the order's amount is told, or what was returned of it.
+// Who stays put is participant 0 (`stays-put`) and code 0 is no report, so every number of a verdict is in range where those of what was
+// found are (`verdict-in-range`). Participants are as wide as in the book: a narrower number would ask every caller that it fits.
 use super::Cover;
 use super::Status;
 use super::decision::Move;

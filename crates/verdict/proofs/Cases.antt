@@ -33,6 +33,10 @@ seen v = v .refusal ∷ v .told .to ∷ v .told .code ∷ v .also .to ∷ v .als
 abbrev answers : String → Verdict → List ℕ → Row
 answers shows v due = record { shows = shows; rule = λ s. seen v; given = []; due = due }
 
+-- of a verdict: the amount that moves and that its reports carry
+abbrev carries : String → Verdict → ℕ → Row
+carries shows v due = record { shows = shows; rule = λ s. v .amount ∷ []; given = []; due = due ∷ [] }
+
 abbrev refuses : String → Verdict → ℕ → Row
 refuses shows v n = answers shows v (n ∷ 0 ∷ 0 ∷ 0 ∷ 0 ∷ [])
 
@@ -72,8 +76,13 @@ cases =
     ∷ refuses "a recall by the payee" (recallVerdict (At 1) (At 7) asked) 17
     ∷ answers "a return" (returnVerdict (At 1) (At 7) asked 400 400) (0 ∷ 0 ∷ 6 ∷ 0 ∷ 0 ∷ [])
     ∷ refuses "a return with a cent too little available" (returnVerdict (At 1) (At 7) asked 399 400) 20
-    ∷ refuses "a return of a cent less" (returnVerdict (At 1) (At 7) asked 0 399) 19
-    ∷ refuses "a return that was not asked for" (returnVerdict (At 1) (At 7) unmarked 0 399) 18
+    ∷ answers "a return of a cent less, of all that is available" (returnVerdict (At 1) (At 7) asked 399 399) (0 ∷ 0 ∷ 6 ∷ 0 ∷ 0 ∷ [])
+    ∷ carries "its report has its own amount" (returnVerdict (At 1) (At 7) asked 399 399) 399
+    ∷ refuses "a return of a cent less, with a cent too little available" (returnVerdict (At 1) (At 7) asked 398 399) 20
+    ∷ refuses "a return of a cent more" (returnVerdict (At 1) (At 7) asked 401 401) 19
+    ∷ refuses "a return of a cent more, with a cent too little available" (returnVerdict (At 1) (At 7) asked 400 401) 19
+    ∷ refuses "a return that was not asked for" (returnVerdict (At 1) (At 7) unmarked 400 401) 18
+    ∷ refuses "a second return" (returnVerdict (At 1) (At 7) (of (status.Returned 399)) 1 1) 18
     ∷ answers "a decline" (declineVerdict (At 1) (At 7) asked) (0 ∷ 0 ∷ 7 ∷ 0 ∷ 0 ∷ [])
     ∷ refuses "a decline that was not asked for" (declineVerdict (At 1) (At 7) unmarked) 18
     ∷ refuses "a decline of no order" (declineVerdict (At 1) Nothing unmarked) 16
@@ -82,8 +91,10 @@ cases =
     ∷ answers "for a linked system" (inquiryVerdict (At 0) (At 7) (of status.Waiting) false) (0 ∷ 1 ∷ 8 ∷ 0 ∷ 0 ∷ [])
     ∷ answers "about a refused one" (inquiryVerdict (At 0) (At 7) (of status.Refused) true) (0 ∷ 0 ∷ 3 ∷ 0 ∷ 0 ∷ [])
     ∷ answers "about an expired one" (inquiryVerdict (At 0) (At 7) (of status.Expired) true) (0 ∷ 0 ∷ 4 ∷ 0 ∷ 0 ∷ [])
-    ∷ answers "about a returned one" (inquiryVerdict (At 0) (At 7) (of status.Returned) true) (0 ∷ 0 ∷ 6 ∷ 0 ∷ 0 ∷ [])
+    ∷ answers "about a returned one" (inquiryVerdict (At 0) (At 7) (of (status.Returned 399)) true) (0 ∷ 0 ∷ 6 ∷ 0 ∷ 0 ∷ [])
+    ∷ carries "with the returned amount" (inquiryVerdict (At 0) (At 7) (of (status.Returned 399)) true) 399
     ∷ answers "about a settled one" (inquiryVerdict (At 0) (At 7) unmarked true) (0 ∷ 0 ∷ 2 ∷ 0 ∷ 0 ∷ [])
+    ∷ carries "with the order's amount" (inquiryVerdict (At 0) (At 7) unmarked true) 400
     ∷ answers "recalled" (inquiryVerdict (At 0) (At 7) asked true) (0 ∷ 0 ∷ 2 ∷ 1 ∷ 8 ∷ [])
     ∷ answers "recalled and declined" (inquiryVerdict (At 0) (At 7) (of (status.Settled mark.Declined)) true) (0 ∷ 0 ∷ 2 ∷ 0 ∷ 7 ∷ [])
     ∷ refuses "an inquiry by the payee" (inquiryVerdict (At 1) (At 7) asked true) 17

@@ -65,6 +65,7 @@ use Rattle.verdict.specs.OwnStep.{
   cutVerdict,
   answerTold,
   answerAlso,
+  answerAmount,
 }
 use Rattle.verdict.specs.Judgement.{
   coverInRefusal,
@@ -106,22 +107,22 @@ party-standing false met = refl
 party-standing true false = refl
 party-standing true true = refl
 
-return-checks : (right met whole short : Bool)
+return-checks : (right met above short : Bool)
     → firstOf
     (permissionRefusal
     (cond (not right) permission.WrongParty
     (cond (not met) permission.WrongStatus
-    (cond (not whole) permission.WrongAmount permission.Granted))))
+    (cond above permission.AboveOrder permission.Granted))))
     (backingRefusal (cond short backing.TooLittle backing.Backed))
     ≡ firstOf (partyRefusal (cond right party.Right party.Wrong))
     (firstOf (standingRefusal (standing met))
-    (firstOf (sumRefusal (cond whole sum.Whole sum.Differs))
+    (firstOf (sumRefusal (cond above sum.AboveOrder sum.UpToOrder))
     (fundsRefusal (cond short funds.TooLittle funds.Enough))))
-return-checks false met whole short = refl
-return-checks true false whole short = refl
-return-checks true true false short = refl
-return-checks true true true true = refl
-return-checks true true true false = refl
+return-checks false met above short = refl
+return-checks true false above short = refl
+return-checks true true true short = refl
+return-checks true true false true = refl
+return-checks true true false false = refl
 
 party-alone : (right : Bool)
     → firstOf (permissionRefusal (cond (not right) permission.WrongParty permission.Granted)) 0
@@ -257,7 +258,7 @@ module _ (x : Finding) where
   return (At p) (At i) r =
       unless-judged (of kind.Return (At p) (At i) r)
       (returnRefusal (At p) (At i) about (x .cover .available) (x .amount)) (returned i about (x .amount))
-      (return-checks (eqb p (about .payee)) (isAsked (about .status)) (eqb (x .amount) (about .amount))
+      (return-checks (eqb p (about .payee)) (isAsked (about .status)) (ltb (about .amount) (x .amount))
       (ltb (x .cover .available) (x .amount)))
       refl refl
 
@@ -270,11 +271,11 @@ module _ (x : Finding) where
 
   inquiry-told : (p i : ℕ) (r : Found) (s : Status)
       → inquiryAnswer (of kind.Inquiry (At p) (At i) r) s
-      ≡ noticesTold (answerTold about (x .bank) s) (answerAlso about s) i (about .amount)
+      ≡ noticesTold (answerTold about (x .bank) s) (answerAlso about s) i (answerAmount about s)
   inquiry-told p i r status.Waiting = waiting-told (about .payer) (about .payee) i (about .amount) (x .bank)
   inquiry-told p i r status.Refused = refl
   inquiry-told p i r status.Expired = refl
-  inquiry-told p i r status.Returned = refl
+  inquiry-told p i r (status.Returned n) = refl
   inquiry-told p i r (status.Settled mark.None) = refl
   inquiry-told p i r (status.Settled mark.Asked) = refl
   inquiry-told p i r (status.Settled mark.Declined) = refl

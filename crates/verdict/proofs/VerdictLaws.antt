@@ -184,14 +184,14 @@ module _ (size : ℕ) (a : About) (payer : a .payer < size) (payee : a .payee < 
   told-below false status.Waiting = payee
   told-below bank status.Refused = payer
   told-below bank status.Expired = payer
-  told-below bank status.Returned = payer
+  told-below bank (status.Returned n) = payer
   told-below bank (status.Settled m) = payer
 
   also-below : (s : Status) → answerAlso a s .to < size
   also-below status.Waiting = omega arith
   also-below status.Refused = omega arith
   also-below status.Expired = omega arith
-  also-below status.Returned = omega arith
+  also-below (status.Returned n) = omega arith
   also-below (status.Settled mark.None) = omega arith
   also-below (status.Settled mark.Asked) = payee
   also-below (status.Settled mark.Declined) = payer

@@ -118,7 +118,7 @@ recallRefusal sender order a =
 abbrev pub recallVerdict : Found → Found → About → Verdict
 recallVerdict sender order a = unless (recallRefusal sender order a) (recalled (named (heldCheck order)) a)
 
--- Return: of the payee, of Settled, asked, by the full amount
+-- Return: of the payee, of Settled, asked, by an amount up to the order's
 abbrev pub returnRefusal : Found → Found → About → ℕ → ℕ → ℕ
 returnRefusal sender order a available n =
     firstOf (senderRefusal (senderCheck sender))

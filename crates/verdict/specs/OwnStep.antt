@@ -120,12 +120,12 @@ recalled i a = marked mark.Asked i (a .amount) (notice (a .payee) 5)
 abbrev pub declined : ℕ → About → Verdict
 declined i a = marked mark.Declined i (a .amount) (notice (a .payer) 7)
 
--- Return of Settled, asked, by the full amount: payee's available falls, payer's rises; Returned; report 6 to payer
+-- Return of Settled, asked: payee's available falls, payer's rises; Returned; report 6 to payer. 02, slip 2: by the ticket's amount
 abbrev pub returned : ℕ → About → ℕ → Verdict
 returned i a n =
     record {
       refusal = 0;
-      does = Becomes status.Returned;
+      does = Becomes (status.Returned n);
       number = i;
       first = mover (a .payee) Draw;
       second = mover (a .payer) Give;
@@ -139,7 +139,7 @@ abbrev pub answerTold : About → Bool → Status → Notice
 answerTold a bank status.Waiting = cond bank (notice (a .payer) 9) (notice (a .payee) 8)
 answerTold a bank status.Refused = notice (a .payer) 3
 answerTold a bank status.Expired = notice (a .payer) 4
-answerTold a bank status.Returned = notice (a .payer) 6
+answerTold a bank (status.Returned n) = notice (a .payer) 6
 answerTold a bank (status.Settled m) = notice (a .payer) 2
 
 -- then 8 to payee if asked, or 7 to payer if declined
@@ -152,8 +152,16 @@ abbrev pub answerAlso : About → Status → Notice
 answerAlso a status.Waiting = noNotice
 answerAlso a status.Refused = noNotice
 answerAlso a status.Expired = noNotice
-answerAlso a status.Returned = noNotice
+answerAlso a (status.Returned n) = noNotice
 answerAlso a (status.Settled m) = markTold a m
+
+-- 02, slip 2: report 6 carries the returned amount, also when an inquiry repeats it; the others carry the order's
+abbrev pub answerAmount : About → Status → ℕ
+answerAmount a status.Waiting = a .amount
+answerAmount a status.Refused = a .amount
+answerAmount a status.Expired = a .amount
+answerAmount a (status.Returned n) = n
+answerAmount a (status.Settled m) = a .amount
 
 -- Inquiry changes no order
 abbrev pub answered : ℕ → About → Bool → Verdict
@@ -164,7 +172,7 @@ answered i a bank =
       number = i;
       first = noMover;
       second = noMover;
-      amount = a .amount;
+      amount = answerAmount a (a .status);
       told = answerTold a bank (a .status);
       also = answerAlso a (a .status);
     }

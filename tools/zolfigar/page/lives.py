@@ -107,15 +107,19 @@ def signs_of(order: Order, event: Event) -> Iterator[str]:
         yield "told"
 
 
+def sign_words(order: Order, event: Event, name: str) -> str:
+    """What a sign says of an event; of a return in part also what came back and what was kept."""
+    part = telling.part(event.ticket["amount"], order) if name == "return" else ""
+    return " ".join(filter(None, (SIGNS[name], part)))
+
+
 def marks_of(order: Order) -> list[Mark]:
     marks = []
     for event in order.events:
         for name in signs_of(order, event):
-            age = event.time - order.time
+            age, said = event.time - order.time, sign_words(order, event, name)
             why = f": {telling.refusal(event.refusal)}" if name == "turned" else ""
-            marks.append(
-                Mark(event, age, name, f"{age:,} s: {SIGNS[name]}, ticket {event.number} ({kind_words(event)}){why}")
-            )
+            marks.append(Mark(event, age, name, f"{age:,} s: {said}, ticket {event.number} ({kind_words(event)}){why}"))
     return marks
 
 

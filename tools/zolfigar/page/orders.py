@@ -21,14 +21,20 @@ def status_word(status: str) -> Element:
     return node("span", status, class_=f"status {status}")
 
 
+def standing_words(order: Order) -> list[Child]:
+    """How the order stands; of a return in part also what came back and what was kept, which leads to the return."""
+    word, part = status_word(telling.status(order)), telling.part_returned(order)
+    return [word, " ", ticket_link(order.returned.number, part)] if order.returned and part else [word]
+
+
 def ended_words(order: Order) -> list[Child]:
     """How the order stands, and after how long its wait ended: settled after 4 s, returned."""
-    status, after = telling.status(order), telling.ended_after(order)
+    after = telling.ended_after(order)
     if after is None:
-        return [status_word(status)]
+        return standing_words(order)
     end = telling.STATUSES[order.code]
     words: list[Child] = [status_word(end), " ", node("span", f"after {after:,} s", class_="after")]
-    return words if status == end else [*words, ", ", status_word(status)]
+    return words if telling.status(order) == end else [*words, ", ", *standing_words(order)]
 
 
 def status_words(day: Day, order: Order) -> list[Child]:

@@ -6,7 +6,7 @@ pub sum-check-spec : {M : Type 1} → statement M
 sum-check-spec =
     tie.close
     (tie.spec
-    -- the whole
+    -- above the order
     (λ c. simp (c .if1 .taken))
-    -- another amount
+    -- up to it
     (λ c. simp (c .if1 .left)))

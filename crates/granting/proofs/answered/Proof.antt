@@ -9,4 +9,5 @@ answered-spec =
     (tie.spec
     (λ c κs. search needs)
     (λ c κs. search needs)
-    (λ c. simp (c .answer-also .ensures, ← c .before .answer-told .ensures)))
+    (λ c κs. search needs)
+    (λ c. simp (c .answer-also .ensures, ← c .before .answer-told .ensures, ← c .before .before .answer-amount .ensures)))

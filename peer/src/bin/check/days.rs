@@ -348,29 +348,49 @@ impl<'a> Maker<'a> {
         TicketFields { flag, ..self.about(4, |status| status == Status::Waiting, false) }
     }
 
+    /// Now and then of an order that is returned already.
     fn return_order(&mut self) -> TicketFields {
-        let ticket = self.about(6, |status| status == Status::Settled(Recall::Asked), false);
+        let is_second = self.style != Style::Working && self.random.one_in(12);
+        let fits = |status: Status| if is_second { is_returned(status) } else { status == Status::Settled(Recall::Asked) };
+        let ticket = self.about(6, fits, false);
         let amount = match self.book.order_with(&ticket.tx_id) {
-            Some(number) => self.book.orders()[number].amount,
+            Some(number) => self.returned(number),
             None => self.random.between(1, 1000),
         };
-        let is_off = self.random.one_in(10);
-        let amount = if is_off { self.random.pick(&[amount - 1, amount + 1, MOST_PAID]) } else { amount };
         TicketFields { amount: amount.clamp(1, MOST_PAID), ..ticket }
     }
 
+    /// The amount of an order's return: all that isn't returned yet, a part, or more than the order; sometimes just what
+    /// the payee has available, or a cent more.
+    fn returned(&mut self, number: usize) -> u64 {
+        let order = &self.book.orders()[number];
+        let (amount, payee) = (order.amount, usize::from(order.payee));
+        let rest = if let Status::Returned(returned) = order.status { amount - returned } else { amount };
+        let available = self.book.covers()[payee].available;
+        let part = self.random.between(1, amount);
+        match self.random.below(24) {
+            0..=4 => part,
+            5 => 1,
+            6 => amount - 1,
+            7 | 8 => available.min(amount),
+            9 => (available + 1).min(amount),
+            10..=13 => self.random.pick(&[amount + 1, available.max(amount) + 1, MOST_PAID]),
+            _ => rest,
+        }
+    }
+
     fn inquiry(&mut self) -> TicketFields {
-        let wanted = self.random.pick(&[
-            Status::Waiting,
-            Status::Waiting,
-            Status::Refused,
-            Status::Expired,
-            Status::Returned,
-            Status::Settled(Recall::None),
-            Status::Settled(Recall::Asked),
-            Status::Settled(Recall::Declined),
-        ]);
-        self.about(8, move |status| status == wanted, true)
+        let wanted = self.random.below(8);
+        let fits = |status: Status| match wanted {
+            0 | 1 => status == Status::Waiting,
+            2 => status == Status::Refused,
+            3 => status == Status::Expired,
+            4 => is_returned(status),
+            5 => status == Status::Settled(Recall::None),
+            6 => status == Status::Settled(Recall::Asked),
+            _ => status == Status::Settled(Recall::Declined),
+        };
+        self.about(8, fits, true)
     }
 
     /// A ticket of kinds 4 to 8 on an order of that status, if there is one, by its payer or its payee.
@@ -497,6 +517,11 @@ impl<'a> Maker<'a> {
             _ => ticket[self.random.index(TICKET_LEN)] ^= 1 << self.random.below(8),
         }
     }
+}
+
+/// Returned, by whatever amount.
+fn is_returned(status: Status) -> bool {
+    matches!(status, Status::Returned(_))
 }
 
 fn first_flag(kind: u8) -> u8 {

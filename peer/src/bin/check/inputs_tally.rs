@@ -3,8 +3,8 @@
 use crate::inputs::Case;
 use crate::tally::print_row;
 use crate::verdict::Lacks;
-use peer::book::{Answer, Book};
-use peer::handing::{open, status_word, Input};
+use peer::book::{Answer, Book, Order, Recall, Status};
+use peer::handing::{open, Input};
 use peer::report::{BUFFER_LEN, REPORT_LEN};
 use peer::ticket::TICKET_LEN;
 use std::collections::BTreeMap;
@@ -42,6 +42,7 @@ const NAMES: &[&str] = &[
     "order at the end: Refused",
     "order at the end: Expired",
     "order at the end: Returned",
+    "order at the end: Returned in part",
     "order at the end: Settled-none",
     "order at the end: Settled-asked",
     "order at the end: Settled-declined",
@@ -137,11 +138,20 @@ impl InputsTally {
             self.count_if(cover.held != 0, "held at the end");
             self.count_if(cover.open_debit != 0, "open debit at the end");
         }
-        for order in book.orders() {
-            let word = status_word(order.status);
-            let name = NAMES.iter().find(|name| name.strip_prefix("order at the end: ") == Some(word));
-            self.count(name.expect("every status has a name"));
-        }
+        book.orders().iter().for_each(|order| self.order(order));
+    }
+
+    fn order(&mut self, order: &Order) {
+        self.count(match order.status {
+            Status::Waiting => "order at the end: Waiting",
+            Status::Refused => "order at the end: Refused",
+            Status::Expired => "order at the end: Expired",
+            Status::Returned(_) => "order at the end: Returned",
+            Status::Settled(Recall::None) => "order at the end: Settled-none",
+            Status::Settled(Recall::Asked) => "order at the end: Settled-asked",
+            Status::Settled(Recall::Declined) => "order at the end: Settled-declined",
+        });
+        self.count_if(order.is_returned_in_part(), "order at the end: Returned in part");
     }
 
     fn count(&mut self, name: &'static str) {

@@ -2,7 +2,7 @@
 
 use crate::damage::FAULTS;
 use crate::verdict::Lacks;
-use peer::book::{Answer, Book, Cover, Recall, Status, WAIT};
+use peer::book::{Answer, Book, Cover, Order, Recall, Status, WAIT};
 use peer::codes::{is_iban, unpadded, IBAN_LEN};
 use peer::dayfile::{DayFile, MOST_OPENING};
 use peer::report::{reports, Report, BUFFER_LEN, MOST_REPORTS};
@@ -37,15 +37,29 @@ const STEPS: &[&str] = &[
     "no by a bank",
     "no by a linked system",
     "recall",
-    "return",
+    "return of the whole order",
+    "return in part",
+    "return of 1 cent",
+    "return of one cent less than the order",
+    "return of one cent more than the order",
+    "return in part of all available",
     "return by the payer itself",
+    "return in part by the payer itself",
+    "return within the order and above available",
+    "return in part and above available",
+    "return above the order and above available",
+    "return above the order by the payer itself",
+    "return above available by the payer itself",
+    "second return of an order returned in part",
+    "second return of just the rest",
     "recall declined",
     "inquiry: waiting for a bank",
     "inquiry: waiting for a linked system",
     "inquiry: refused",
     "inquiry: expired before",
     "inquiry: expired by the inquiry",
-    "inquiry: returned",
+    "inquiry: returned in whole",
+    "inquiry: returned in part",
     "inquiry: settled",
     "inquiry: settled, recall asked",
     "inquiry: settled, recall declined",
@@ -160,10 +174,11 @@ impl Tally {
         if let Some(ticket) = ticket.filter(|_| !(7..=11).contains(&refusal)) {
             let seen = Seen { book, ticket: &ticket, answer, buffer, cover_before: cover, clock_before: clock };
             self.waits(&seen);
-            match refusal {
-                0 => self.step(&seen),
-                20 => self.count_if(is_one_cent_more(&seen), "order of one cent more than available"),
-                21 => self.count_if(is_off_by_one(&seen), "confirm off by one"),
+            match (refusal, ticket.kind) {
+                (0, _) => self.step(&seen),
+                (18..=20, Kind::Return) => self.refused_return(&seen, refusal),
+                (20, _) => self.count_if(is_one_cent_more(&seen), "order of one cent more than available"),
+                (21, _) => self.count_if(is_off_by_one(&seen), "confirm off by one"),
                 _ => (),
             }
         }
@@ -278,10 +293,7 @@ impl Tally {
             }
             Kind::No => self.count(if is_bank { "no by a bank" } else { "no by a linked system" }),
             Kind::Recall => self.count("recall"),
-            Kind::Return => {
-                self.count("return");
-                self.count_if(is_own, "return by the payer itself");
-            }
+            Kind::Return => self.accepted_return(seen, order),
             Kind::Decline => self.count("recall declined"),
             _ => self.count(match order.status {
                 Status::Waiting if is_bank => "inquiry: waiting for a bank",
@@ -289,11 +301,55 @@ impl Tally {
                 Status::Refused => "inquiry: refused",
                 Status::Expired if seen.expired().contains(&(number as u16)) => "inquiry: expired by the inquiry",
                 Status::Expired => "inquiry: expired before",
-                Status::Returned => "inquiry: returned",
+                Status::Returned(_) if order.is_returned_in_part() => "inquiry: returned in part",
+                Status::Returned(_) => "inquiry: returned in whole",
                 Status::Settled(Recall::None) => "inquiry: settled",
                 Status::Settled(Recall::Asked) => "inquiry: settled, recall asked",
                 Status::Settled(Recall::Declined) => "inquiry: settled, recall declined",
             }),
+        }
+    }
+
+    /// What the payee had available after the expiries is what it has now, and the amount if that left it.
+    fn accepted_return(&mut self, seen: &Seen, order: &Order) {
+        let amount = seen.ticket.amount;
+        let is_own = order.payer == order.payee;
+        let available = seen.available(order.payee) + if is_own { 0 } else { amount };
+        self.count_if(is_own, "return by the payer itself");
+        if !order.is_returned_in_part() {
+            return self.count("return of the whole order");
+        }
+        self.count("return in part");
+        self.count_if(amount == 1, "return of 1 cent");
+        self.count_if(amount + 1 == order.amount, "return of one cent less than the order");
+        self.count_if(amount == available, "return in part of all available");
+        self.count_if(is_own, "return in part by the payer itself");
+    }
+
+    /// A return refused by 18 to 20 leaves its order and the payee's cover as they are after the expiries.
+    fn refused_return(&mut self, seen: &Seen, refusal: usize) {
+        let Some(number) = seen.book.order_with(seen.ticket.tx_id) else {
+            return;
+        };
+        let order = &seen.book.orders()[number];
+        let amount = seen.ticket.amount;
+        let is_own = order.payer == order.payee;
+        match (refusal, order.status) {
+            (18, Status::Returned(returned)) => {
+                self.count_if(returned < order.amount, "second return of an order returned in part");
+                self.count_if(amount == order.amount - returned, "second return of just the rest");
+            }
+            (19, _) => {
+                self.count_if(amount == order.amount + 1, "return of one cent more than the order");
+                self.count_if(amount > seen.available(order.payee), "return above the order and above available");
+                self.count_if(is_own, "return above the order by the payer itself");
+            }
+            (20, _) => {
+                self.count_if(amount <= order.amount, "return within the order and above available");
+                self.count_if(amount < order.amount, "return in part and above available");
+                self.count_if(is_own, "return above available by the payer itself");
+            }
+            _ => (),
         }
     }
 
@@ -390,6 +446,10 @@ struct Seen<'a> {
 impl Seen<'_> {
     fn is_bank(&self, participant: u8) -> bool {
         self.book.roster().participants()[usize::from(participant)].is_bank
+    }
+
+    fn available(&self, participant: u8) -> u64 {
+        self.book.covers()[usize::from(participant)].available
     }
 
     /// The numbers of the orders that the ticket's time lets expire: two reports 4 each, payer then payee, before all others.
