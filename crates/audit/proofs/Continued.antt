@@ -99,7 +99,8 @@ overNight =
     ∷ [])
 
 -- The linked system says yes to an order of long before; all that ended before are asked about; held is confirmed; one order is answered in
--- its last second, and one expires; one that was settled before is recalled and returned less a charge of 10; a new one has the number behind them.
+-- its last second, and one expires; one that was settled before is recalled and returned less a charge of 10; a new one has the number
+-- behind them.
 abbrev pub nextDay : Day
 nextDay = record {
   shows = "a day that goes on from orders of every status";

@@ -47,14 +47,14 @@ orderedMore = event (orderTicket 6 bicA bicB 500 tx2 ibanD) 0 (report 1 1 1 500 
 abbrev pub settledAt : ℕ → Event
 settledAt time = event (yesTicket time bicB tx1) 0 (report 0 2 0 400 ∷ report 1 2 0 400 ∷ [])
 
--- A recalls the order that was settled, and B returns 399 of its 400
-abbrev pub returnedLessACharge : List Event
-returnedLessACharge =
+-- the order is settled, A recalls it, and B returns 399 of its 400: told as so many
+abbrev pub lessACharge : ℕ → List Event
+lessACharge told =
     lodged
     ∷ ordered
     ∷ settledAt 7
     ∷ event (recallTicket 8 bicA 1 tx1) 0 (report 1 5 0 400 ∷ [])
-    ∷ event (returnTicket 9 bicB 399 tx1) 0 (report 0 6 0 399 ∷ [])
+    ∷ event (returnTicket 9 bicB 399 tx1) 0 (report 0 6 0 told ∷ [])
     ∷ []
 
 -- a tick that tells nothing, and one that lets order 0 expire

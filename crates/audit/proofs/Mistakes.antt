@@ -21,6 +21,7 @@ use Rattle.audit.proofs.HistoryParts.{
   orderedLinked,
   orderedMore,
   settledAt,
+  lessACharge,
   quiet,
   expiredAt,
   settledCovers,
@@ -91,13 +92,7 @@ unseen =
     (lodged ∷ ordered ∷ event (noTicket 6 bicB tx1) 0 (report 0 3 0 400 ∷ report 1 3 0 400 ∷ []) ∷ [])
     freedCovers (Refused ∷ []) ""
     -- 02, slip 2
-    ∷ row "a return of 399 of 400 told with the order's amount" banks
-    (lodged
-    ∷ ordered
-    ∷ settledAt 7
-    ∷ event (recallTicket 8 bicA 1 tx1) 0 (report 1 5 0 400 ∷ [])
-    ∷ event (returnTicket 9 bicB 399 tx1) 0 (report 0 6 0 400 ∷ [])
-    ∷ [])
+    ∷ row "a return of 399 of 400 told with the order's amount" banks (lessACharge 400)
     (cover 999 0 0 ∷ cover 1 0 0 ∷ []) (Returned 399 ∷ []) ""
     ∷ []
 

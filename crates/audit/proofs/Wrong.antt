@@ -32,7 +32,7 @@ use Rattle.audit.proofs.HistoryParts.{
   orderedLinked,
   orderedMore,
   settledAt,
-  returnedLessACharge,
+  lessACharge,
   quiet,
   expiredAt,
   atFirst,
@@ -54,10 +54,10 @@ ofCover =
     (cover 0 0 0 ∷ cover 0 0 0 ∷ []) [] "cover"
     ∷ row "reserved one cent off" banks (lodged ∷ ordered ∷ []) (cover 601 399 0 ∷ cover 0 0 0 ∷ []) (Waiting ∷ []) "reserved"
     -- 02, slip 2
-    ∷ row "a return of 399 of 400, and the payer gets the charge too" banks returnedLessACharge
+    ∷ row "a return of 399 of 400, and the payer gets the charge too" banks (lessACharge 399)
     (cover 1000 0 0 ∷ cover 1 0 0 ∷ []) (Returned 399 ∷ []) "cover"
-    ∷ row "a return of 399 of 400 that moves all 400" banks returnedLessACharge freedCovers (Returned 399 ∷ []) "cover"
-    ∷ row "a return of 399 of 400 whose charge is nobody's" banks returnedLessACharge
+    ∷ row "a return of 399 of 400 that moves all 400" banks (lessACharge 399) freedCovers (Returned 399 ∷ []) "cover"
+    ∷ row "a return of 399 of 400 whose charge is nobody's" banks (lessACharge 399)
     (cover 999 0 0 ∷ cover 0 0 0 ∷ []) (Returned 399 ∷ []) "cover"
     ∷ []
 

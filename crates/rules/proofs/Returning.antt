@@ -1,5 +1,5 @@
 -- A returned order keeps what was returned of it. 02, slip 2: 'The order keeps it beside its own amount'.
---     return-kept       where a return is accepted, its amount is what the order keeps
+--     return-kept       where a return is accepted, the order keeps its amount, and its own
 --     returned-stays    no list of inputs changes an order that is returned
 -- Assumes nothing.
 use mathlib.Core.Path.{_≡_, refl, sym, _∙_, ap}
@@ -35,14 +35,15 @@ use Rattle.rules.proofs.Courses.{handed-goes}
 use Rattle.rules.proofs.StepSound.{handed-sound}
 
 pub return-kept : (b : Book) → Sound b → (time n : ℕ) (t : List ℕ) → let f = fieldsOf kind.Return time n in
+    let after = orderOf (applied b (decisionOf (finding b f t)) .orders) (accepting.orderNumber b f t) in
     NoRefusal (finding b f t)
-    → returnedAmount (orderOf (applied b (decisionOf (finding b f t)) .orders) (accepting.orderNumber b f t)) ≡ n
+    → (returnedAmount after ≡ n) × (after .amount ≡ accepting.theOrder b f t .amount)
 return-kept b s time n t r =
     let f = fieldsOf kind.Return time n in
-    let o = withStatus (accepting.theOrder b f t) (status.Returned n) in
     let below = accepting.order-found b f t (r .r16) refl .below in
-    ap returnedAmount
-    (getD-set-same (b .orders) (accepting.orderNumber b f t) o noOrder (rw (s .orders .long) (let c = s .orders .count in omega arith)))
+    let is = getD-set-same (b .orders) (accepting.orderNumber b f t) (withStatus (accepting.theOrder b f t) (status.Returned n)) noOrder
+    (rw (s .orders .long) (let c = s .orders .count in omega arith)) in
+    (ap returnedAmount is, ap (λ (o : Order). o .amount) is)
 
 -- order i is as it was, and still in use
 record Stays (i : ℕ) (b w : Book) : Type 0 where
