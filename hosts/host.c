@@ -1,11 +1,14 @@
-/* A host in C: clears the day file on standard input through the static library and writes the program's text.
+/* A host in C: clears the day file on standard input through the static library and writes the program's text; or reads a message.
  *
  *     host [ROOM]             ROOM is how many bytes the host has for the text at first; where they are too few it asks again.
  *     host ANSWERS REPORTS    only the tickets that are taken with so many bytes for their answers and their reports; the host
- *                             has these as bytes and makes the lines itself. */
+ *                             has these as bytes and makes the lines itself.
+ *     host message TIME FILE  no day, but the order that a message is, at a time in seconds: its ticket in hex behind M 0, or M and
+ *                             the refusal. */
 #include <stdint.h>
 #include <stdio.h>
 #include <stdlib.h>
+#include <string.h>
 
 #include "../include/zolfigar.h"
 
@@ -30,7 +33,7 @@ static uint8_t *read_all(FILE *stream, size_t *length) {
         bytes = grown(bytes, room);
         *length += fread(bytes + *length, 1, room - *length, stream);
     } while (*length == room);
-    if (ferror(stream)) fail("can't read standard input");
+    if (ferror(stream)) fail("can't read all of the input");
     return bytes;
 }
 
@@ -75,8 +78,29 @@ static void write_steps(const uint8_t *day, size_t length, size_t answers_room, 
     free(reports);
 }
 
+static void write_order(uint32_t time, const char *name) {
+    size_t length;
+    FILE *file = fopen(name, "rb");
+    if (!file) fail("can't open the message");
+    uint8_t *text = read_all(file, &length), ticket[ZOLFIGAR_TICKET_LENGTH];
+    uint8_t refusal = zolfigar_pacs008(text, length, time, ticket, sizeof ticket);
+    printf("M %u", refusal);
+    if (refusal == 0) {
+        putchar(' ');
+        for (size_t i = 0; i < sizeof ticket; i++) printf("%02x", ticket[i]);
+    }
+    putchar('\n');
+    free(text);
+    fclose(file);
+}
+
 int main(int count, char **words) {
     size_t length;
+    if (count == 4 && strcmp(words[1], "message") == 0) {
+        write_order((uint32_t)strtoul(words[2], NULL, 10), words[3]);
+        if (fflush(stdout)) fail("can't write standard output");
+        return 0;
+    }
     uint8_t *day = read_all(stdin, &length);
     if (count > 2) {
         write_steps(day, length, strtoul(words[1], NULL, 10), strtoul(words[2], NULL, 10));

@@ -1,12 +1,14 @@
-/* The proved functions for programs in C: the checks of BIC, IBAN and TxId, for the banks' gateway, and a whole day, for a host.
+/* The proved functions for programs in C: the checks of BIC, IBAN and TxId, and an order as pacs.008 text, for the banks' gateway, and a
+ * whole day, for a host.
  *
  * Each check takes the bytes of one code without padding, and their count, and answers 1 if they are such a code and 0 if
  * they are not. Any bytes and any count are taken. A caller passes a pointer to at least `length` readable bytes that
  * nobody writes before the call returns; where `length` is 0 the pointer may be null. Nothing is written, kept or
  * allocated, and calls from several threads don't disturb each other.
  *
- * For the checks link with libcodes.a, which `rt staticlib codes` writes; for a day as text with libforeign_day.a, for its tickets as
- * bytes with libforeign_steps.a, which `rt staticlib foreign_day` and `rt staticlib foreign_steps` write. */
+ * For the checks link with libcodes.a, which `rt staticlib codes` writes; for an order as text with libreader.a, which `rt staticlib
+ * reader` writes; for a day as text with libforeign_day.a, for its tickets as bytes with libforeign_steps.a, which `rt staticlib
+ * foreign_day` and `rt staticlib foreign_steps` write. Any of them may be linked together. */
 #ifndef ZOLFIGAR_H
 #define ZOLFIGAR_H
 
@@ -14,7 +16,7 @@
 #include <stdint.h>
 
 /* The file VERSION has it too. */
-#define ZOLFIGAR_VERSION "1.2.0"
+#define ZOLFIGAR_VERSION "1.3.0"
 
 #ifdef __cplusplus
 extern "C" {
@@ -30,6 +32,34 @@ uint8_t zolfigar_iban_ok(const uint8_t *bytes, size_t length);
 
 /* A TxId: 1 to 35 of A-Z a-z 0-9 / - ? : ( ) . , ' + and no space. */
 uint8_t zolfigar_txid_ok(const uint8_t *bytes, size_t length);
+
+/* The length of a ticket, and what zolfigar_pacs008 answers where it is lent less. */
+#define ZOLFIGAR_TICKET_LENGTH 108
+#define ZOLFIGAR_TICKET_TOO_SHORT 255
+
+/* An order as pacs.008 text, of any bytes and any length: the ticket that hands it in at a time, in seconds from the day's start. The
+ * answer is 0 where the text is such an order; else the first of these refusals that applies:
+ *
+ *     23    longer than 65,520 bytes, elements not balanced or more than 16 in each other, or a form that is not allowed
+ *     24    a named element missing, twice in its parent or out of order, or an element in a named text
+ *     25    the amount, or its attributes other than Ccy="EUR" alone
+ *     7     a BIC or the TxId
+ *     8     the IBAN
+ *
+ * or 255, where the ticket has less than 108 bytes; the text isn't looked at then. Where the answer is 0 the ticket's first 108 bytes
+ * are written, all of them, and those behind them keep their value; where it is another nothing is written at all:
+ *
+ *     uint8_t ticket[ZOLFIGAR_TICKET_LENGTH];
+ *     uint8_t refusal = zolfigar_pacs008(text, text_length, 32401, ticket, sizeof ticket);
+ *
+ * An order is no promise that the book takes the ticket: whether its banks take part, its amount is covered and its TxId is new is
+ * seen there.
+ *
+ * The text and the ticket may not overlap; nobody writes the text, and nobody else reads or writes the ticket, before the call
+ * returns; either pointer may be null where its length is 0. Nothing is kept or allocated. Some 2,000 bytes of stack are used, and
+ * some 200,000 in a tag of more than 16 attributes: as any text may have one, a thread needs room for that. Calls from several threads
+ * don't disturb each other. */
+uint8_t zolfigar_pacs008(const uint8_t *text, size_t text_length, uint32_t time, uint8_t *ticket, size_t ticket_length);
 
 /* A whole day: what the clearing program prints of a day file, of any bytes and any length. The answer is how many bytes that
  * is. The text has them from its start on, as many as it has room for, and keeps its bytes behind them; so a caller whose text

@@ -1,16 +1,21 @@
-//! The instant cover book of a clearing house: codes, tickets, day files, the book itself and the programs' text.
+//! The instant cover book of a clearing house: codes, tickets, day files, messages, the book itself and the programs' text.
 
 pub mod book;
 pub mod codes;
 pub mod dayfile;
+pub mod flaw;
 pub mod handing;
 mod index;
+pub mod markup;
+pub mod message;
 pub mod printing;
 pub mod refusal;
 pub mod report;
 pub mod ticket;
 pub mod writing;
 
+#[cfg(test)]
+mod message_tests;
 #[cfg(test)]
 mod tests;
 

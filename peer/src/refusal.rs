@@ -1,6 +1,6 @@
 //! The refusals, by the paper's numbers.
 
-/// Why a file or a ticket is turned back.
+/// Why a file, a ticket or a message is turned back.
 #[derive(Clone, Copy, PartialEq, Eq, Debug)]
 #[repr(u8)]
 pub enum Refusal {
@@ -26,6 +26,9 @@ pub enum Refusal {
     TooLittleCover = 20,
     CutOrConfirm = 21,
     TooMuchCover = 22,
+    Markup = 23,
+    Elements = 24,
+    AmountText = 25,
 }
 
 impl Refusal {

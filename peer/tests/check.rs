@@ -3,6 +3,7 @@
 use std::process::{Command, Output};
 
 const HANDS: &str = env!("CARGO_BIN_EXE_hands");
+const MESSAGES: &str = env!("CARGO_BIN_EXE_messages");
 
 fn check(words: &[&str]) -> Output {
     Command::new(env!("CARGO_BIN_EXE_check")).args(words).output().expect("the comparison runs")
@@ -35,6 +36,33 @@ fn enough_tickets_meet_it_all() {
 }
 
 #[test]
+fn few_messages_need_not_meet_it_all() {
+    let (status, never, line) = verdict(&["--messages-program", MESSAGES, "--messages", "50"]);
+    let due =
+        format!("peer: 50 messages, all the same; {never} things never met, listed above, as fewer than 20000 messages may");
+    assert_eq!((status, line), (Some(0), due));
+}
+
+#[test]
+fn enough_messages_meet_it_all() {
+    let (status, never, line) = verdict(&["--messages-program", MESSAGES]);
+    assert_eq!((status, never, line.as_str()), (Some(0), 0, "peer: 20000 messages, all the same; everything met"));
+}
+
+#[test]
+fn messages_are_written_as_the_program_reads_them() {
+    let file = std::env::temp_dir().join(format!("peer-messages-{}", std::process::id()));
+    let name = file.to_str().expect("the file's name is UTF-8");
+    assert_eq!(check(&["--write-messages", name, "--messages", "3"]).status.code(), Some(0));
+    let input = std::fs::File::open(&file).expect("the file was written");
+    let output = Command::new(MESSAGES).stdin(input).output().expect("the program runs");
+    let text = String::from_utf8(output.stdout).expect("it prints UTF-8");
+    let names: Vec<&str> = text.lines().filter(|line| line.starts_with('#')).collect();
+    assert_eq!((names, text.lines().count()), (vec!["# 0", "# 1", "# 2"], 6));
+    std::fs::remove_file(file).expect("the file was written");
+}
+
+#[test]
 fn a_program_that_differs_fails() {
     let folder = std::env::temp_dir().join(format!("peer-check-{}", std::process::id()));
     let out = folder.to_str().expect("the folder's name is UTF-8");
@@ -42,6 +70,8 @@ fn a_program_that_differs_fails() {
     assert_eq!((status, line.as_str()), (Some(1), "peer: FAILED: a day differs"));
     let (status, _, line) = verdict(&["--hands", "/bin/true", "--inputs", "1", "--out", out]);
     assert_eq!((status, line.as_str()), (Some(1), "peer: FAILED: a case differs"));
+    let (status, _, line) = verdict(&["--messages-program", "/bin/true", "--messages", "1", "--out", out]);
+    assert_eq!((status, line.as_str()), (Some(1), "peer: FAILED: a message differs"));
     std::fs::remove_dir_all(folder).expect("what differs was written there");
 }
 

@@ -1,12 +1,15 @@
 """The examples, as day files and outputs, for the tests."""
 
+import functools
 import os
 
+from tests import reader
 from zolfigar import history, packing
 
 ROOT = os.path.dirname(os.path.dirname(os.path.dirname(os.path.realpath(__file__))))
 EXAMPLES = os.path.join(ROOT, "examples")
-RUNNING = ("case-d", "case-e", "busy", "turned-back", "small-letters", "part-return")
+RUNNING = ("case-d", "case-e", "busy", "turned-back", "small-letters", "part-return", "messages")
+MESSAGES = ("plain.xml", "free.xml")
 REFUSED = ("refused-1", "refused-2", "refused-3", "refused-4", "refused-5")
 
 
@@ -19,9 +22,10 @@ def exists(path):
     return os.path.exists(os.path.join(ROOT, path))
 
 
+@functools.cache
 def day_file(name):
-    path = os.path.join("examples", name + ".day")
-    return packing.pack(path, content(path).decode())
+    path = os.path.join(EXAMPLES, name + ".day")
+    return packing.pack(path, content(path).decode(), reader.READER)
 
 
 def output(name):

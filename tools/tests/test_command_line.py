@@ -28,7 +28,7 @@ class Commands(unittest.TestCase):
         with tempfile.TemporaryDirectory() as folder:
             with open(os.path.join(folder, "sitecustomize.py"), "w", encoding="utf-8") as file:
                 file.write(INTERRUPTED)
-            for command in ("run", "explain", "day", "anybytes", "unused", "places", "named-places"):
+            for command in ("run", "explain", "day", "message", "anybytes", "unused", "places", "named-places"):
                 ran = run(command, "--help", PYTHONPATH=folder)
                 self.assertEqual((ran.returncode, ran.stdout, ran.stderr), (130, "", ""), command)
 
@@ -54,7 +54,7 @@ class Commands(unittest.TestCase):
             self.assertIn(f"argument {option}: expected a name, found none", ran.stderr)
 
     def test_words_that_can_not_be_printed(self):
-        for command in ("run", "explain", "day", "anybytes", "unused"):
+        for command in ("run", "explain", "day", "anybytes", "unused", "message"):
             ran = run(command, "\x1b[31m", "a", "b", "--c\n")
             self.assertEqual(ran.returncode, 2)
             self.assertNotIn("\x1b", ran.stderr)

@@ -2,9 +2,10 @@
 
 import os
 import unittest
+from xml.parsers import expat
 
 from tests import scenes
-from zolfigar import many
+from zolfigar import many, text
 
 ADVICE = "; `tools/day pack --many` makes the input of crates/days"
 
@@ -34,8 +35,92 @@ class Gate(unittest.TestCase):
 
     def test_no_example_is_forgotten(self):
         names = sorted(name for name in os.listdir(scenes.EXAMPLES))
-        due = sorted(name + ending for name in scenes.RUNNING + scenes.REFUSED for ending in (".day", ".out"))
-        self.assertEqual(names, due)
+        days = [name + ending for name in scenes.RUNNING + scenes.REFUSED for ending in (".day", ".out")]
+        self.assertEqual(names, sorted([*days, *scenes.MESSAGES]))
+
+
+def texts_of(message):
+    """The texts that an XML parser which isn't ours finds in a message, by their paths, and how deep its elements are."""
+    parser, depth = expat.ParserCreate(), 0
+    path: list[str] = []
+    texts: dict[str, list[str]] = {}
+
+    def begun(name, _):
+        nonlocal depth
+        path.append(name)
+        depth = max(depth, len(path))
+        texts.setdefault("/".join(path), []).append("")
+
+    def met(characters):
+        texts["/".join(path)][-1] += characters
+
+    parser.StartElementHandler, parser.CharacterDataHandler = begun, met
+    parser.EndElementHandler = lambda name: path.pop()
+    parser.Parse(message, True)
+    return texts, depth
+
+
+class Messages(unittest.TestCase):
+    NAMED = (
+        "GrpHdr/InstgAgt/FinInstnId/BIC",
+        "CdtTrfTxInf/CdtrAgt/FinInstnId/BIC",
+        "CdtTrfTxInf/IntrBkSttlmAmt",
+        "CdtTrfTxInf/PmtId/TxId",
+        "CdtTrfTxInf/CdtrAcct/Id/IBAN",
+    )
+
+    def named(self, name):
+        """The five texts that make the order."""
+        texts, _ = texts_of(scenes.content("examples", name))
+        return [texts[f"LBFastCdtTrf/FIToFICstmrCdtTrf/{path}"] for path in self.NAMED]
+
+    def test_their_orders(self):
+        plain = [["AAAALV22"], ["BBBBLV22"], ["400.00"], ["SALARY-41"], ["LV80BANK0000435195001"]]
+        free = [["BBBBLV22"], ["CCCCLT2XXXX"], ["000025.50"], ["RENT-7/11'A'"], ["LT121000011101001000"]]
+        self.assertEqual([self.named(name) for name in scenes.MESSAGES], [plain, free])
+
+    def test_the_plain_one_has_all_that_is_obligatory(self):
+        """By the source document 002, section 7.3, and section 8 of a signature."""
+        texts, _ = texts_of(scenes.content("examples", "plain.xml"))
+        head, order = "LBFastCdtTrf/FIToFICstmrCdtTrf/GrpHdr/", "LBFastCdtTrf/FIToFICstmrCdtTrf/CdtTrfTxInf/"
+        due = "MsgId CreDtTm NbOfTxs TtlIntrBkSttlmAmt IntrBkSttlmDt SttlmInf/SttlmMtd SttlmInf/ClrSys/Prtry PmtTpInf/SvcLvl/Cd"
+        due += " PmtTpInf/LclInstrm/Cd InstgAgt/FinInstnId/BIC InstdAgt/FinInstnId/BIC"
+        self.assertLessEqual({head + path for path in due.split()}, set(texts))
+        due = (
+            "PmtId/EndToEndId PmtId/TxId IntrBkSttlmAmt AcceptncDtTm ChrgBr Dbtr/Nm DbtrAcct/Id/IBAN DbtrAgt/FinInstnId/BIC"
+        )
+        due += " CdtrAgt/FinInstnId/BIC Cdtr/Nm CdtrAcct/Id/IBAN"
+        self.assertLessEqual({order + path for path in due.split()}, set(texts))
+        due = "SignedInfo/Reference/DigestValue SignatureValue KeyInfo/X509Data/X509Certificate"
+        signed = "LBFastCdtTrf/FIToFICstmrCdtTrf/Signature/"
+        self.assertLessEqual({signed + path for path in due.split()}, set(texts))
+
+    def test_the_free_one_has_what_a_reader_may_stumble_over(self):
+        message = scenes.content("examples", "free.xml")
+        texts, depth = texts_of(message)
+        self.assertEqual(depth, 16)
+        for name in ("BIC", "IBAN", "TxId", "PmtId", "CdtrAgt"):
+            self.assertGreater(len([path for path in texts if path.split("/")[-1] == name]), 1, name)
+        for part in (
+            b"<MsgId/>",
+            b"<CreDtTm />",
+            b"</InstgAgt >",
+            b'Ccy = "EUR"',
+            b"</BIC\n",
+            b"\t>",
+            b"<b:BIC>",
+            b"<_4><e5.x>",
+        ):
+            self.assertIn(part, message)
+
+    def test_ibans_and_bics_are_right(self):
+        for name in scenes.MESSAGES:
+            for path, found in texts_of(scenes.content("examples", name))[0].items():
+                for word in found:
+                    if word and path.endswith("/IBAN"):
+                        self.assertEqual(text.iban(word), word.encode())
+                    elif word and path.endswith("BIC"):
+                        self.assertIsNotNone(text.filled(word), word)
 
 
 class Shown(unittest.TestCase):
@@ -69,6 +154,18 @@ class Shown(unittest.TestCase):
         told = [(event.number, report.amount) for event in day.events for report in event.reports if report.code == 6]
         self.assertEqual(told, [(4, 39900), (5, 39900), (11, 10000)])
         self.assertEqual([position.available for position in day.positions], [99900, 100])
+
+    def test_messages(self):
+        """Two orders that settle, and the first once more."""
+        day = scenes.day("messages")
+        self.assertEqual([event.refusal for event in day.events], [0, 0, 0, 0, 0, 0, 13, 0])
+        orders = [(order.txid, order.amount, order.code) for order in day.orders]
+        self.assertEqual(orders, [("SALARY-41", 40000, 2), ("RENT-7/11'A'", 2550, 2)])
+        first, second = (event.ticket for event in (day.events[2], day.events[6]))
+        self.assertEqual({**first, "time": second["time"]}, second)
+        lines = scenes.content("examples", "messages.day").decode().splitlines()
+        named = [line.split()[2] for line in lines if line.split()[1:2] == ["message"]]
+        self.assertEqual(named, ["plain.xml", "free.xml", "plain.xml"])
 
     def test_refused_files(self):
         self.assertEqual([scenes.output(name) for name in scenes.REFUSED], [f"F {n}\n" for n in range(1, 6)])

@@ -8,7 +8,7 @@ from zolfigar import many, text
 ROOT = os.path.dirname(os.path.dirname(os.path.dirname(os.path.abspath(__file__))))
 PLAIN = (b"case D", b"a#b", b"empty", b"day", b"\xc3\xa4", b"x" * 256)
 NAMES = (*PLAIN, b"", b" ", b"a  b", b" a", b"a ", b"#", b"a #b", b"hex:41", b"\xff", b"a\nb", b"\xc2\xa0")
-KINDS = "cover-in, cover-out, order, answer, recall, return, decline, inquiry, cut, confirm or tick"
+KINDS = "cover-in, cover-out, order, answer, recall, return, decline, inquiry, cut, confirm, tick or message"
 
 
 class Many(unittest.TestCase):

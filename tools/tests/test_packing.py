@@ -1,13 +1,14 @@
 import os
 import unittest
 
+from tests.reader import READER
 from zolfigar import layout, packing, text
 
 A, B = "AAAALV22", "BBBBLV22"
 IBAN = "LV80BANK0000435195001"
 A_BIC = "six A-Z, one of A-Z or 2-9, one of A-Z but O or of 0-9, then three of A-Z or 0-9, or none and XXX is filled in"
 AMOUNT = "an amount like EUR 4.00 or cents 400"
-KINDS = "cover-in, cover-out, order, answer, recall, return, decline, inquiry, cut, confirm or tick"
+KINDS = "cover-in, cover-out, order, answer, recall, return, decline, inquiry, cut, confirm, tick or message"
 PLACES = "header, participant, route, ticket, bytes"
 
 CASE_D = """
@@ -379,7 +380,8 @@ class Packing(unittest.TestCase):
             shown = [line.strip() for line in guide if line.startswith("    ")]
         rows = [[line for line in shown if line.startswith(word)] for word in ("participant ", "route ")]
         tickets = [line for line in shown if line[:1].isdigit()]
-        file = pack(*rows[0], *rows[1], *tickets)
+        self.assertEqual(len([line for line in tickets if line.split()[1] == "message"]), 1)
+        file = packing.pack(os.path.join(root, "examples", "x.day"), "\n".join([*rows[0], *rows[1], *tickets]), READER)
         self.assertEqual(file[:6], bytes([0, len(rows[0]), 0, len(rows[1]), 0, len(tickets)]))
         self.assertLessEqual(set(range(1, 12)), {row["kind"] for row in layout.sections(file).tickets})
 

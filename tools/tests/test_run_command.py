@@ -11,14 +11,17 @@ import tempfile
 import unittest
 from unittest import mock
 
-from tests import scenes
+from tests import reader, scenes
 from zolfigar import files, run_command
 
-RT = """#!/bin/sh
-test "$*" = "check clearing" || exit 2
-test ! -e broken || { echo "fn f: not proved"; exit 1; }
+RT = f"""#!/bin/sh
+test ! -e broken || {{ echo "fn f: not proved"; exit 1; }}
 mkdir -p target/bin
-cp program target/bin/clearing
+case "$*" in
+"check clearing") cp program target/bin/clearing ;;
+"check messages") ln -sf {reader.READER.path} target/bin/messages ;;
+*) exit 2 ;;
+esac
 """
 
 PROGRAM = """#!/usr/bin/env python3
@@ -75,6 +78,21 @@ class Run(unittest.TestCase):
         self.assertEqual(self.run_day(self.example("case-d"))[2], said)
         self.assertEqual(self.run_day(self.example("case-d"))[2], "")
 
+    def test_the_reader_is_built_for_a_day_with_messages(self):
+        """Not for one whose text is wrong, and what it refuses is told."""
+        files.write(self.path("mine.day"), b"1 message none.xml\n1 tick tock\n")
+        said = f"{self.path('mine.day')}:2:8: expected but, or the line's end, found \"tock\"\n"
+        self.assertEqual(self.run_day(self.path("mine.day")), (1, "", said))
+        building = "is not built yet: proving and building it, which takes some minutes\n"
+        said = f"run: the reader of messages {building}run: the clearing program {building}"
+        self.assertEqual(self.run_day(self.example("messages"))[2], said)
+        self.assertEqual(self.run_day(self.example("messages"))[2], "")
+        files.write(self.path("mine.xml"), reader.REFUSED["nothing"][0])
+        files.write(self.path("mine.day"), b"1 message mine.xml\n1 tick tock\n")
+        status, _, err = self.run_day(self.path("mine.day"))
+        self.assertEqual((status, len(err.splitlines())), (1, 2))
+        self.assertIn(f"{self.path('mine.day')}:1:11: {self.path('mine.xml')}:1:1: refused by 23 at byte 0: ", err)
+
     def test_building_shows_how_far_it_is(self):
         """On a terminal, the last line that rt said of a crate."""
         shown = io.StringIO()
@@ -88,6 +106,7 @@ class Run(unittest.TestCase):
         status, _, err = self.run_day(self.example("case-d"))
         self.assertEqual(status, 1)
         self.assertIn("run: rt check clearing failed:\nfn f: not proved\n", err)
+        self.assertIn("run: rt check messages failed:\nfn f: not proved\n", self.run_day(self.example("messages"))[2])
 
     def test_an_output_that_is_not_the_expected_one(self):
         files.write(self.path("mine.day"), scenes.content("examples", "case-d.day"))

@@ -31,7 +31,7 @@ class Version(unittest.TestCase):
         self.assertRegex(headings[1], rf"\A## {re.escape(VERSION.strip())}, \d{{4}}-\d\d-\d\d\Z")
 
     def test_the_commands_answer_it(self):
-        for name in ("day", "explain", "run", "anybytes"):
+        for name in ("day", "explain", "run", "message", "anybytes"):
             command = [sys.executable, "-B", os.path.join(scenes.ROOT, "tools", name), "--version"]
             said = subprocess.run(command, capture_output=True, text=True, check=True).stdout
             self.assertEqual(said, f"{name}, Zolfigar {VERSION}")

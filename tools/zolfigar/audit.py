@@ -101,7 +101,7 @@ def caused(day: Day) -> Iterator[str]:
 
 
 def refusals(day: Day) -> Iterator[str]:
-    """A ticket of a file that is not refused has refusal 0 or 7 to 22: 1 to 5 are a file's, 6 a short buffer's."""
+    """A ticket of a file that is not refused has refusal 0 or 7 to 22: 1 to 5 are a file's, 6 a short buffer's, 23 to 25 a message's."""
     for event in day.events:
         if event.refusal and not 7 <= event.refusal <= 22:
             yield f"ticket {event.number} has refusal {event.refusal}, and the program gives a ticket 0 or 7 to 22"

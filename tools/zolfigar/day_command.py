@@ -56,9 +56,8 @@ def unpacked(name: str, data: bytes, words: Words) -> bytes:
 def carry_out(words: Words) -> int:
     if words.command == "pack" and words.out == "-" and sys.stdout.isatty():
         raise files.Failed("a day file isn't written to a terminal: use -o OUT, or a pipe")
-    name = "standard input" if words.file == "-" else words.file
     work = packed if words.command == "pack" else unpacked
-    files.write(words.out, work(name, files.read(words.file), words))
+    files.write(words.out, work(files.called(words.file), files.read(words.file), words))
     return 0
 
 

@@ -25,17 +25,22 @@ def escaped(c: str) -> str:
     return f"\\x{ord(c) - 0xDC00:02x}" if "\udc80" <= c <= "\udcff" else c.encode("unicode_escape").decode()
 
 
+def called(name: str) -> str:
+    """What a file that is read is called."""
+    return "standard input" if name == STANDARD else name
+
+
 def reason(error: OSError) -> str:
     return error.strerror or str(error)
 
 
-def read(name: str) -> bytes:
-    """A file's bytes; - is standard input."""
+def read(name: str, most: int = -1) -> bytes:
+    """A file's bytes, or the first of them; - is standard input."""
     try:
         if name == STANDARD:
-            return sys.stdin.buffer.read()
+            return sys.stdin.buffer.read(most)
         with open(name, "rb") as file:
-            return file.read()
+            return file.read(most)
     except OSError as error:
         raise Failed(f"can't read {shown(name)}: {reason(error)}") from error
 

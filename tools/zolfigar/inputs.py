@@ -4,8 +4,9 @@ Each case has the lengths of its name and of its day file and the number of its 
 lengths of its ticket and of its buffer, 4 bytes each, the byte that the buffer is filled with, then the ticket."""
 
 from functools import partial
+from typing import NamedTuple
 
-from . import layout, many, packing, text
+from . import layout, many, messages, packing, text
 from .progress import over
 
 MOST = 8192  # the program ends at a longer ticket or buffer
@@ -29,13 +30,25 @@ def read_length(cursor: text.Cursor) -> int:
     return length
 
 
+class Input(NamedTuple):
+    """A ticket with its length, and its buffer's length and fill."""
+
+    row: packing.Row
+    length: int
+    buffer: tuple[bytes, bytes]
+
+    def packed(self) -> bytes:
+        ticket = layout.write(layout.TICKET, self.row)[: self.length].ljust(self.length, b"\0")
+        return b"".join((number(self.length), *self.buffer, ticket))
+
+
 class Case:
     """A day's line and the lines below it. Its tickets are inputs and no part of the day file."""
 
     def __init__(self, line: text.Line) -> None:
         self.named = many.Named(line)
         self.buffer, self.length = (number(6528), b"\0"), layout.length(layout.TICKET)
-        self.inputs: list[bytes] = []
+        self.inputs: list[Input] = []
 
     def add(self, line: text.Line) -> None:
         cursor, word = text.Cursor(line), line.words[0].text
@@ -60,16 +73,16 @@ class Case:
         alone = packing.Day()
         alone.add(line)
         self.named.day.mistakes += alone.mistakes
-        for row in alone.rows["ticket"]:
-            ticket = layout.write(layout.TICKET, row)[: self.length].ljust(self.length, b"\0")
-            self.inputs.append(b"".join((number(self.length), *self.buffer, ticket)))
+        self.named.day.asked += alone.asked
+        self.inputs += [Input(row, self.length, self.buffer) for row in alone.rows["ticket"]]
 
     def packed(self) -> bytes:
         name, file = self.named.packed()
-        return b"".join((number(len(name)), number(len(file)), number(len(self.inputs)), name, file, *self.inputs))
+        given = (given.packed() for given in self.inputs)
+        return b"".join((number(len(name)), number(len(file)), number(len(self.inputs)), name, file, *given))
 
 
-def pack(name: str, cases_text: str) -> bytes:
+def pack(name: str, cases_text: str, reader: messages.Reader = messages.READER) -> bytes:
     """The bytes of the cases that the text has. TextError says what is wrong with it, with the name given."""
     cases: list[Case] = []
     mistakes: list[text.Mistake] = []
@@ -80,6 +93,7 @@ def pack(name: str, cases_text: str) -> bytes:
             cases[-1].add(line)
         elif not mistakes:
             mistakes.append(text.Cursor(line).expected("a line `day NAME` before all others"))
+    mistakes += many.answered(name, [case.named.day for case in cases], reader)
     data = b"".join([case.packed() for case in cases])
     mistakes += [mistake for case in cases for mistake in case.named.day.mistakes]
     if mistakes:

@@ -2,9 +2,9 @@
 
 Each day has the lengths of its name and of its bytes, 4 bytes each, then the name, then the bytes."""
 
-from collections.abc import Iterable
+from collections.abc import Iterable, Sequence
 
-from . import packing, text, unpacking
+from . import message_lines, messages, packing, text, unpacking
 from .progress import over
 
 MOST_NAME = 256
@@ -60,14 +60,10 @@ def name_words(name: bytes) -> str:
 
 
 def read_name(cursor: text.Cursor) -> bytes:
-    if (cursor.next() or "").startswith("hex:"):
-        name = cursor.take("", text.hex_literal)
-        cursor.finish()
-    elif cursor.next() is None:
-        raise cursor.expected("a name")
-    else:
-        name = " ".join(word.text for word in cursor.line.words[1:]).encode()
+    begins = cursor.at
+    name = text.name_in(cursor, "a name")
     if len(name) > MOST_NAME:
+        cursor.at = begins
         raise cursor.mistake(f"expected a name of at most {MOST_NAME} bytes, found {len(name)}")
     return name
 
@@ -93,7 +89,13 @@ class Named:
         return self.name, file
 
 
-def pack(name: str, days_text: str) -> bytes:
+def answered(name: str, days: Sequence[packing.Day], reader: messages.Reader) -> list[text.Mistake]:
+    """The messages of all days, read by one run; the mistakes of those that are refused or can't be read."""
+    asked = [message for day in days for message in day.asked]
+    return message_lines.answer(name, asked, [mistake for day in days for mistake in day.mistakes], reader)
+
+
+def pack(name: str, days_text: str, reader: messages.Reader = messages.READER) -> bytes:
     """The bytes of the days that the text has. TextError says what is wrong with it, with the name given."""
     days: list[Named] = []
     mistakes: list[text.Mistake] = []
@@ -104,6 +106,7 @@ def pack(name: str, days_text: str) -> bytes:
             days[-1].day.add(line)
         elif not mistakes:
             mistakes.append(text.Cursor(line).expected("a line `day NAME` before all others"))
+    mistakes += answered(name, [day.day for day in days], reader)
     data = join([day.packed() for day in days])
     mistakes += [mistake for day in days for mistake in day.day.mistakes]
     if mistakes:

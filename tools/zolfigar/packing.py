@@ -4,7 +4,7 @@ from collections.abc import Callable, Iterable, Mapping, Sequence
 from functools import partial
 from typing import NamedTuple, TypeVar
 
-from . import layout, text, words
+from . import layout, message_lines, messages, text, words
 from .progress import over
 
 ORDER = ("header", "participant", "route", "ticket", "bytes")
@@ -225,7 +225,7 @@ def read_raw(cursor: text.Cursor) -> Row:
 
 def read_ticket(cursor: text.Cursor) -> Row:
     time = cursor.take(text.A_TIME, text.time)
-    what = "a kind of ticket: " + one_of(list(KIND_NUMBERS))
+    what = "a kind of ticket: " + one_of([*KIND_NUMBERS, message_lines.WORD])
     kind = cursor.take(what, chosen(KIND_NUMBERS, what))
     return {"time": time, "kind": kind, **read_row(cursor, TICKETS[kind])}
 
@@ -246,6 +246,7 @@ class Day:
     def __init__(self, line: int = 1, column: int = 1) -> None:
         self.given: layout.Header = {}  # what header lines give
         self.rows: dict[str, list[Row]] = {"participant": [], "route": [], "ticket": []}
+        self.asked: list[message_lines.Asked] = []  # messages, whose rows are empty until they are read
         self.rest = b""  # the bytes behind the rows
         self.begun: dict[str, int] = {}  # the number of the first line of each place
         self.last = (line, column)  # behind the last line read
@@ -273,6 +274,8 @@ class Day:
             self.header_line(cursor)
         elif place == "bytes":
             self.rest += text.hex_bytes(cursor)
+        elif word not in BEGINNINGS and message_lines.is_one(cursor.line):
+            self.message_line(cursor)
         else:
             self.rows[place].append(ROW_READERS.get(word, read_ticket)(cursor))
 
@@ -281,6 +284,11 @@ class Day:
             raise cursor.mistake(f"header {cursor.next()} is given twice")
         name, value = read_header(cursor)
         self.given[name] = value
+
+    def message_line(self, cursor: text.Cursor) -> None:
+        row: Row = {}
+        self.asked.append(message_lines.read(cursor, lambda ticket: row.update(layout.read(layout.TICKET, ticket))))
+        self.rows["ticket"].append(row)
 
     def in_order(self, cursor: text.Cursor, place: str) -> None:
         self.begun.setdefault(place, cursor.line.number)
@@ -345,11 +353,13 @@ def decoded(name: str, data: bytes) -> str:
         raise text.TextError(name, [text.Mistake(line, column, f"not UTF-8: byte {data[error.start]:02x}")]) from None
 
 
-def pack(name: str, day_text: str) -> bytes:
-    """The day file that the text stands for. TextError says what is wrong with it, with the name given."""
+def pack(name: str, day_text: str, reader: messages.Reader = messages.READER) -> bytes:
+    """The day file that the text stands for. TextError says what is wrong with it, with the name given. Messages are looked for from
+    the name's folder."""
     day = Day()
     for line in over(text.lines(day_text), f"lines of {name}"):
         day.add(line)
+    day.mistakes += message_lines.answer(name, day.asked, day.mistakes, reader)
     file = day.packed()
     if day.mistakes:
         raise text.TextError(name, day.mistakes)
@@ -364,6 +374,6 @@ def is_text(name: str, data: bytes) -> bool:
     return bool(data) and b"\0" not in data
 
 
-def day_file(name: str, data: bytes) -> bytes:
+def day_file(name: str, data: bytes, reader: messages.Reader = messages.READER) -> bytes:
     """The day file of a file that is a day's text or packed. TextError says what is wrong with a text."""
-    return pack(name, decoded(name, data)) if is_text(name, data) else data
+    return pack(name, decoded(name, data), reader) if is_text(name, data) else data

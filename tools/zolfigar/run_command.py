@@ -9,7 +9,20 @@ import sys
 from collections.abc import Iterable, Iterator, Sequence
 from itertools import zip_longest
 
-from . import audit, command_line, explain_command, files, history, journal, packing, page, progress, results, version
+from . import (
+    audit,
+    command_line,
+    explain_command,
+    files,
+    history,
+    journal,
+    messages,
+    packing,
+    page,
+    progress,
+    results,
+    version,
+)
 from .explain_command import Followed
 from .history import Day
 
@@ -48,12 +61,12 @@ def arguments(words: Sequence[str]) -> Words:
     return parser.parse_args(words, Words())
 
 
-def program(root: str) -> str:
-    """The clearing program, proved and built: rt does what is not done yet."""
-    built = os.path.join(root, "target", "bin", "clearing")
+def program(root: str, name: str, what: str) -> str:
+    """A program, proved and built: rt does what is not done yet."""
+    built = os.path.join(root, "target", "bin", name)
     if not os.path.exists(built):
-        sys.stderr.write("run: the clearing program is not built yet: proving and building it, which takes some minutes\n")
-    command = ["rt", "check", "clearing"]
+        sys.stderr.write(f"run: {what} is not built yet: proving and building it, which takes some minutes\n")
+    command = ["rt", "check", name]
     try:
         rt = subprocess.Popen(command, cwd=root, stdout=subprocess.PIPE, stderr=subprocess.STDOUT, text=True)
     except OSError as error:
@@ -61,8 +74,14 @@ def program(root: str) -> str:
     with rt:
         said = followed(rt.stdout or ())
     if rt.returncode:
-        raise files.Failed(f"rt check clearing failed:\n{said[-4000:]}")
+        raise files.Failed(f"rt check {name} failed:\n{said[-4000:]}")
     return built
+
+
+def reader(root: str) -> messages.Reader:
+    """The reader of messages, which is built for a day that names some."""
+    path = os.path.join(root, "target", "bin", "messages")
+    return messages.Reader(path, lambda: program(root, "messages", "the reader of messages"))
 
 
 def followed(stream: Iterable[str]) -> str:
@@ -123,8 +142,8 @@ def kept(words: Words, folder: str, day: Day, file: bytes, output: bytes) -> Ite
 def run(words: Words, root: str = ROOT) -> int:
     expects = expected(words, root)
     due = b"" if expects is None else files.read(expects)
-    file = packing.day_file(words.day, files.read(words.day))
-    output = cleared(program(root), file)
+    file = packing.day_file(words.day, files.read(words.day), reader(root))
+    output = cleared(program(root, "clearing", "the clearing program"), file)
     day = history.read(explain_command.name_of(words.day), file, output.decode("ascii", errors="backslashreplace"))
     problems = audit.problems(day)
     explain_command.show(day, problems, words)

@@ -253,6 +253,18 @@ def hex_literal(word: str) -> bytes:
     return bytes.fromhex(digits)
 
 
+def name_in(cursor: Cursor, what: str) -> bytes:
+    """A name: the words that are left of the line with one space between them, or any bytes as one word `hex:..`."""
+    word = cursor.next()
+    if word is None:
+        raise cursor.expected(what)
+    if not word.startswith("hex:"):
+        return " ".join(word.text for word in cursor.rest()).encode()
+    value = cursor.take(what, hex_literal)
+    cursor.finish()
+    return value
+
+
 def hex_bytes(cursor: Cursor) -> bytes:
     """The bytes that all words left of the line give in hex, white space anywhere between the digits."""
     words = cursor.rest()

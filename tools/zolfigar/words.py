@@ -1,4 +1,4 @@
-"""The words of paper 01: kinds of tickets, flags, refusals with their codes, reports."""
+"""The words of papers 01 and 02: kinds of tickets, flags, refusals with their codes, reports."""
 
 KINDS = {
     1: "cover-in",
@@ -61,6 +61,9 @@ REFUSALS = {
     20: ("AM04", "available cover is below the amount"),
     21: ("", "a cut with held or open debit somewhere, a confirm with neither or with an amount that its rule excludes"),
     22: ("", "all cover together would be above 10^18 cents"),
+    23: ("", "the text is too long, its elements are not balanced or too deep, or it has a form that is not allowed"),
+    24: ("", "an element of a named path is missing, twice in its parent or out of order, or a named text holds an element"),
+    25: ("", "the text or the attributes of the amount are wrong, or it is zero"),
 }
 
 # What a refusal means for one kind, where the paper says it by kind.

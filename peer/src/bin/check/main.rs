@@ -1,5 +1,5 @@
-//! The check: random days, and random tickets handed in one by one, through this book and through the proved programs, which must
-//! print the same lines.
+//! The check: random days, random tickets handed in one by one, and random messages, through this book and through the proved
+//! programs, which must print the same lines.
 
 // Random numbers are cut to the width of the field that they are for.
 #![allow(clippy::cast_possible_truncation)]
@@ -10,6 +10,15 @@ mod days;
 mod hands;
 mod inputs;
 mod inputs_tally;
+mod message_damage;
+mod message_faults;
+mod message_form;
+mod message_freedoms;
+mod message_make;
+mod message_rest;
+mod message_tally;
+mod message_tree;
+mod messages;
 mod program;
 mod random;
 mod reduce;
@@ -29,20 +38,24 @@ use std::time::{Duration, Instant};
 use tally::Tally;
 use verdict::{Found, Same};
 
-const USAGE: &str =
-    "usage: check [PROGRAM] [--hands PROGRAM] [--days N] [--inputs N] [--seed S] [--first N] [--seconds T] [--out DIR]
+const USAGE: &str = "usage: check [PROGRAM] [--hands PROGRAM] [--messages-program PROGRAM] [--days N] [--inputs N] [--messages N]
+             [--seed S] [--first N] [--seconds T] [--out DIR]
        check --write DIR [--days N] [--seed S]
+       check --write-messages FILE [--messages N] [--seed S] [--first N]
 Runs random days through PROGRAM and through this book, compares all lines and prints what was met; then the same of random
-tickets that are handed in one by one, each with a buffer of its own, if there is a program for these. What is never met fails
-the check from 10000 days and from 20000 tickets one by one on. The last line is the verdict.
+tickets that are handed in one by one, each with a buffer of its own, and of random messages, if there are programs for these.
+What is never met fails the check from 10000 days, 20000 tickets one by one and 20000 messages on. The last line is the verdict.
   --hands PROGRAM  the program that hands tickets in one by one
+  --messages-program PROGRAM  the program that reads messages
   --days N         as many days (default 20000, or without end if there are seconds)
   --inputs N       at least so many tickets one by one, in whole cases (default 20000); with 0 none
-  --seed S         the seed of all days and cases (default 1)
-  --first N        the number of the first day and of the first case (default 0)
+  --messages N     as many messages (default 20000); with 0 none
+  --seed S         the seed of all days, cases and messages (default 1)
+  --first N        the number of the first day, of the first case and of the first message (default 0)
   --seconds T      no new days after so many seconds
-  --out DIR        where a day or case that differs is written (default: the system's temporary folder)
-  --write DIR      writes full working days there and compares nothing";
+  --out DIR        where a day, case or message that differs is written (default: the system's temporary folder)
+  --write DIR      writes full working days there and compares nothing
+  --write-messages FILE  writes messages there, as the program reads them, and compares nothing";
 
 const DEFAULT_DAYS: u64 = 20_000;
 /// So many days meet everything. The rarest is a ticket with 544 reports: 24 of it in 20,000 days, and none in 4,000 with one seed
@@ -56,9 +69,12 @@ const FAULTY_ONE_IN: u64 = 4;
 struct Options {
     program: Option<PathBuf>,
     hands: Option<PathBuf>,
+    reader: Option<PathBuf>,
     write: Option<PathBuf>,
+    write_messages: Option<PathBuf>,
     days: Option<u64>,
     inputs: Option<u64>,
+    messages: Option<u64>,
     seconds: Option<u64>,
     seed: u64,
     first: u64,
@@ -74,13 +90,15 @@ fn main() -> ExitCode {
         eprintln!("{USAGE}");
         return ExitCode::from(2);
     };
-    let result = match (&options.program, &options.hands, &options.write) {
-        (None, None, Some(folder)) => write_days(&options, folder).map(|()| true),
-        (None, None, None) | (_, _, Some(_)) => {
+    let has_program = options.program.is_some() || options.hands.is_some() || options.reader.is_some();
+    let result = match (has_program, &options.write, &options.write_messages) {
+        (false, Some(folder), None) => write_days(&options, folder).map(|()| true),
+        (false, None, Some(file)) => messages::write(&options, file).map(|()| true),
+        (true, None, None) => check_all(&options),
+        _ => {
             eprintln!("{USAGE}");
             return ExitCode::from(2);
         }
-        (days, hands, None) => check_both(&options, days.as_deref(), hands.as_deref()),
     };
     match result {
         Ok(true) => ExitCode::SUCCESS,
@@ -97,9 +115,12 @@ fn options(mut arguments: impl Iterator<Item = String>) -> Option<Options> {
     let mut options = Options {
         program: None,
         hands: None,
+        reader: None,
         write: None,
+        write_messages: None,
         days: None,
         inputs: None,
+        messages: None,
         seconds: None,
         seed: 1,
         first: 0,
@@ -108,13 +129,16 @@ fn options(mut arguments: impl Iterator<Item = String>) -> Option<Options> {
     while let Some(argument) = arguments.next() {
         match argument.as_str() {
             "--hands" => options.hands = Some(arguments.next()?.into()),
+            "--messages-program" => options.reader = Some(arguments.next()?.into()),
             "--days" => options.days = Some(arguments.next()?.parse().ok()?),
             "--inputs" => options.inputs = Some(arguments.next()?.parse().ok()?),
+            "--messages" => options.messages = Some(arguments.next()?.parse().ok()?),
             "--seconds" => options.seconds = Some(arguments.next()?.parse().ok()?),
             "--seed" => options.seed = arguments.next()?.parse().ok()?,
             "--first" => options.first = arguments.next()?.parse().ok()?,
             "--out" => options.out = arguments.next()?.into(),
             "--write" => options.write = Some(arguments.next()?.into()),
+            "--write-messages" => options.write_messages = Some(arguments.next()?.into()),
             path if options.program.is_none() && !path.starts_with("--") => options.program = Some(path.into()),
             _ => return None,
         }
@@ -123,14 +147,17 @@ fn options(mut arguments: impl Iterator<Item = String>) -> Option<Options> {
 }
 
 /// True if all was the same and what has to be met was, by the programs that there are. The last line says it.
-fn check_both(options: &Options, days: Option<&Path>, hands: Option<&Path>) -> io::Result<bool> {
+fn check_all(options: &Options) -> io::Result<bool> {
     let program = |path: &Path| Program { path: path.into() };
     let mut found = Vec::new();
-    if let Some(path) = days {
+    if let Some(path) = &options.program {
         found.push(check(options, &program(path))?);
     }
-    if let Some(path) = hands.filter(|_| found.iter().all(Found::is_fine) && options.inputs != Some(0)) {
+    if let Some(path) = options.hands.as_ref().filter(|_| found.iter().all(Found::is_fine) && options.inputs != Some(0)) {
         found.push(hands::check(options, &program(path))?);
+    }
+    if let Some(path) = options.reader.as_ref().filter(|_| found.iter().all(Found::is_fine) && options.messages != Some(0)) {
+        found.push(messages::check(options, &program(path))?);
     }
     println!("\n{}", verdict::line(&found));
     Ok(found.iter().all(Found::is_fine))

@@ -1,0 +1,12 @@
+pub mod ReadWritten
+pub mod ReadRoot
+pub mod WrittenRead
+pub mod Readings
+pub mod Going
+pub mod Answers
+pub mod Messages
+pub mod Words
+pub mod Standing
+pub mod Accepting
+pub mod Skipping
+pub mod EachOnce

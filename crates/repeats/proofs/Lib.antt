@@ -1,0 +1,4 @@
+pub mod Reading
+mod Placing
+mod Turning
+mod Ways

@@ -1,0 +1,3 @@
+pub mod Runs
+pub mod Classes
+pub mod AttributeParts

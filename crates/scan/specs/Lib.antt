@@ -1,0 +1,2 @@
+pub mod AttributeParts
+pub mod Names

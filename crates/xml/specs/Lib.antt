@@ -1,0 +1,5 @@
+pub mod Bytes
+pub mod Tree
+pub mod Writing
+pub mod WellFormed
+pub mod Scanning
