@@ -35,9 +35,9 @@ fn all_placed(kept: &[usize; 40], n: usize) -> bool
     sender & txid & amount & payee & iban
 }
 
-// Where what was kept has no places, it isn't what the reader keeps, and nothing is written. For people, what is at 24 64 + a row that
-// stands again, 48 + one that holds an element, 32 + one that is missing; at 25 14 for the attributes and 15 for the amount; at 7 16
-// for the sender, 17 for the payee and 18 for the TxId; at 8 19 for the IBAN.
+// Where what was kept has no places, it isn't what the reader keeps, and nothing is written. `what`, for people: of 24 a row, and 32 more
+// where it is missing, 48 where it holds an element, 64 where it stands again; of 25 14 for the attributes, 15 for the amount; of 7 16 for
+// the sender, 17 for the payee, 18 for the TxId; of 8 19 for the IBAN.
 pub fn judge(text: &[u8], time: u32, end: usize, kept: &[usize; 40], ticket: &mut [u8]) -> Answer
     requires { ⌜ ticketLength ≤ length (now ticket) ⌝ }
     ensures { λ r.
