@@ -1,10 +1,13 @@
-/* A host in C: clears the day file on standard input through the static library and writes the program's text; or reads a message.
+/* A host in C: clears the day file on standard input through the static library and writes the program's text; or reads a message, or
+ * checks an IBAN.
  *
  *     host [ROOM]             ROOM is how many bytes the host has for the text at first; where they are too few it asks again.
  *     host ANSWERS REPORTS    only the tickets that are taken with so many bytes for their answers and their reports; the host
  *                             has these as bytes and makes the lines itself.
  *     host message TIME FILE  no day, but the order that a message is, at a time in seconds: its ticket in hex behind M 0, or M and
- *                             the refusal. */
+ *                             the refusal.
+ *     host iban CODE          no day, but a code: I, then 1 where it is an IBAN and 0 where it isn't, then how many groups of seven
+ *                             digits its check took. */
 #include <stdint.h>
 #include <stdio.h>
 #include <stdlib.h>
@@ -94,20 +97,27 @@ static void write_order(uint32_t time, const char *name) {
     fclose(file);
 }
 
+static void write_iban(const char *code) {
+    const uint8_t *bytes = (const uint8_t *)code;
+    size_t length = strlen(code);
+    printf("I %u %u\n", zolfigar_iban_ok(bytes, length), zolfigar_iban_groups(bytes, length));
+}
+
 int main(int count, char **words) {
-    size_t length;
     if (count == 4 && strcmp(words[1], "message") == 0) {
         write_order((uint32_t)strtoul(words[2], NULL, 10), words[3]);
-        if (fflush(stdout)) fail("can't write standard output");
-        return 0;
-    }
-    uint8_t *day = read_all(stdin, &length);
-    if (count > 2) {
-        write_steps(day, length, strtoul(words[1], NULL, 10), strtoul(words[2], NULL, 10));
+    } else if (count == 3 && strcmp(words[1], "iban") == 0) {
+        write_iban(words[2]);
     } else {
-        write_text(day, length, count > 1 ? strtoul(words[1], NULL, 10) : 65536);
+        size_t length;
+        uint8_t *day = read_all(stdin, &length);
+        if (count > 2) {
+            write_steps(day, length, strtoul(words[1], NULL, 10), strtoul(words[2], NULL, 10));
+        } else {
+            write_text(day, length, count > 1 ? strtoul(words[1], NULL, 10) : 65536);
+        }
+        free(day);
     }
     if (fflush(stdout)) fail("can't write standard output");
-    free(day);
     return 0;
 }

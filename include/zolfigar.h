@@ -6,7 +6,7 @@
  * nobody writes before the call returns; where `length` is 0 the pointer may be null. Nothing is written, kept or
  * allocated, and calls from several threads don't disturb each other.
  *
- * For the checks link with libcodes.a, which `rt staticlib codes` writes; for an order as text with libreader.a, which `rt staticlib
+ * For the checks and an IBAN's groups link with libcodes.a, which `rt staticlib codes` writes; for an order as text with libreader.a, which `rt staticlib
  * reader` writes; for a day as text with libforeign_day.a, for its tickets as bytes with libforeign_steps.a, which `rt staticlib
  * foreign_day` and `rt staticlib foreign_steps` write. Any of them may be linked together. */
 #ifndef ZOLFIGAR_H
@@ -16,7 +16,7 @@
 #include <stdint.h>
 
 /* The file VERSION has it too. */
-#define ZOLFIGAR_VERSION "1.3.0"
+#define ZOLFIGAR_VERSION "1.4.0"
 
 #ifdef __cplusplus
 extern "C" {
@@ -29,6 +29,11 @@ uint8_t zolfigar_bic_ok(const uint8_t *bytes, size_t length);
 /* An IBAN: two A-Z, two digits, 1 to 30 of A-Z or 0-9; its number by ISO 13616, letters read as 10 to 35, leaves 1 on
  * division by 97. No small letters, no spaces. */
 uint8_t zolfigar_iban_ok(const uint8_t *bytes, size_t length);
+
+/* Of bytes that are checked as an IBAN, how many groups of seven digits that took: 1 to 10 where they have the shape above, whatever
+ * their number leaves, and 0 where they don't. The digits are those of the number as written, a letter two; the last group has the one
+ * to seven that are left. It is called as a check is: any bytes and any count are taken. */
+uint8_t zolfigar_iban_groups(const uint8_t *bytes, size_t length);
 
 /* A TxId: 1 to 35 of A-Z a-z 0-9 / - ? : ( ) . , ' + and no space. */
 uint8_t zolfigar_txid_ok(const uint8_t *bytes, size_t length);

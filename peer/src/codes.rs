@@ -80,30 +80,61 @@ pub fn is_tx_id(bytes: &[u8]) -> bool {
 
 /// Whether the bytes are an IBAN, without padding.
 pub fn is_iban(bytes: &[u8]) -> bool {
+    has_iban_shape(bytes) && divided(bytes).remainder == 1
+}
+
+/// The number of groups over which the check of the bytes takes the remainder; 0 where their shape is no IBAN's.
+pub fn iban_groups(bytes: &[u8]) -> u8 {
+    if has_iban_shape(bytes) {
+        divided(bytes).groups
+    } else {
+        0
+    }
+}
+
+/// Whether the bytes are an IBAN but for what its number leaves.
+fn has_iban_shape(bytes: &[u8]) -> bool {
     (5..=IBAN_LEN).contains(&bytes.len())
         && all_in(&bytes[..2], UPPER)
         && all_in(&bytes[2..4], DIGIT)
         && all_in(&bytes[4..], UPPER | DIGIT)
-        && iban_remainder(bytes) == 1
 }
 
-/// What the number of an IBAN leaves on division by 97. All bytes are capital letters or digits, at least four of them.
-pub fn iban_remainder(iban: &[u8]) -> u64 {
+/// The remainder of an IBAN's number by 97, and over how many groups it was taken.
+struct Divided {
+    remainder: u32,
+    groups: u8,
+}
+
+/// Takes the remainder over groups of seven digits from the left; the last one may be shorter. All bytes are capital letters or
+/// digits, 4 to 34 of them. A remainder with seven digits behind it is a number below 97 x 10^7.
+fn divided(iban: &[u8]) -> Divided {
+    let mut digits = [0; 2 * IBAN_LEN];
+    let count = write_digits(iban, &mut digits);
+    let mut divided = Divided { remainder: 0, groups: 0 };
+    for group in digits[..count].chunks(7) {
+        let number = group.iter().fold(divided.remainder, |number, &digit| number * 10 + u32::from(digit));
+        divided = Divided { remainder: number % 97, groups: divided.groups + 1 };
+    }
+    divided
+}
+
+/// Writes out the digits of an IBAN's number, the first four characters moved to the end, and gives their count. A letter is two.
+fn write_digits(iban: &[u8], digits: &mut [u8; 2 * IBAN_LEN]) -> usize {
     let (first_four, rest) = iban.split_at(4);
-    let rest = rest.chunks(8).fold(0, read_on);
-    read_on(rest, first_four)
-}
-
-/// Reads at most eight more characters after a number below 97; the number stays below 10^18 before it is divided.
-fn read_on(before: u64, part: &[u8]) -> u64 {
-    let number = part.iter().fold(before, |number, &byte| {
+    let mut count = 0;
+    for &byte in rest.iter().chain(first_four) {
         if byte.is_ascii_digit() {
-            number * 10 + u64::from(byte - b'0')
+            digits[count] = byte - b'0';
+            count += 1;
         } else {
-            number * 100 + u64::from(byte - b'A') + 10
+            let number = byte - b'A' + 10;
+            digits[count] = number / 10;
+            digits[count + 1] = number % 10;
+            count += 2;
         }
-    });
-    number % 97
+    }
+    count
 }
 
 /// All before the trailing zero bytes.
@@ -214,10 +245,9 @@ mod tests {
         for length in 4..=40 {
             let mut iban = vec![b'0'; length];
             iban[..2].copy_from_slice(b"AA");
-            let remainder = iban_remainder(&iban);
-            let check = (1 + 97 - remainder) % 97;
+            let check = (1 + 97 - plain_remainder(&iban)) % 97;
             iban[2..4].copy_from_slice(format!("{check:02}").as_bytes());
-            assert_eq!(iban_remainder(&iban), 1);
+            assert_eq!(plain_remainder(&iban), 1);
             assert_eq!(is_iban(&iban), (5..=34).contains(&length), "{length}");
         }
     }
@@ -229,10 +259,64 @@ mod tests {
         digits.bytes().fold(0, |left, digit| (left * 10 + u32::from(digit - b'0')) % 97)
     }
 
+    /// The remainder over eight characters at a time, none of them parted, and the first four by themselves.
+    fn remainder_by_characters(iban: &[u8]) -> u32 {
+        let read_on = |before: u64, part: &[u8]| {
+            let number = part.iter().fold(before, |number, &byte| {
+                if byte.is_ascii_digit() {
+                    number * 10 + u64::from(byte - b'0')
+                } else {
+                    number * 100 + u64::from(byte - b'A') + 10
+                }
+            });
+            number % 97
+        };
+        let (first_four, rest) = iban.split_at(4);
+        read_on(rest.chunks(8).fold(0, read_on), first_four) as u32
+    }
+
+    /// Letters and digits behind the check digits, other ones at each turn.
+    fn texts_of_every_length() -> impl Iterator<Item = Vec<u8>> {
+        let characters = b"ABCDEFGHIJKLMNOPQRSTUVWXYZ0123456789";
+        let mut state = 1u32;
+        let mut pick = move |from: &[u8]| {
+            state = state.wrapping_mul(1_664_525).wrapping_add(1_013_904_223);
+            from[(state >> 16) as usize % from.len()]
+        };
+        (0..3000).map(move |turn| {
+            let from = [&characters[..], &characters[..26], &characters[26..]][turn % 3];
+            let mut text: Vec<u8> = (0..5 + turn / 3 % 30).map(|_| pick(from)).collect();
+            text[..4].fill_with(|| pick(&characters[26..]));
+            text[..2].fill_with(|| pick(&characters[..26]));
+            text
+        })
+    }
+
     #[test]
-    fn remainder_agrees_with_long_division() {
+    fn remainder_agrees_with_other_ways_to_take_it() {
         for iban in ["ZZ99ZZZZZZZZZZZZZZZZZZZZZZZZZZZZZZ", "AB12C", "XY00ABCDEFGH1234", "LV80BANK0000435195001"] {
-            assert_eq!(iban_remainder(iban.as_bytes()), u64::from(plain_remainder(iban.as_bytes())), "{iban}");
+            assert_eq!(divided(iban.as_bytes()).remainder, plain_remainder(iban.as_bytes()), "{iban}");
+        }
+        for iban in texts_of_every_length() {
+            let remainder = divided(&iban).remainder;
+            assert_eq!(remainder, plain_remainder(&iban), "{}", iban.escape_ascii());
+            assert_eq!(remainder, remainder_by_characters(&iban), "{}", iban.escape_ascii());
+            assert_eq!(is_iban(&iban), remainder == 1, "{}", iban.escape_ascii());
+        }
+    }
+
+    /// From 7 digits, with one behind the check digits, to 66, with thirty letters there.
+    #[test]
+    fn groups_are_sevenths_of_the_digits_rounded_up() {
+        for characters in 1..=30 {
+            for letters in 0..=characters {
+                let mut iban = [b"XY00".as_slice(), &vec![b'7'; characters]].concat();
+                iban[4..4 + letters].fill(b'Q');
+                let groups = (4 + 2 + characters + letters).div_ceil(7);
+                assert_eq!(usize::from(iban_groups(&iban)), groups, "{}", iban.escape_ascii());
+                iban[4..].reverse();
+                assert_eq!(usize::from(iban_groups(&iban)), groups, "{}", iban.escape_ascii());
+            }
         }
     }
 

@@ -1,5 +1,6 @@
 //! The instant cover book of a clearing house: codes, tickets, day files, messages, the book itself and the programs' text.
 
+pub mod asking;
 pub mod book;
 pub mod codes;
 pub mod dayfile;

@@ -1,6 +1,7 @@
 //! Cases of the paper: D and E to the byte, its marked edges, the order of refusals, and what refusals leave.
 
 use crate::book::{Answer, Book, Cover, Recall, Status};
+use crate::codes::{iban_groups, is_iban};
 use crate::dayfile::{DayFile, Roster};
 use crate::handing::{print_case, Input};
 use crate::printing::print_day;
@@ -182,6 +183,70 @@ fn small_letters_in_the_iban_of_an_order() {
         trial.accept(&small(10, 1, std::str::from_utf8(&iban[4..]).unwrap(), &iban.to_ascii_uppercase()));
     }
     trial.accept(&about_fields(4, 1, 29, B, "X"));
+}
+
+/// 02, slip 4: the remainder is taken over groups of seven digits as written (a letter is two).
+#[test]
+fn groups_of_an_iban() {
+    let longest = [b"LV03".as_slice(), &[b'Z'; 30]].concat();
+    let rows: [(&[u8], u8); 6] = [
+        (b"LV801", 1),                           // 1 21 31 80: 7 digits
+        (b"LV31A", 2),                           // 10 21 31 31: 8 digits
+        (b"LV80BANK0000435195001", 4),           // 8 for BANK, 13, 4 for LV and 2: 27 digits
+        (b"DE89370400440532013000", 4),          // 18, 4 and 2: 24 digits
+        (b"MT84MALT011000012345MTLCAST001S", 7), // 27 behind MT84, of them 12 letters, 4 and 2: 45 digits
+        (&longest, 10),                          // 60, 4 and 2: 66 digits
+    ];
+    for (iban, groups) in rows {
+        assert_eq!((is_iban(iban), iban_groups(iban)), (true, groups), "{}", iban.escape_ascii());
+    }
+}
+
+#[test]
+fn wrong_check_digits_keep_the_groups() {
+    let mut longest = [b"LV00".as_slice(), &[b'Z'; 30]].concat();
+    let mut passed = Vec::new();
+    for check in 0..100 {
+        let digits = format!("{check:02}");
+        for (behind, groups) in [("1", 1), ("A", 2), ("BANK0000435195001", 4)] {
+            assert_eq!(iban_groups(format!("LV{digits}{behind}").as_bytes()), groups, "{digits}");
+        }
+        longest[2..4].copy_from_slice(digits.as_bytes());
+        assert_eq!(iban_groups(&longest), 10, "{digits}");
+        if is_iban(&longest) {
+            passed.push(check);
+        }
+    }
+    assert_eq!(passed, [3]);
+}
+
+#[test]
+fn no_groups_where_the_shape_is_no_ibans() {
+    let too_long = [b"LV03".as_slice(), &[b'Z'; 31]].concat();
+    let field: [u8; 34] = padded(IBAN);
+    let rows: [&[u8]; 18] = [
+        b"",
+        b"L",
+        b"LV8",
+        b"LV80",
+        &too_long,
+        &field,
+        b"LV80BANK0000435195001\0",
+        b"lV80BANK0000435195001",
+        b"Lv80BANK0000435195001",
+        b"1V80BANK0000435195001",
+        b"L180BANK0000435195001",
+        b"LVA0BANK0000435195001",
+        b"LV8ABANK0000435195001",
+        b"LV80bANK0000435195001",
+        b"LV80BANK000043519500a",
+        b"LV80BANK 0000435195001",
+        b" LV80BANK0000435195001",
+        b"LV80BANK0000435195001\xff",
+    ];
+    for text in rows {
+        assert_eq!((is_iban(text), iban_groups(text)), (false, 0), "{}", text.escape_ascii());
+    }
 }
 
 #[test]

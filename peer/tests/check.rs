@@ -4,6 +4,7 @@ use std::process::{Command, Output};
 
 const HANDS: &str = env!("CARGO_BIN_EXE_hands");
 const MESSAGES: &str = env!("CARGO_BIN_EXE_messages");
+const IBANS: &str = env!("CARGO_BIN_EXE_ibans");
 
 fn check(words: &[&str]) -> Output {
     Command::new(env!("CARGO_BIN_EXE_check")).args(words).output().expect("the comparison runs")
@@ -63,6 +64,23 @@ fn messages_are_written_as_the_program_reads_them() {
 }
 
 #[test]
+fn few_texts_for_the_iban_check_need_not_meet_it_all() {
+    let (status, never, line) = verdict(&["--cases", IBANS, "--ibans", "50"]);
+    assert!(never > 10);
+    let due = format!(
+        "peer: 50 texts for the IBAN check, all the same; {never} things never met, listed above, as fewer than 20000 texts may"
+    );
+    assert_eq!((status, line), (Some(0), due));
+}
+
+#[test]
+fn enough_texts_for_the_iban_check_meet_it_all() {
+    let (status, never, line) = verdict(&["--cases", IBANS]);
+    let due = "peer: 20000 texts for the IBAN check, all the same; everything met";
+    assert_eq!((status, never, line.as_str()), (Some(0), 0, due));
+}
+
+#[test]
 fn a_program_that_differs_fails() {
     let folder = std::env::temp_dir().join(format!("peer-check-{}", std::process::id()));
     let out = folder.to_str().expect("the folder's name is UTF-8");
@@ -72,6 +90,10 @@ fn a_program_that_differs_fails() {
     assert_eq!((status, line.as_str()), (Some(1), "peer: FAILED: a case differs"));
     let (status, _, line) = verdict(&["--messages-program", "/bin/true", "--messages", "1", "--out", out]);
     assert_eq!((status, line.as_str()), (Some(1), "peer: FAILED: a message differs"));
+    let (status, _, line) = verdict(&["--cases", "/bin/true", "--ibans", "1", "--out", out]);
+    assert_eq!((status, line.as_str()), (Some(1), "peer: FAILED: a text for the IBAN check differs"));
+    let (status, _, line) = verdict(&["--cases", "/bin/cat", "--ibans", "1", "--out", out]);
+    assert_eq!((status, line.as_str()), (Some(1), "peer: FAILED: a text for the IBAN check differs"));
     std::fs::remove_dir_all(folder).expect("what differs was written there");
 }
 

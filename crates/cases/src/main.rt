@@ -3,6 +3,7 @@
 // otherwise with a question mark.
 //
 //     bic, iban, txid TEXT    (a bic has two spaces before its text) whether the text is such a code
+//     grps TEXT               how many groups of seven digits the check of the text as an IBAN takes
 //     read NAME BYTES         what the bytes read as if they are a ticket: the refusal, or 0 and the kind, time and amount
 //     part NAME BYTES         the TxId part of such a ticket
 //     file NAME BYTES         what they give as a day file: the refusal, the participants, the routes, the tickets and the first one's
@@ -33,6 +34,7 @@ fn run_line(line: &[u8]) {
     match asked {
         b'b' => print::print_answer(line, codes::zolfigar_bic_ok(rest)),
         b'i' => print::print_answer(line, codes::zolfigar_iban_ok(rest)),
+        b'g' => print::print_answer(line, codes::zolfigar_iban_groups(rest)),
         b't' => print::print_answer(line, codes::zolfigar_txid_ok(rest)),
         b'r' => tickets::run_read(rest),
         b'p' => tickets::run_part(rest),

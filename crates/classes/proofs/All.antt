@@ -18,7 +18,7 @@ use Rattle.classes.specs.declared.Class.the-variants.{
   Txid,
 }
 
-in-at : (class : Class) (s : List ℕ) (i : ℕ) → allIn class s ≡ true → i < length s → isIn class (getD s i 0) ≡ true
+pub in-at : (class : Class) (s : List ℕ) (i : ℕ) → allIn class s ≡ true → i < length s → isIn class (getD s i 0) ≡ true
 in-at class [] i e h = absurd (not-suc-le-zero h)
 in-at class (c ∷ s) zero e h = and-left (isIn class c) (allIn class s) e
 in-at class (c ∷ s) (suc i) e h = in-at class s i (and-right (isIn class c) (allIn class s) e) (le-of-suc-le-suc h)

@@ -1,4 +1,5 @@
 pub mod WholeCodes
 pub mod Padded
-pub mod Filled
 pub mod Cases
+pub mod TwoEnds
+pub mod IbanBytes

@@ -1,15 +1,19 @@
-// The checks of BIC, IBAN and TxId. Each takes unpadded bytes of any length and content and answers 1 for yes and 0 for no; nothing is
-// asked of a caller. They are the same functions for other crates and for C (include/zolfigar.h). Beside them the check of a TxId as it
-// stands in a ticket, padded with zero bytes; that of an IBAN is in `iban`. An IBAN's front and its number are each tested in one place,
-// in `iban`. The check for C asks for the front of the bytes where they stand, then that all are capitals and digits, and at last for the
-// number of the padded field. Bytes of those classes don't end in a zero, so the padded field has them as its value (`iban-unpadded`).
+// The checks of BIC, IBAN and TxId, which answer 1 for yes and 0 for no, and how many groups of digits the check of an IBAN takes. Each
+// takes unpadded bytes of any length and content; nothing is asked of a caller. They are the same functions for other crates and for C
+// (include/zolfigar.h). Beside them the check of a TxId as it stands in a ticket, padded with zero bytes; that of an IBAN is in `iban`.
+// An IBAN's front is tested and its remainder taken in one place, in `iban`, which speaks of the bytes before the padding: bytes of an
+// IBAN's shape don't end in a zero, so that is all of them (`shape-whole`).
 use classes::Class;
+use remainder::Divided;
 ghost use mathlib.Core.Path.{_≡_};
-ghost use Prim.Native.Nat.{_≤_};
+ghost use mathlib.Core.Bool.{cond};
 ghost use lib.ListN.{length};
-ghost use Rattle.fields.specs.Text.{unpadded, padded};
+ghost use Rattle.fields.specs.Text.{unpadded};
 ghost use Rattle.classes.specs.CheckAnswer.{answer};
-ghost use Rattle.iban.specs.Iban.{isIban};
+ghost use Rattle.classes.specs.Class.{allIn};
+ghost use Rattle.classes.specs.declared.Class.the-variants.{CapitalOrDigit};
+ghost use Rattle.iban.specs.Iban.{digits, rearranged, ibanShape, isIban};
+ghost use Rattle.iban.specs.Groups.{overGroups, ibanGroups};
 ghost use Rattle.codes.specs.Bic.{isBic};
 ghost use Rattle.codes.specs.Txid.{isTxid};
 
@@ -27,63 +31,67 @@ pub extern "C" fn zolfigar_bic_ok(s: &[u8]) -> u8
     (letters & area & place & branch) as u8
 }
 
-// Bytes with zeroes behind them.
-fn copied(s: &[u8]) -> [u8; 34]
-    requires { ⌜ length (now s) ≤ 34 ⌝ }
-    ensures { λ r. ⌜ r ≡ padded 34 (now (s .entry)) ⌝ }
+// Whether all are capitals and digits. Most IBANs have 16 to 32 characters: their first sixteen and their last sixteen are all of them,
+// and the machine looks at sixteen at once.
+fn spelt(s: &[u8]) -> bool
+    ensures { λ r. ⌜ r ≡ allIn CapitalOrDigit (now (s .entry)) ⌝ }
 {
     let n = s.len();
-    let mut field = [0u8; 34];
-    fields::copy(s, &mut field[0..n]);
-    field
-}
-
-// The same by sixteens, from their start and up to their end, which takes the machine two stores. The two parts may overlap.
-fn copied_from_ends(s: &[u8]) -> [u8; 34]
-    requires { ⌜ (16 ≤ length (now s)) × (length (now s) ≤ 32) ⌝ }
-    ensures { λ r. ⌜ r ≡ padded 34 (now (s .entry)) ⌝ }
-{
-    let n = s.len();
-    let tail = n - 16;
-    let mut field = [0u8; 34];
-    fields::copy(&s[0..16], &mut field[0..16]);
-    fields::copy(&s[tail..n], &mut field[tail..n]);
-    field
-}
-
-// Most IBANs have 16 to 32 characters.
-fn field_of(s: &[u8]) -> [u8; 34]
-    requires { ⌜ length (now s) ≤ 34 ⌝ }
-    ensures { λ r. ⌜ r ≡ padded 34 (now (s .entry)) ⌝ }
-{
-    if s.len() < 16 {
-        return copied(s);
+    if n < 16 {
+        return classes::all_in(Class::CapitalOrDigit, s);
     }
-    if 32 < s.len() {
-        return copied(s);
+    if 32 < n {
+        return classes::all_in(Class::CapitalOrDigit, s);
     }
-    copied_from_ends(s)
+    classes::all_in(Class::CapitalOrDigit, &s[0..16])
+        & classes::all_in(Class::CapitalOrDigit, &s[n - 16..n])
 }
 
-// The padded field is written before front and classes are looked at: when its number is asked for, its bytes can be read many at once.
+fn shaped(s: &[u8]) -> bool
+    ensures { λ r. ⌜ r ≡ ibanShape (now (s .entry)) ⌝ }
+{
+    if s.len() < 5 {
+        return false;
+    }
+    if 34 < s.len() {
+        return false;
+    }
+    if !iban::iban_front(s) {
+        return false;
+    }
+    spelt(s)
+}
+
+// The check of unpadded bytes as an IBAN, for both functions below: the remainder, and how many groups it was taken over. Both are 0 where the shape
+// is no IBAN's.
+fn checked(s: &[u8]) -> Divided
+    ensures { λ r. ⌜ (r .remainder ≡ cond (ibanShape (now (s .entry))) (overGroups (digits (rearranged (now (s .entry))))) 0) × (r .groups ≡ ibanGroups (now (s .entry))) ⌝ }
+{
+    if !shaped(s) {
+        return Divided {
+            remainder: 0,
+            groups: 0,
+        };
+    }
+    iban::divided(s)
+}
+
 #[no_mangle]
 pub extern "C" fn zolfigar_iban_ok(s: &[u8]) -> u8
     ensures { λ r. ⌜ r ≡ answer (isIban (now (s .entry))) ⌝ }
 {
-    if s.len() < 5 {
-        return 0;
-    }
-    if 34 < s.len() {
-        return 0;
-    }
-    let field = field_of(s);
-    if !iban::iban_front(s) {
-        return 0;
-    }
-    if !classes::all_in(Class::CapitalOrDigit, s) {
-        return 0;
-    }
-    iban::number_ok(&field) as u8
+    let taken = checked(s);
+    (taken.remainder == 1) as u8
+}
+
+// 02, slip 4: the number of groups of seven digits that the check takes, 1 to 10, whether or not 1 is left; 0 where the shape is no
+// IBAN's.
+#[no_mangle]
+pub extern "C" fn zolfigar_iban_groups(s: &[u8]) -> u8
+    ensures { λ r. ⌜ r ≡ ibanGroups (now (s .entry)) ⌝ }
+{
+    let taken = checked(s);
+    taken.groups as u8
 }
 
 #[no_mangle]

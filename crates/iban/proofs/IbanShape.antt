@@ -1,21 +1,21 @@
--- Whether the value of a padded field has the shape of an IBAN, by the bytes of the field. Assumes nothing.
+-- Whether the value of a field, padded or not, has the shape of an IBAN, by the bytes of the field. Assumes nothing.
 use mathlib.Core.Path.{_≡_, refl, sym, _∙_, ap}
 use mathlib.Core.Bool.{Bool, true, false, _&&_, not, and-false, or-true}
 use mathlib.Core.List.{List, [], _∷_}
-use Prim.Native.Nat.{ℕ, suc}
+use Prim.Native.Nat.{ℕ, suc, _≤_}
 use native.Mathlib.Omega.{arith}
 use borrow.Author.Tests.{le-leb, lt-leb}
 use lib.Dec.{eqb}
 use lib.ListN.{length, getD}
 use Rattle.fields.specs.Text.{blank, unpadded}
 use Rattle.iban.specs.Iban.{ibanShape}
-use Rattle.iban.specs.Spelling.{ibanFront}
+use Rattle.iban.specs.Strides.{ibanFront}
 use Rattle.classes.specs.Class.{isIn, allIn}
 use Rattle.classes.specs.declared.Class.the-variants.{Capital, Digit, CapitalOrDigit}
 use Rattle.classes.proofs.Unpadding.{value-within, value-short, blank-first, zero-inside, used-first}
 
 -- four bytes before a field that is not blank
-pub four-before : (a b c d : ℕ) (t : List ℕ) → blank t ≡ false → unpadded (a ∷ b ∷ c ∷ d ∷ t) ≡ a ∷ b ∷ c ∷ d ∷ unpadded t
+four-before : (a b c d : ℕ) (t : List ℕ) → blank t ≡ false → unpadded (a ∷ b ∷ c ∷ d ∷ t) ≡ a ∷ b ∷ c ∷ d ∷ unpadded t
 four-before a b c d t e = simp (e, and-false)
 
 -- two capitals, two digits, a byte that is used, and all before the padding are of the class
@@ -37,7 +37,7 @@ digit-spelt c h = simp (h, or-true)
 abbrev pub shapeTests : List ℕ → Bool
 shapeTests s = ibanFront s && allIn CapitalOrDigit (unpadded s)
 
-module _ (a b c d : ℕ) (t : List ℕ) (h : length t ≡ 30) where
+module _ (a b c d : ℕ) (t : List ℕ) (h : length t ≤ 30) where
   shape-long : blank t ≡ true → ibanShape (unpadded (a ∷ b ∷ c ∷ d ∷ t)) ≡ false
   shape-long e = simp (lt-leb 5 (length (unpadded (a ∷ b ∷ c ∷ d ∷ t))) (omega (arith, value-short 4 (a ∷ b ∷ c ∷ d ∷ t) e)))
 
@@ -63,13 +63,6 @@ module _ (a b c d : ℕ) (t : List ℕ) (h : length t ≡ 30) where
           (capital-spelt a) (capital-spelt b) (digit-spelt c) (digit-spelt d)
           ∙ sym (simp (le-leb 5 (suc (suc (suc (suc n)))) (omega arith), le-leb (suc (suc (suc (suc n)))) 34 (omega arith)))
 
-  pub shape-not-blank : ibanShape (unpadded (a ∷ b ∷ c ∷ d ∷ t)) ≡ true → blank t ≡ false
-  shape-not-blank e = go (blank t) refl
-    where
-      go : (b′ : Bool) → blank t ≡ b′ → b′ ≡ false
-      go false h = refl
-      go true h = sym e ∙ shape-long h
-
   shape-tested : shapeTests (a ∷ b ∷ c ∷ d ∷ t) ≡ ibanShape (unpadded (a ∷ b ∷ c ∷ d ∷ t))
   shape-tested = go (blank t) refl
     where
@@ -77,9 +70,9 @@ module _ (a b c d : ℕ) (t : List ℕ) (h : length t ≡ 30) where
       go false h = shape-used h
       go true h = simp (blank-first t h, and-false) (sym (shape-long h))
 
-pub shape-padded : (s : List ℕ) → length s ≡ 34 → shapeTests s ≡ ibanShape (unpadded s)
-shape-padded [] h = absurd (omega arith)
-shape-padded (a ∷ []) h = absurd (omega arith)
-shape-padded (a ∷ b ∷ []) h = absurd (omega arith)
-shape-padded (a ∷ b ∷ c ∷ []) h = absurd (omega arith)
-shape-padded (a ∷ b ∷ c ∷ d ∷ t) h = shape-tested a b c d t (omega arith)
+pub shape-padded : (s : List ℕ) → 4 ≤ length s → length s ≤ 34 → shapeTests s ≡ ibanShape (unpadded s)
+shape-padded [] least most = absurd (omega arith)
+shape-padded (a ∷ []) least most = absurd (omega arith)
+shape-padded (a ∷ b ∷ []) least most = absurd (omega arith)
+shape-padded (a ∷ b ∷ c ∷ []) least most = absurd (omega arith)
+shape-padded (a ∷ b ∷ c ∷ d ∷ t) least most = shape-tested a b c d t (omega arith)

@@ -1,2 +1,3 @@
 pub mod Iban
-pub mod Spelling
+pub mod Groups
+pub mod Strides

@@ -1,1 +1,3 @@
-pub mod PairNumber
+pub mod DigitBounds
+pub mod Joining
+pub mod Quotient

@@ -1,95 +1,119 @@
-// The remainder by 97 of the number that pairs of characters spell, each pair by its number and by what it scales the number before
-// it with. Parts of the number are worked out beside each other, so that none waits for the one before, and then put together;
-// divided so often that 64 bits suffice.
+// The remainder by 97 over groups of seven digits (02, slip 4). Digits are put behind those that are held, at most seven at a time.
+// Where that makes seven, the group is taken off by itself: it goes behind what is carried, the remainder of that is carried on, and the
+// group is counted. What is held at the end, if anything, is the last group, which is shorter. Here are numbers alone: which digits they are of, `iban`
+// states (`Holds`).
 ghost use mathlib.Core.Path.{_≡_};
-ghost use Prim.Native.Nat.{_+_, _*_, _%_, _^_, _≤_, _<_};
-ghost use Rattle.remainder.specs.Carried.{Scaling, FittingPairs, carried, scaled, carriedMoved};
+ghost use Prim.Native.Nat.{_*_, _+_, _%_, _^_, _≤_, _<_};
+ghost use Rattle.remainder.specs.Held.{Powers, Fitting, nothingHeld, joined, dividedAt};
 
-fn wide(n: u16) -> u64
-    ensures { λ r. ⌜ r ≡ n ⌝ }
-{
-    n as u64
+// What is carried from the groups taken off, how many these are, the number of the digits held behind them, and how many those are.
+pub struct Held {
+    pub carried: u32,
+    pub groups: u32,
+    pub number: u32,
+    pub digits: usize,
 }
 
-// What two pairs scale with, and three, and four.
-fn two_scale(scales: &[u16; 17], i: usize) -> u64
-    requires { ⌜ (i + 2 ≤ 17) × Scaling (now scales) ⌝ }
-    ensures { λ r. ⌜ (r ≡ scaled (now (scales .entry)) i 2) × (r ≤ 10 ^ 8) ⌝ }
-{
-    wide(scales[i]) * wide(scales[i + 1])
+// The remainder over all groups, and how many they are.
+pub struct Divided {
+    pub remainder: u32,
+    pub groups: u32,
 }
 
-fn three_scale(scales: &[u16; 17], i: usize) -> u64
-    requires { ⌜ (i + 3 ≤ 17) × Scaling (now scales) ⌝ }
-    ensures { λ r. ⌜ (r ≡ scaled (now (scales .entry)) i 3) × (r ≤ 10 ^ 12) ⌝ }
+const POWERS: [u32; 8] = [1, 10, 100, 1_000, 10_000, 100_000, 1_000_000, 10_000_000];
+
+// The powers of ten, for who puts many numbers behind each other: a constant array is written anew wherever it is used.
+pub fn powers() -> [u32; 8]
+    ensures { λ r. ⌜ Powers r ⌝ }
 {
-    two_scale(scales, i) * wide(scales[i + 2])
+    POWERS
 }
 
-fn four_scale(scales: &[u16; 17], i: usize) -> u64
-    requires { ⌜ (i + 4 ≤ 17) × Scaling (now scales) ⌝ }
-    ensures { λ r. ⌜ (r ≡ scaled (now (scales .entry)) i 4) × (r ≤ 10 ^ 16) ⌝ }
+pub fn nothing_held() -> Held
+    ensures { λ r. ⌜ r ≡ nothingHeld ⌝ }
 {
-    two_scale(scales, i) * two_scale(scales, i + 2)
+    Held {
+        carried: 0,
+        groups: 0,
+        number: 0,
+        digits: 0,
+    }
 }
 
-// The number of two pairs, of three, and of four.
-fn two(numbers: &[u16; 17], scales: &[u16; 17], i: usize) -> u64
-    requires { ⌜ (i + 2 ≤ 17) × FittingPairs (now numbers) (now scales) ⌝ }
-    ensures { λ r. ⌜ (r ≡ carried (now (numbers .entry)) (now (scales .entry)) 0 i 2) × (r < 10 ^ 8) ⌝ }
+fn power_of(powers: &[u32; 8], k: usize) -> u32
+    requires { ⌜ Powers (now powers) × (k ≤ 7) ⌝ }
+    ensures { λ r. ⌜ (r ≡ 10 ^ k) × (r ≤ 10 ^ 7) ⌝ }
 {
-    wide(numbers[i]) * wide(scales[i + 1]) + wide(numbers[i + 1])
+    powers[k]
 }
 
-fn three(numbers: &[u16; 17], scales: &[u16; 17], i: usize) -> u64
-    requires { ⌜ (i + 3 ≤ 17) × FittingPairs (now numbers) (now scales) ⌝ }
-    ensures { λ r. ⌜ (r ≡ carried (now (numbers .entry)) (now (scales .entry)) 0 i 3) × (r < 10 ^ 12) ⌝ }
+// A number written behind another, at most seven digits in all.
+fn behind(n: u32, power: u32, number: u32) -> u32
+    requires { ⌜ n * power + number < 10 ^ 7 ⌝ }
+    ensures { λ r. ⌜ r ≡ n * power + number ⌝ }
 {
-    two(numbers, scales, i) * wide(scales[i + 2]) + wide(numbers[i + 2])
+    n * power + number
 }
 
-fn four(numbers: &[u16; 17], scales: &[u16; 17], i: usize) -> u64
-    requires { ⌜ (i + 4 ≤ 17) × FittingPairs (now numbers) (now scales) ⌝ }
-    ensures { λ r. ⌜ (r ≡ carried (now (numbers .entry)) (now (scales .entry)) 0 i 4) × (r < 10 ^ 16) ⌝ }
+// The remainder of n by 97. A product and a division by 2^37, which is a shift, give the quotient of numbers as small as these
+// (`quotient`). The compiler has to be right for all of 32 bits, and takes four instructions more, which the next group waits for.
+fn by_97(n: u32) -> u32
+    requires { ⌜ n < 97 * 10 ^ 7 ⌝ }
+    ensures { λ r. ⌜ r ≡ n % 97 ⌝ }
 {
-    two(numbers, scales, i) * two_scale(scales, i + 2) + two(numbers, scales, i + 2)
+    let m = n as u64;
+    let quotient = m * 1_416_896_428 / 137_438_953_472;
+    (m - quotient * 97) as u32
 }
 
-// A number behind what was carried so far.
-fn behind(n: u64, scale: u64, number: u64) -> u64
-    requires { ⌜ (n < 97) × (scale ≤ 10 ^ 16) × (number < 10 ^ 16) ⌝ }
-    ensures { λ r. ⌜ r ≡ n * scale + number ⌝ }
+// The remainder that a group behind what is carried leaves.
+fn carry(carried: u32, power: u32, group: u32) -> u32
+    requires { ⌜ (carried < 97) × (power ≤ 10 ^ 7) × (group < power) ⌝ }
+    ensures { λ r. ⌜ (r ≡ (carried * power + group) % 97) × (r < 97) ⌝ }
 {
-    n * scale + number
+    by_97(carried * power + group)
 }
 
-// The same where what was carried is not divided yet.
-fn last(n: u64, scale: u64, number: u64) -> u64
-    requires { ⌜ (n < 10 ^ 4) × (scale ≤ 10 ^ 8) × (number < 10 ^ 8) ⌝ }
-    ensures { λ r. ⌜ r ≡ n * scale + number ⌝ }
+// Digits behind those held: as one number, and how many they are.
+pub fn put(held: Held, powers: &[u32; 8], number: u32, digits: usize) -> Held
+    requires { ⌜ Fitting held × Powers (now powers) × (digits ≤ 7) × (number < 10 ^ digits) ⌝ }
+    ensures { λ r. ⌜ r ≡ joined held number digits ⌝ }
 {
-    n * scale + number
+    let count = held.digits + digits;
+    if count < 7 {
+        return Held {
+            carried: held.carried,
+            groups: held.groups,
+            number: behind(held.number, power_of(powers, digits), number),
+            digits: count,
+        };
+    }
+    let rest = count - 7;
+    let power = power_of(powers, rest);
+    let first = number / power;
+    let group = behind(held.number, power_of(powers, digits - rest), first);
+    Held {
+        carried: carry(held.carried, 10_000_000, group),
+        groups: held.groups + 1,
+        number: number - first * power,
+        digits: rest,
+    }
 }
 
-fn small(n: u64, scale: u64, number: u64) -> u64
-    requires { ⌜ (n < 97) × (scale < 97) × (number < 97) ⌝ }
-    ensures { λ r. ⌜ (r ≡ n * scale + number) × (r < 10 ^ 4) ⌝ }
+// At the end: the digits held are the last group, where there are any.
+pub fn ended(held: Held, powers: &[u32; 8]) -> Divided
+    requires { ⌜ Fitting held × Powers (now powers) ⌝ }
+    ensures { λ r. ⌜ r ≡ dividedAt held ⌝ }
 {
-    n * scale + number
-}
-
-// The pairs from the third on, and behind them the first two.
-pub fn of_moved(numbers: &[u16; 17], scales: &[u16; 17]) -> u64
-    requires { ⌜ FittingPairs (now numbers) (now scales) ⌝ }
-    ensures { λ r. ⌜ r ≡ carriedMoved (now (numbers .entry)) (now (scales .entry)) % 97 ⌝ }
-{
-    let a = four(numbers, scales, 2) % 97;
-    let b = behind(a, four_scale(scales, 6), four(numbers, scales, 6)) % 97;
-    let c = four(numbers, scales, 10) % 97;
-    let scale = three_scale(scales, 14);
-    let d = behind(c, scale, three(numbers, scales, 14)) % 97;
-    let by = behind(four_scale(scales, 10) % 97, scale, 0) % 97;
-    let others = small(b, by, d);
-    let all = last(others, two_scale(scales, 0), two(numbers, scales, 0));
-    all % 97
+    let digits = held.digits;
+    if digits == 0 {
+        return Divided {
+            remainder: held.carried,
+            groups: held.groups,
+        };
+    }
+    Divided {
+        remainder: carry(held.carried, power_of(powers, digits), held.number),
+        groups: held.groups + 1,
+    }
 }

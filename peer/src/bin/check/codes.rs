@@ -1,16 +1,17 @@
 //! Random BICs, IBANs and TxIds: right ones, ones that differ in little from another, and wrong ones.
 
 use crate::random::Random;
-use peer::codes::{iban_remainder, unpadded, Bic, Iban, TxId};
+use peer::codes::{unpadded, Bic, Iban, TxId};
 use peer::writing::padded;
 
-const UPPER: &[u8] = b"ABCDEFGHIJKLMNOPQRSTUVWXYZ";
+pub const UPPER: &[u8] = b"ABCDEFGHIJKLMNOPQRSTUVWXYZ";
+pub const DIGITS: &[u8] = b"0123456789";
 const SEVENTH: &[u8] = b"ABCDEFGHIJKLMNOPQRSTUVWXYZ23456789";
 const EIGHTH: &[u8] = b"ABCDEFGHIJKLMNPQRSTUVWXYZ0123456789";
-const LAST: &[u8] = b"ABCDEFGHIJKLMNOPQRSTUVWXYZ0123456789";
+pub const LAST: &[u8] = b"ABCDEFGHIJKLMNOPQRSTUVWXYZ0123456789";
 const ALL: &[u8] = b"ABCDEFGHIJKLMNOPQRSTUVWXYZabcdefghijklmnopqrstuvwxyz0123456789/-?:().,'+";
 /// Bytes that lie next to allowed ones, or are often taken for allowed.
-const OUTSIDE: &[u8] = b"\0 !*@[`{;<=>_&\"%\x7f\x80\xc4\xff";
+pub const OUTSIDE: &[u8] = b"\0 !*@[`{;<=>_&\"%\x7f\x80\xc4\xff";
 
 fn bic_bytes_at(at: usize) -> &'static [u8] {
     match at {
@@ -98,21 +99,36 @@ pub fn iban(random: &mut Random) -> Iban {
     padded(&iban)
 }
 
-/// Sets any check digits that leave 1, among them 00, 01 and 99; small letters are read as capitals.
-fn set_check_digits(random: &mut Random, iban: &mut [u8]) {
+/// Sets any check digits with which the number leaves 1, among them 00, 01 and 99.
+pub fn set_check_digits(random: &mut Random, iban: &mut [u8]) {
+    set_check_digits_leaving(random, iban, 1);
+}
+
+/// The same for another remainder below 97.
+pub fn set_check_digits_leaving(random: &mut Random, iban: &mut [u8], left: u64) {
     iban[2..4].copy_from_slice(b"00");
-    let mut check = (1 + 97 - iban_remainder(&iban.to_ascii_uppercase())) % 97;
+    let mut check = (left + 97 - remainder(iban)) % 97;
     if check < 3 && random.one_in(2) {
         check += 97;
     }
     iban[2..4].copy_from_slice(format!("{check:02}").as_bytes());
 }
 
+/// What the number of a text leaves on division by 97, character by character. All bytes are letters of either case or digits, at
+/// least four of them.
+pub fn remainder(text: &[u8]) -> u64 {
+    let (first_four, rest) = text.split_at(4);
+    rest.iter().chain(first_four).fold(0, |left, &byte| {
+        let value = char::from(byte).to_digit(36).expect("a letter or a digit");
+        (left * if value < 10 { 10 } else { 100 } + u64::from(value)) % 97
+    })
+}
+
 pub fn wrong_iban(random: &mut Random) -> Iban {
     let mut iban = iban(random);
     let length = unpadded(&iban).len();
     let at = random.index(length);
-    match random.below(12) {
+    match random.below(13) {
         0 => iban.fill(0),
         1 => {
             iban[4..].fill(0);
@@ -133,27 +149,35 @@ pub fn wrong_iban(random: &mut Random) -> Iban {
             iban[4..length].fill_with(|| random.pick(&ALL[..62]));
             set_check_digits(random, &mut iban[..length]);
         }
+        11 => {
+            let behind = (length + 1).min(iban.len() - 1);
+            iban[behind] = random.pick(LAST);
+        }
         _ => iban[2..4].copy_from_slice(format!("{:02}", random.below(100)).as_bytes()),
     }
     iban
 }
 
 /// Puts one small letter behind the check digits, often first or last; with its capital there it is an IBAN.
-fn set_small_letter(random: &mut Random, iban: &mut [u8]) {
+pub fn set_small_letter(random: &mut Random, iban: &mut [u8]) {
     let last = iban.len() - 1;
     let any = random.between(4, last as u64) as usize;
     iban[random.pick(&[4, any, any, last])] = random.pick(&ALL[26..52]);
     set_check_digits(random, iban);
 }
 
-/// Puts a letter in place of a check digit, and by the other lets 1 be left, if one does.
-fn set_check_letter(random: &mut Random, iban: &mut [u8]) {
-    let (letter, other) = random.pick(&[(2, 3), (3, 2)]);
-    iban[letter] = random.pick(&ALL[..52]);
-    for byte in LAST {
-        iban[other] = *byte;
-        if iban_remainder(&iban.to_ascii_uppercase()) == 1 {
-            return;
-        }
+/// Puts a letter in place of a check digit, and another digit in place of the other, so that the number leaves 1 if it can.
+pub fn set_check_letter(random: &mut Random, text: &mut [u8]) {
+    let is_small = random.one_in(2);
+    let small = |letter: u8| if is_small { letter.to_ascii_lowercase() } else { letter };
+    let pairs = UPPER.iter().flat_map(|&letter| DIGITS.iter().map(move |&digit| (small(letter), digit)));
+    let mut both: Vec<[u8; 2]> = pairs.flat_map(|(letter, digit)| [[letter, digit], [digit, letter]]).collect();
+    let mut leaves_1 = |check: &[u8; 2]| {
+        text[2..4].copy_from_slice(check);
+        remainder(text) == 1
+    };
+    if both.iter().any(&mut leaves_1) {
+        both.retain(leaves_1);
     }
+    text[2..4].copy_from_slice(&random.pick(&both));
 }

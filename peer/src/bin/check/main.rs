@@ -1,5 +1,5 @@
-//! The check: random days, random tickets handed in one by one, and random messages, through this book and through the proved
-//! programs, which must print the same lines.
+//! The check: random days, random tickets handed in one by one, random messages, and random texts for the IBAN check, through this
+//! book and through the proved programs, which must print the same lines.
 
 // Random numbers are cut to the width of the field that they are for.
 #![allow(clippy::cast_possible_truncation)]
@@ -8,6 +8,9 @@ mod codes;
 mod damage;
 mod days;
 mod hands;
+mod iban_make;
+mod iban_tally;
+mod ibans;
 mod inputs;
 mod inputs_tally;
 mod message_damage;
@@ -38,22 +41,25 @@ use std::time::{Duration, Instant};
 use tally::Tally;
 use verdict::{Found, Same};
 
-const USAGE: &str = "usage: check [PROGRAM] [--hands PROGRAM] [--messages-program PROGRAM] [--days N] [--inputs N] [--messages N]
-             [--seed S] [--first N] [--seconds T] [--out DIR]
+const USAGE: &str = "usage: check [PROGRAM] [--hands PROGRAM] [--messages-program PROGRAM] [--cases PROGRAM]
+             [--days N] [--inputs N] [--messages N] [--ibans N] [--seed S] [--first N] [--seconds T] [--out DIR]
        check --write DIR [--days N] [--seed S]
        check --write-messages FILE [--messages N] [--seed S] [--first N]
 Runs random days through PROGRAM and through this book, compares all lines and prints what was met; then the same of random
-tickets that are handed in one by one, each with a buffer of its own, and of random messages, if there are programs for these.
-What is never met fails the check from 10000 days, 20000 tickets one by one and 20000 messages on. The last line is the verdict.
+tickets that are handed in one by one, each with a buffer of its own, of random messages, and of random texts for the IBAN check,
+if there are programs for these. What is never met fails the check from 10000 days, 20000 tickets one by one, 20000 messages and
+20000 texts on. The last line is the verdict.
   --hands PROGRAM  the program that hands tickets in one by one
   --messages-program PROGRAM  the program that reads messages
+  --cases PROGRAM  the program that checks IBANs
   --days N         as many days (default 20000, or without end if there are seconds)
   --inputs N       at least so many tickets one by one, in whole cases (default 20000); with 0 none
   --messages N     as many messages (default 20000); with 0 none
-  --seed S         the seed of all days, cases and messages (default 1)
-  --first N        the number of the first day, of the first case and of the first message (default 0)
+  --ibans N        as many texts for the IBAN check (default 20000); with 0 none
+  --seed S         the seed of all days, cases, messages and texts (default 1)
+  --first N        the number of the first day, of the first case, of the first message and of the first text (default 0)
   --seconds T      no new days after so many seconds
-  --out DIR        where a day, case or message that differs is written (default: the system's temporary folder)
+  --out DIR        where a day, case, message or text that differs is written (default: the system's temporary folder)
   --write DIR      writes full working days there and compares nothing
   --write-messages FILE  writes messages there, as the program reads them, and compares nothing";
 
@@ -70,11 +76,13 @@ struct Options {
     program: Option<PathBuf>,
     hands: Option<PathBuf>,
     reader: Option<PathBuf>,
+    cases: Option<PathBuf>,
     write: Option<PathBuf>,
     write_messages: Option<PathBuf>,
     days: Option<u64>,
     inputs: Option<u64>,
     messages: Option<u64>,
+    ibans: Option<u64>,
     seconds: Option<u64>,
     seed: u64,
     first: u64,
@@ -90,7 +98,8 @@ fn main() -> ExitCode {
         eprintln!("{USAGE}");
         return ExitCode::from(2);
     };
-    let has_program = options.program.is_some() || options.hands.is_some() || options.reader.is_some();
+    let programs = [&options.program, &options.hands, &options.reader, &options.cases];
+    let has_program = programs.iter().any(|program| program.is_some());
     let result = match (has_program, &options.write, &options.write_messages) {
         (false, Some(folder), None) => write_days(&options, folder).map(|()| true),
         (false, None, Some(file)) => messages::write(&options, file).map(|()| true),
@@ -116,11 +125,13 @@ fn options(mut arguments: impl Iterator<Item = String>) -> Option<Options> {
         program: None,
         hands: None,
         reader: None,
+        cases: None,
         write: None,
         write_messages: None,
         days: None,
         inputs: None,
         messages: None,
+        ibans: None,
         seconds: None,
         seed: 1,
         first: 0,
@@ -130,9 +141,11 @@ fn options(mut arguments: impl Iterator<Item = String>) -> Option<Options> {
         match argument.as_str() {
             "--hands" => options.hands = Some(arguments.next()?.into()),
             "--messages-program" => options.reader = Some(arguments.next()?.into()),
+            "--cases" => options.cases = Some(arguments.next()?.into()),
             "--days" => options.days = Some(arguments.next()?.parse().ok()?),
             "--inputs" => options.inputs = Some(arguments.next()?.parse().ok()?),
             "--messages" => options.messages = Some(arguments.next()?.parse().ok()?),
+            "--ibans" => options.ibans = Some(arguments.next()?.parse().ok()?),
             "--seconds" => options.seconds = Some(arguments.next()?.parse().ok()?),
             "--seed" => options.seed = arguments.next()?.parse().ok()?,
             "--first" => options.first = arguments.next()?.parse().ok()?,
@@ -158,6 +171,9 @@ fn check_all(options: &Options) -> io::Result<bool> {
     }
     if let Some(path) = options.reader.as_ref().filter(|_| found.iter().all(Found::is_fine) && options.messages != Some(0)) {
         found.push(messages::check(options, &program(path))?);
+    }
+    if let Some(path) = options.cases.as_ref().filter(|_| found.iter().all(Found::is_fine) && options.ibans != Some(0)) {
+        found.push(ibans::check(options, &program(path))?);
     }
     println!("\n{}", verdict::line(&found));
     Ok(found.iter().all(Found::is_fine))

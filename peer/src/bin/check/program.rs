@@ -25,7 +25,8 @@ impl Program {
         Ok((0..count).map(text_of).collect())
     }
 
-    fn run(&self, input: &[u8]) -> io::Result<Vec<u8>> {
+    /// The program's whole text for an input.
+    pub fn run(&self, input: &[u8]) -> io::Result<Vec<u8>> {
         let mut child = Command::new(&self.path).stdin(Stdio::piped()).stdout(Stdio::piped()).spawn()?;
         let text = exchange(&mut child, input);
         child.wait()?;
