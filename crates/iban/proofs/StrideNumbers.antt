@@ -29,8 +29,8 @@ read-value c = go (value c) (ltb (value c) 10)
     go v true = omega arith
     go v false = omega arith
 
-pub one-writes : (r : Stride) (c : ℕ) → r .length ≡ 1 → r .digits ≡ length (digitsOf c) → r .number ≡ value c → Writes r (c ∷ [])
-one-writes r c l d n =
+pub one-write : (r : Stride) (c : ℕ) → r .length ≡ 1 → r .digits ≡ length (digitsOf c) → r .number ≡ value c → Writes r (c ∷ [])
+one-write r c l d n =
     let is = append-nil (digitsOf c) in
     record {
       long = l;

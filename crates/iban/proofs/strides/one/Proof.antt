@@ -2,7 +2,7 @@
 use mathlib.Core.Path.{refl}
 use native.Mathlib.Omega.{arith}
 use borrow.Author.Needs.{needs}
-use Rattle.iban.proofs.StrideNumbers.{one-writes}
+use Rattle.iban.proofs.StrideNumbers.{one-write}
 use Rattle.iban.proofs.strides.one.Statement.{statement}
 use Rattle.iban.proofs.strides.one.Tie as tie
 
@@ -12,4 +12,4 @@ one-spec =
     (tie.spec
     (λ c κs. search needs)
     (λ c κs. search needs)
-    (λ c. (one-writes _ (c .before .before .args .c) refl (c .digits-of .ensures .0) (c .before .worth .ensures .0), omega arith)))
+    (λ c. (one-write _ (c .before .before .args .c) refl (c .digits-of .ensures .0) (c .before .worth .ensures .0), omega arith)))
