@@ -16,7 +16,7 @@
 #include <stdint.h>
 
 /* The file VERSION has it too. */
-#define ZOLFIGAR_VERSION "1.4.0"
+#define ZOLFIGAR_VERSION "1.5.0"
 
 #ifdef __cplusplus
 extern "C" {
@@ -82,8 +82,9 @@ size_t zolfigar_day(const uint8_t *file, size_t file_length, uint8_t *text, size
 #define ZOLFIGAR_NO_ROOM 2048
 
 /* A day's tickets, as bytes: of each ticket taken its answer (refusal 1, report count 2, rows 1) and its reports (to 1, code 1,
- * order 2, amount 8), each after those of the ticket before, numbers with the highest byte first. A ticket is taken as long as
- * there are 4 bytes for its answer and 6,528 for its reports.
+ * order 2, amount 8), each after those of the ticket before, numbers with the highest byte first. A refusal is 0 of a ticket that
+ * was carried out; else 7 to 22, or 26 of a recall that comes too late. A ticket is taken as long as there are 4 bytes for its
+ * answer and 6,528 for its reports.
  *
  * The answer is how many tickets were taken, at most 512, and 0 only where the file has none; or one of the two above:
  *

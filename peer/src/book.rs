@@ -1,4 +1,4 @@
-//! The book: cover of each participant, orders and clock, and each ticket's step with refusals 6 and 11 to 22.
+//! The book: cover of each participant, orders and clock, and each ticket's step with refusals 6, 11 to 22 and 26.
 
 // An order is numbered below 256, which fits the two bytes of a report.
 #![allow(clippy::cast_possible_truncation)]
@@ -14,6 +14,8 @@ use crate::MOST_COVER;
 pub const MOST_ORDERS: usize = 256;
 /// A bank that hasn't answered after this many seconds lets the order expire.
 pub const WAIT: u32 = 20;
+/// A recall this many seconds after the settlement, or more, is too late.
+pub const LATE: u32 = 864_000;
 
 /// The cover of a participant.
 #[derive(Clone, Copy, Default, PartialEq, Eq, Debug)]
@@ -36,9 +38,10 @@ pub enum Status {
     Waiting,
     Refused,
     Expired,
-    /// With the amount that was returned, from 1 cent to the order's.
-    Returned(u64),
-    Settled(Recall),
+    /// With the time of the settlement, and the amount that was returned, from 1 cent to the order's.
+    Returned(u32, u64),
+    /// With the time of the settlement.
+    Settled(Recall, u32),
 }
 
 #[derive(Clone, Debug)]
@@ -54,7 +57,15 @@ pub struct Order {
 impl Order {
     /// Whether less than its amount was returned.
     pub fn is_returned_in_part(&self) -> bool {
-        matches!(self.status, Status::Returned(amount) if amount < self.amount)
+        matches!(self.status, Status::Returned(_, amount) if amount < self.amount)
+    }
+
+    /// The time of its settlement, if it was settled.
+    pub fn settled_at(&self) -> Option<u32> {
+        match self.status {
+            Status::Settled(_, time) | Status::Returned(time, _) => Some(time),
+            Status::Waiting | Status::Refused | Status::Expired => None,
+        }
     }
 }
 
@@ -244,7 +255,7 @@ impl Book {
     }
 
     fn yes(&mut self, number: usize, reports: &mut Writer) -> Result<(), Refusal> {
-        let (payer, payee, amount) = self.change(number, Status::Waiting, Status::Settled(Recall::None))?;
+        let (payer, payee, amount) = self.end_wait(number, Status::Settled(Recall::None, self.clock))?;
         self.cover(payer).reserved -= amount;
         self.cover(payee).available += amount;
         reports.push(payer, Code::Settled, number as u16, amount);
@@ -255,7 +266,7 @@ impl Book {
     }
 
     fn no(&mut self, number: usize, reports: &mut Writer) -> Result<(), Refusal> {
-        let (payer, _, amount) = self.change(number, Status::Waiting, Status::Refused)?;
+        let (payer, _, amount) = self.end_wait(number, Status::Refused)?;
         let cover = self.cover(payer);
         cover.reserved -= amount;
         cover.available += amount;
@@ -263,32 +274,38 @@ impl Book {
         Ok(())
     }
 
+    /// Lateness is a difference, as settlement plus 864,000 may be above 32 bits.
     fn recall(&mut self, number: usize, reports: &mut Writer) -> Result<(), Refusal> {
-        let (_, payee, amount) = self.change(number, Status::Settled(Recall::None), Status::Settled(Recall::Asked))?;
-        reports.push(payee, Code::RecallAsked, number as u16, amount);
+        let settled_at = self.settlement(number, Recall::None)?;
+        if self.clock - settled_at >= LATE {
+            return Err(Refusal::LateRecall);
+        }
+        let order = &mut self.orders[number];
+        order.status = Status::Settled(Recall::Asked, settled_at);
+        reports.push(order.payee, Code::RecallAsked, number as u16, order.amount);
         Ok(())
     }
 
     /// The amount goes back to the payer; what the order has above it stays with the payee.
     fn return_order(&mut self, number: usize, amount: u64, reports: &mut Writer) -> Result<(), Refusal> {
+        let settled_at = self.settlement(number, Recall::Asked)?;
         let order = &self.orders[number];
         let (payer, payee) = (order.payer, order.payee);
-        if order.status != Status::Settled(Recall::Asked) {
-            return Err(Refusal::Status);
-        }
         if amount > order.amount {
             return Err(Refusal::AboveOrder);
         }
         self.take_available(payee, amount)?;
         self.cover(payer).available += amount;
-        self.orders[number].status = Status::Returned(amount);
+        self.orders[number].status = Status::Returned(settled_at, amount);
         reports.push(payer, Code::Returned, number as u16, amount);
         Ok(())
     }
 
     fn decline(&mut self, number: usize, reports: &mut Writer) -> Result<(), Refusal> {
-        let (payer, _, amount) = self.change(number, Status::Settled(Recall::Asked), Status::Settled(Recall::Declined))?;
-        reports.push(payer, Code::RecallDeclined, number as u16, amount);
+        let settled_at = self.settlement(number, Recall::Asked)?;
+        let order = &mut self.orders[number];
+        order.status = Status::Settled(Recall::Declined, settled_at);
+        reports.push(order.payer, Code::RecallDeclined, number as u16, order.amount);
         Ok(())
     }
 
@@ -300,8 +317,8 @@ impl Book {
             Status::Waiting => tell(order.payee, Code::AnswerDue),
             Status::Refused => tell(order.payer, Code::Refused),
             Status::Expired => tell(order.payer, Code::Expired),
-            Status::Returned(amount) => reports.push(order.payer, Code::Returned, number as u16, amount),
-            Status::Settled(recall) => {
+            Status::Returned(_, amount) => reports.push(order.payer, Code::Returned, number as u16, amount),
+            Status::Settled(recall, _) => {
                 tell(order.payer, Code::Settled);
                 match recall {
                     Recall::None => (),
@@ -367,14 +384,22 @@ impl Book {
         self.order_index.find(hash(tx_id), |number| self.orders[number].tx_id == *tx_id)
     }
 
-    /// Moves an order from the status that the step needs to the next, and gives its payer, payee and amount.
-    fn change(&mut self, number: usize, from: Status, to: Status) -> Result<(u8, u8, u64), Refusal> {
+    /// Gives a Waiting order its next status, and tells its payer, payee and amount.
+    fn end_wait(&mut self, number: usize, next: Status) -> Result<(u8, u8, u64), Refusal> {
         let order = &mut self.orders[number];
-        if order.status != from {
+        if order.status != Status::Waiting {
             return Err(Refusal::Status);
         }
-        order.status = to;
+        order.status = next;
         Ok((order.payer, order.payee, order.amount))
+    }
+
+    /// The time at which an order with that recall mark was settled.
+    fn settlement(&self, number: usize, mark: Recall) -> Result<u32, Refusal> {
+        match self.orders[number].status {
+            Status::Settled(recall, time) if recall == mark => Ok(time),
+            _ => Err(Refusal::Status),
+        }
     }
 
     fn take_available(&mut self, participant: u8, amount: u64) -> Result<(), Refusal> {

@@ -61,15 +61,16 @@ fn print_order(text: &mut Vec<u8>, number: u64, order: &Order) {
     text.push(b'\n');
 }
 
-/// A returned order's word has the amount that was returned behind it, a settled one's the recall mark.
+/// Behind a settled order's word come its recall mark and the time of its settlement, behind a returned one's that time and the
+/// amount that was returned.
 fn status_word(status: Status) -> Cow<'static, str> {
     match status {
         Status::Waiting => "Waiting".into(),
         Status::Refused => "Refused".into(),
         Status::Expired => "Expired".into(),
-        Status::Returned(amount) => format!("Returned-{amount}").into(),
-        Status::Settled(Recall::None) => "Settled-none".into(),
-        Status::Settled(Recall::Asked) => "Settled-asked".into(),
-        Status::Settled(Recall::Declined) => "Settled-declined".into(),
+        Status::Returned(time, amount) => format!("Returned-{time}-{amount}").into(),
+        Status::Settled(Recall::None, time) => format!("Settled-none-{time}").into(),
+        Status::Settled(Recall::Asked, time) => format!("Settled-asked-{time}").into(),
+        Status::Settled(Recall::Declined, time) => format!("Settled-declined-{time}").into(),
     }
 }

@@ -29,6 +29,7 @@ pub enum Refusal {
     Markup = 23,
     Elements = 24,
     AmountText = 25,
+    LateRecall = 26,
 }
 
 impl Refusal {

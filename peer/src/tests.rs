@@ -17,6 +17,9 @@ const STRANGER: &[u8; 11] = b"DDDDLV22XXX";
 const IBAN: &[u8] = b"LV80BANK0000435195001";
 const MOST_PAID: u64 = 99_999_999_999;
 const MOST_COVER: u64 = 1_000_000_000_000_000_000;
+/// The first second after a settlement at 0 in which a recall is too late, and the last in which it isn't.
+const LATE: u32 = 864_000;
+const LAST: u32 = 863_999;
 /// What stands in the buffer before a ticket.
 const OLD: u8 = 0xA5;
 
@@ -108,9 +111,14 @@ impl Trial {
         trial
     }
 
+    /// The first order's status.
+    fn status(&self) -> Status {
+        self.book.orders()[0].status
+    }
+
     /// All that a refused return has to leave.
     fn order_and_covers(&self) -> (Status, [Cover; 3]) {
-        (self.book.orders()[0].status, [0, 1, 2].map(|participant| self.cover(participant)))
+        (self.status(), [0, 1, 2].map(|participant| self.cover(participant)))
     }
 
     /// A return that is refused, without reports, and leaves everything.
@@ -357,9 +365,171 @@ fn recalls() {
     assert_eq!(trial.refusal(&about_fields(5, 1, 7, A, "X")), 18);
     assert_eq!(trial.all(&about_fields(8, 0, 7, A, "X")), (0, vec![(0, 2, 0, 400), (1, 8, 0, 400)]));
     assert_eq!(trial.all(&about_fields(7, 7, 7, B, "X")), (0, vec![(0, 7, 0, 400)]));
-    assert_eq!(trial.book.orders()[0].status, Status::Settled(Recall::Declined));
+    assert_eq!(trial.status(), Status::Settled(Recall::Declined, 6));
     assert_eq!(trial.all(&about_fields(8, 0, 7, A, "X")), (0, vec![(0, 2, 0, 400), (0, 7, 0, 400)]));
     assert_eq!(trial.refusal(&about_fields(5, 1, 7, A, "X")), 18);
+}
+
+/// A recall of the order X.
+fn recall_fields(time: u32, payer: &[u8; 11]) -> TicketFields {
+    about_fields(5, 1, time, payer, "X")
+}
+
+/// An order of 400 by A at one time, settled at another.
+fn settled_at(payee: &[u8; 11], ordered: u32, settled: u32) -> Trial {
+    let mut trial = Trial::without_openings();
+    trial.accept(&fields(1, 0, A, 1000));
+    trial.accept(&order_fields(ordered, A, payee, 400, "X"));
+    trial.accept(&about_fields(4, 1, settled, payee, "X"));
+    trial
+}
+
+/// A settled order whose recall is in time at the first time and too late at the second.
+fn check_last_moment(set_up: impl Fn() -> Trial, in_time: u32, late: u32) {
+    let (payee, settled) = (set_up().book.orders()[0].payee, set_up().book.clock());
+    let mut trial = set_up();
+    assert_eq!(trial.all(&recall_fields(in_time, A)), (0, vec![(payee, 5, 0, 400)]), "at {in_time}");
+    assert_eq!((trial.book.clock(), trial.status()), (in_time, Status::Settled(Recall::Asked, settled)));
+    let mut trial = set_up();
+    assert_eq!(trial.all(&recall_fields(late, A)), (26, vec![]), "at {late}");
+    assert_eq!((trial.book.clock(), trial.status()), (late, Status::Settled(Recall::None, settled)));
+}
+
+#[test]
+fn recalls_in_time_and_too_late() {
+    for payee in [A, B, SYSTEM] {
+        check_last_moment(|| Trial::set_up_settled(payee), 6 + LAST, 6 + LATE);
+        check_last_moment(|| Trial::set_up_settled(payee), 6, u32::MAX);
+        check_last_moment(|| settled_at(payee, 0, 0), LAST, LATE);
+    }
+}
+
+#[test]
+fn lateness_counts_from_the_settlement() {
+    for payee in [A, B] {
+        check_last_moment(|| settled_at(payee, 100, 119), 100 + LATE, 119 + LATE);
+        check_last_moment(|| settled_at(payee, 100, 119), 119 + LAST, 119 + LATE);
+    }
+    for settled in [100 + LAST, 100 + LATE, 3_000_000] {
+        check_last_moment(|| settled_at(SYSTEM, 100, settled), settled, settled + LATE);
+        check_last_moment(|| settled_at(SYSTEM, 100, settled), settled + LAST, settled + LATE);
+    }
+}
+
+#[test]
+fn late_recalls_near_the_top_of_32_bits() {
+    for ordered in [4_294_103_280, 4_294_103_295] {
+        check_last_moment(|| settled_at(B, ordered, 4_294_103_295), u32::MAX - 1, u32::MAX);
+    }
+    for settled in [4_294_103_296, 4_294_103_297, u32::MAX - 1, u32::MAX] {
+        for payee in [A, B, SYSTEM] {
+            let mut trial = settled_at(payee, settled, settled);
+            assert_eq!(trial.refusal(&recall_fields(u32::MAX, A)), 0, "settled at {settled}");
+        }
+    }
+    let mut trial = settled_at(SYSTEM, 5, u32::MAX);
+    trial.accept(&recall_fields(u32::MAX, A));
+}
+
+/// What isn't Settled with mark none gets 18, however late the recall is.
+#[test]
+fn refusals_before_that_of_a_late_recall() {
+    let late = 6 + LATE;
+    let mut trial = Trial::set_up_settled(B);
+    assert_eq!(trial.refusal(&TicketFields { flag: 0, ..recall_fields(late, A) }), 7);
+    assert_eq!(trial.refusal(&recall_fields(5, A)), 11);
+    assert_eq!(trial.refusal(&recall_fields(late, STRANGER)), 12);
+    assert_eq!(trial.refusal(&about_fields(5, 1, late, A, "Y")), 16);
+    assert_eq!(trial.refusal(&recall_fields(late, B)), 17);
+    assert_eq!(trial.refusal(&recall_fields(late, SYSTEM)), 17);
+    assert_eq!(trial.refusal(&recall_fields(late, A)), 26);
+    let steps = [
+        about_fields(5, 1, 7, A, "X"), // then asked
+        about_fields(7, 1, 7, B, "X"), // then declined
+        return_fields(B, 399),         // then returned
+    ];
+    for after in [&steps[..1], &steps[..2], &[steps[0].clone(), steps[2].clone()]] {
+        let mut trial = Trial::set_up_settled(B);
+        after.iter().for_each(|step| trial.accept(step));
+        let status = trial.status();
+        for time in [6 + LAST, late, u32::MAX] {
+            assert_eq!(trial.all(&recall_fields(time, A)), (18, vec![]), "{status:?}");
+        }
+        assert_eq!(trial.status(), status);
+    }
+    let mut trial = Trial::set_up_order(SYSTEM);
+    assert_eq!(trial.refusal(&recall_fields(late, A)), 18);
+    let mut trial = Trial::set_up_order(B);
+    trial.accept(&about_fields(4, 2, 6, B, "X"));
+    assert_eq!(trial.refusal(&recall_fields(late, A)), 18);
+    let mut trial = Trial::set_up_order(B);
+    assert_eq!(trial.all(&recall_fields(late, A)), (18, vec![(0, 4, 0, 400), (1, 4, 0, 400)]));
+    assert_eq!(trial.refusal(&recall_fields(late, A)), 18);
+}
+
+#[test]
+fn a_late_recall_leaves_what_a_tick_leaves() {
+    let set_up = || {
+        let mut trial = Trial::set_up_settled(B);
+        trial.accept(&order_fields(6 + LATE - 20, A, B, 300, "Y"));
+        trial.accept(&order_fields(6 + LATE - 19, A, B, 200, "Z"));
+        trial.accept(&order_fields(6 + LATE - 19, A, SYSTEM, 100, "W"));
+        trial
+    };
+    let seen = |trial: &Trial| {
+        let statuses: Vec<Status> = trial.book.orders().iter().map(|order| order.status).collect();
+        (trial.book.clock(), trial.order_and_covers(), statuses, trial.buffer)
+    };
+    let expired = vec![(0, 4, 1, 300), (1, 4, 1, 300)];
+    let (mut recalled, mut ticked) = (set_up(), set_up());
+    assert_eq!(recalled.all(&recall_fields(6 + LATE, A)), (26, expired.clone()));
+    assert_eq!(ticked.all(&TicketFields::new(11, 6 + LATE)), (0, expired));
+    assert!(seen(&recalled) == seen(&ticked));
+    assert_eq!(recalled.cover(0), Cover { available: 300, reserved: 300, ..Cover::default() });
+}
+
+#[test]
+fn a_late_recall_marks_nothing() {
+    let mut trial = Trial::set_up_settled(B);
+    for time in [6 + LATE, 6 + LATE, 7 + LATE, u32::MAX] {
+        assert_eq!(trial.all(&recall_fields(time, A)), (26, vec![]));
+        assert_eq!(trial.all(&about_fields(8, 0, time, A, "X")), (0, vec![(0, 2, 0, 400)]));
+        assert_eq!(trial.refusal(&TicketFields { time, ..return_fields(B, 400) }), 18);
+        assert_eq!(trial.refusal(&about_fields(7, 1, time, B, "X")), 18);
+        assert_eq!(trial.status(), Status::Settled(Recall::None, 6));
+    }
+}
+
+#[test]
+fn answers_to_a_recall_in_time_have_no_limit() {
+    for (payee, number) in [(A, 0), (B, 1), (SYSTEM, 2)] {
+        for recalled in [7, 6 + LAST] {
+            for time in [6 + LAST, 6 + LATE, recalled + LATE, u32::MAX] {
+                let mut trial = Trial::set_up_settled(payee);
+                trial.accept(&recall_fields(recalled, A));
+                let late_return = TicketFields { time, ..return_fields(payee, 399) };
+                assert_eq!(trial.all(&late_return), (0, vec![(0, 6, 0, 399)]));
+                assert_eq!(trial.status(), Status::Returned(6, 399));
+                assert_eq!(trial.all(&about_fields(8, 0, time, A, "X")), (0, vec![(0, 6, 0, 399)]));
+                let mut trial = Trial::set_up_settled(payee);
+                trial.accept(&recall_fields(recalled, A));
+                assert_eq!(trial.all(&about_fields(8, 0, time, A, "X")), (0, vec![(0, 2, 0, 400), (number, 8, 0, 400)]));
+                assert_eq!(trial.all(&about_fields(7, 1, time, payee, "X")), (0, vec![(0, 7, 0, 400)]));
+                assert_eq!(trial.status(), Status::Settled(Recall::Declined, 6));
+            }
+        }
+    }
+}
+
+#[test]
+fn refused_answers_to_a_recall_long_after_it() {
+    let mut trial = Trial::set_up_asked(B);
+    trial.accept(&fields(2, 6 + LATE, B, 1));
+    let late_return = |amount| TicketFields { time: 6 + LATE, ..return_fields(B, amount) };
+    assert_eq!(trial.refusal(&late_return(401)), 19);
+    assert_eq!(trial.refusal(&late_return(400)), 20);
+    trial.accept(&late_return(399));
+    assert_eq!(trial.refusal(&late_return(1)), 18);
 }
 
 #[test]
@@ -372,7 +542,7 @@ fn returns() {
             assert_eq!(trial.cover(number), Cover { available: 400 - amount, ..Cover::default() });
             assert_eq!(trial.book.total(), 1000);
             let order = &trial.book.orders()[0];
-            assert_eq!((order.amount, order.status), (400, Status::Returned(amount)));
+            assert_eq!((order.amount, order.status), (400, Status::Returned(6, amount)));
             assert_eq!(order.is_returned_in_part(), amount < 400);
         }
     }
@@ -480,21 +650,40 @@ fn returns_look_at_available_after_the_expiries() {
     assert_eq!(trial.cover(1), Cover::default());
 }
 
-#[test]
-fn a_returned_order_is_printed_with_what_was_returned() {
-    let tickets = [
-        fields(1, 0, A, 1000),
-        order_fields(5, A, B, 400, "X"),
-        about_fields(4, 1, 6, B, "X"),
-        about_fields(5, 1, 7, A, "X"),
-        return_fields(B, 399),
-    ];
-    let inputs = tickets.map(|ticket| Input { ticket: ticket.bytes().to_vec(), buffer: BUFFER_LEN, fill: OLD });
+/// The lines of an order of 400 from A to B at 5, settled at 24, and the tickets after it.
+fn lines_after_settlement(after: &[TicketFields]) -> String {
+    let settled = [fields(1, 0, A, 1000), order_fields(5, A, B, 400, "X"), about_fields(4, 1, 24, B, "X")];
+    let input = |ticket: &TicketFields| Input { ticket: ticket.bytes().to_vec(), buffer: BUFFER_LEN, fill: OLD };
+    let inputs: Vec<Input> = settled.iter().chain(after).map(input).collect();
     let mut text = Vec::new();
     print_case(&day_with([None; 3]).bytes(), &inputs, &mut text);
-    let expected = "T 4 0 1 0\nR 0 6 0 399\nB 6528 6528\nK 7\nC 0 999 0 0 0\nC 1 1 0 0 0\nC 2 0 0 0 0\n\
-                    O 0 0 1 400 5 Returned-399 X\n";
-    assert!(String::from_utf8(text).unwrap().ends_with(expected));
+    String::from_utf8(text).unwrap()
+}
+
+#[test]
+fn a_settled_order_is_printed_with_mark_and_settlement() {
+    let recalled = [recall_fields(24 + LAST, A), about_fields(7, 1, 25 + LAST, B, "X")];
+    let recalled_late = [recall_fields(24 + LATE, A)];
+    let rows = [
+        (&recalled[..0], "K 24\n", "Settled-none-24"),
+        (&recalled[..1], "T 3 0 1 0\nR 1 5 0 400\nB 6528 6528\nK 864023\n", "Settled-asked-24"),
+        (&recalled, "T 4 0 1 0\nR 0 7 0 400\nB 6528 6528\nK 864024\n", "Settled-declined-24"),
+        (&recalled_late, "T 3 26 0 0\nB 6528 6528\nK 864024\n", "Settled-none-24"),
+    ];
+    for (after, lines, status) in rows {
+        let expected = format!("{lines}C 0 600 0 0 0\nC 1 400 0 0 0\nC 2 0 0 0 0\nO 0 0 1 400 5 {status} X\n");
+        let text = lines_after_settlement(after);
+        assert!(text.ends_with(&expected), "{text}");
+    }
+}
+
+#[test]
+fn a_returned_order_is_printed_with_settlement_and_what_was_returned() {
+    let late_return = TicketFields { time: 24 + LATE, ..return_fields(B, 399) };
+    let expected = "T 4 0 1 0\nR 0 6 0 399\nB 6528 6528\nK 864024\nC 0 999 0 0 0\nC 1 1 0 0 0\nC 2 0 0 0 0\n\
+                    O 0 0 1 400 5 Returned-24-399 X\n";
+    let text = lines_after_settlement(&[recall_fields(25, A), late_return]);
+    assert!(text.ends_with(expected), "{text}");
 }
 
 #[test]

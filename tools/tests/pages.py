@@ -183,7 +183,7 @@ def leads_of(*parts):
 
 DAYS = {"case D": example("case-d"), "busy": example("busy"), "big": big(), "full": Full().day()}
 DAYS |= {"hostile": hostile(), "tampered": tampered(), "refused": example("refused-3"), "long": long()}
-DAYS |= {"part": example("part-return")}
+DAYS |= {"part": example("part-return"), "late": ("late", *scenes.late())}
 PAGES = {name: html_of(day) for name, day in DAYS.items()}
 READ = {name: Parts(html) for name, html in PAGES.items()}
 

@@ -8,7 +8,7 @@ from zolfigar import history, packing
 
 ROOT = os.path.dirname(os.path.dirname(os.path.dirname(os.path.realpath(__file__))))
 EXAMPLES = os.path.join(ROOT, "examples")
-RUNNING = ("case-d", "case-e", "busy", "turned-back", "small-letters", "part-return", "messages")
+RUNNING = ("case-d", "case-e", "busy", "turned-back", "small-letters", "part-return", "messages", "late-recall")
 MESSAGES = ("plain.xml", "free.xml")
 REFUSED = ("refused-1", "refused-2", "refused-3", "refused-4", "refused-5")
 
@@ -81,6 +81,59 @@ def returned(back, to=1):
 
 def returned_day(back, to=1):
     return history.read("returned", *returned(back, to))
+
+
+BANKS = """\
+participant AAAALV22 bank
+participant BBBBLV22 {kind}
+route AAAALV22 to AAAALV22
+route BBBBLV22 to BBBBLV22
+"""
+IBAN = "iban LV80BANK0000435195001"
+PAID = ("0 60000 0 0", "1 40000 0 0")  # closing positions: 400.00 of 1,000.00 went from participant 0 to 1
+
+
+def stepped(*steps, kind="bank", closed=PAID):
+    """A day file and its output: of a bank and another participant tickets, each with its refusal and its reports."""
+    told = []
+    for number, (line, refusal, *reports) in enumerate(steps):
+        rows = int(refusal == 0 and " order " in line)
+        told += [f"T {number} {refusal} {len(reports)} {rows}", *(f"R {report}" for report in reports)]
+    file = packing.pack("stepped.day", BANKS.format(kind=kind) + "\n".join(line for line, *_ in steps))
+    return file, "\n".join([*told, *(f"C {position}" for position in closed), ""])
+
+
+def settled(*steps, at=24, ordered=None, kind="bank", closed=PAID):
+    """A day file and its output: an order of 400.00 from participant 0 to 1, which ticket 2 settles, and what comes later."""
+    ordered = at - 19 if ordered is None else ordered
+    told = ("0 2 0 40000", "1 2 0 40000") if kind == "bank" else ("0 2 0 40000",)
+    first = (
+        ("0 cover-in from AAAALV22 EUR 1000.00", 0),
+        (f"{ordered} order TX1 from AAAALV22 to BBBBLV22 EUR 400.00 {IBAN}", 0, "1 1 0 40000"),
+        (f"{at} answer TX1 yes from BBBBLV22", 0, *told),
+    )
+    return stepped(*first, *steps, kind=kind, closed=closed)
+
+
+def late():
+    """A day file and its output: TX1 is recalled too late, twice, first in the second in which TX3 expires; TX2 is recalled at
+    the last moment, and returned ten days after that."""
+    return settled(
+        (f"00:00:26 order TX2 from AAAALV22 to BBBBLV22 EUR 100.00 {IBAN}", 0, "1 1 1 10000"),
+        ("00:00:30 answer TX2 yes from BBBBLV22", 0, "0 2 1 10000", "1 2 1 10000"),
+        (f"240:00:04 order TX3 from AAAALV22 to BBBBLV22 EUR 50.00 {IBAN}", 0, "1 1 2 5000"),
+        ("240:00:24 recall TX1 FRAD from AAAALV22", 26, "0 4 2 5000", "1 4 2 5000"),
+        ("240:00:25 recall TX1 TECH from AAAALV22", 26),
+        ("240:00:26 inquiry TX1 from AAAALV22", 0, "0 2 0 40000"),
+        ("240:00:29 recall TX2 AM09 from AAAALV22", 0, "1 5 1 10000"),
+        ("480:00:29 return TX2 from BBBBLV22 EUR 99.00", 0, "0 6 1 9900"),
+        closed=("0 59900 0 0", "1 40100 0 0"),
+    )
+
+
+def late_day(text=None):
+    file, printed = late()
+    return history.read("late", file, printed if text is None else text)
 
 
 def changed(text, line, other):

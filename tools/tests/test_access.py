@@ -158,7 +158,13 @@ class Contrast(Access):
         grounds = []
         for scheme in ("light", "dark"):
             self.browser.scheme(scheme)
-            places = (("tampered", "#t10", 1280), ("busy", "#p0", 360), ("part", "#o0", 1280), ("refused", "", 1280))
+            places = (
+                ("tampered", "#t10", 1280),
+                ("busy", "#p0", 360),
+                ("part", "#o0", 1280),
+                ("late", "#o0", 360),
+                ("refused", "", 1280),
+            )
             for name, where, width in places:
                 self.browser.size(width, 900)
                 self.open(name, where)
@@ -223,7 +229,7 @@ SMALL = """(() => {
 class Targets(Access):
     def test_targets_on_a_phone_are_not_too_small(self):
         self.browser.size(360, 800)
-        for name, least in (("tampered", 500), ("part", 100), ("big", 500), ("full", 500)):
+        for name, least in (("tampered", 500), ("part", 100), ("late", 100), ("big", 500), ("full", 500)):
             self.open(name)
             self.js(UNFOLD)
             found = self.js(SMALL)

@@ -8,7 +8,7 @@ from zolfigar import audit, history, journal, page, terminal
 
 
 def any_line(rng):
-    number = lambda: str(rng.choice((0, 0, 1, 1, 2, 3, 4, 5, 10, 11, 18, 400, 65535, 2**64)))
+    number = lambda: str(rng.choice((0, 0, 1, 1, 2, 3, 4, 5, 10, 11, 18, 26, 400, 65535, 2**64)))
     letter = rng.choice("TTTRRRC")
     return " ".join([letter] + [number() for _ in range(4)])
 

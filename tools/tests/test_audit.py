@@ -61,7 +61,7 @@ TAMPERED = [
         "T 0 0 0 0",
         "T 0 4 0 0",
         [
-            "ticket 0 has refusal 4, and the program gives a ticket 0 or 7 to 22",
+            "ticket 0 has refusal 4, and the program gives a ticket 0, 7 to 22 or 26",
             "AAAALV22XXX: ticket 1 takes available to -4.00",
             "AAAALV22XXX: ticket 2 takes available to -4.00",
             "AAAALV22XXX: available adds up to -4.00, and the output closes it at 6.00",
@@ -127,6 +127,29 @@ TAMPERED = [
     ),
 ]
 
+# The same of the day with late recalls.
+TAMPERED_LATE = [
+    (
+        "T 7 26 0 0",
+        "T 7 0 1 0\nR 1 5 0 40000",
+        ["ticket 7 was accepted, and recalls order 0 (TX1) 864,001 seconds after its settlement: 26 turns that back"],
+    ),
+    (
+        "T 9 0 1 0",
+        "T 9 26 1 0",
+        [
+            "ticket 9: a report 5 comes from a ticket that doesn't bring it",
+            "ticket 9 was turned back by 26, and recalls order 1 (TX2) 863,999 seconds after its settlement: that is in time",
+            "ticket 10 was accepted, and no recall of order 1 (TX2) was accepted before: 18 turns that back",
+        ],
+    ),
+    (
+        "T 8 0 1 0",
+        "T 8 0 2 0\nR 1 8 0 40000",
+        ["ticket 8 has a report 8, and no recall of order 0 (TX1) was accepted before"],
+    ),
+]
+
 
 def tampered(name, line, other):
     return audit.problems(scenes.day(name, scenes.changed(scenes.output(name), line, other)))
@@ -137,11 +160,11 @@ def with_late_yes():
     return audit.problems(history.read("case-e", scenes.day_file("case-e"), scenes.output("case-d")))
 
 
-def numbers_changed(name):
-    """An example's output with one number of one line one higher or one lower, for each of them. Before it what was changed:
-    the kind of the line's ticket, the place in the line, the line, the new one."""
-    lines, kind = scenes.output(name).split("\n"), 0
-    kinds = [event.ticket["kind"] for event in scenes.day(name).events]
+def numbers_changed(day, text):
+    """A day's output with one number of one line one higher or one lower, for each of them. Before it what was changed: the
+    kind of the line's ticket, the place in the line, the line, the new one."""
+    lines, kind = text.split("\n"), 0
+    kinds = [event.ticket["kind"] for event in day.events]
     for at, line in enumerate(lines):
         letter, *words = line.split(" ")
         kind = kinds[int(words[0])] if letter == "T" else kind
@@ -172,6 +195,9 @@ class Audit(unittest.TestCase):
         for name, line, other, said in TAMPERED:
             with self.subTest(line=line, other=other):
                 self.assertEqual(tampered(name, line, other), said)
+        for line, other, said in TAMPERED_LATE:
+            with self.subTest(line=line, other=other):
+                self.assertEqual(audit.problems(scenes.late_day(scenes.changed(scenes.late()[1], line, other))), said)
 
     def test_a_late_yes_that_counts(self):
         self.assertIn("ticket 2 must let order 0 (TX1) expire, 20 seconds after it, and doesn't", with_late_yes())
@@ -179,7 +205,7 @@ class Audit(unittest.TestCase):
     def test_each_number_of_the_busy_day(self):
         """What is not noticed is what is out of sight, and all of it."""
         tried = unseen = 0
-        for change, text in numbers_changed("busy"):
+        for change, text in numbers_changed(scenes.day("busy"), scenes.output("busy")):
             tried += 1
             is_unseen = not audit.problems(scenes.day("busy", text))
             unseen += is_unseen
@@ -189,16 +215,25 @@ class Audit(unittest.TestCase):
 
     def test_each_number_of_a_day_with_a_part_returned(self):
         """Of its reports all is noticed, a 7 that an inquiry is told for the 6 too: it would carry the order's amount."""
-        for change, text in numbers_changed("part-return"):
+        for change, text in numbers_changed(scenes.day("part-return"), scenes.output("part-return")):
             is_unseen = not audit.problems(scenes.day("part-return", text))
             self.assertEqual(is_unseen, is_out_of_sight(*change) and change[2].startswith("T "), change)
 
+    def test_each_number_of_a_day_with_late_recalls(self):
+        """All of a 26 is noticed."""
+        tried = 0
+        for change, text in numbers_changed(scenes.late_day(), scenes.late()[1]):
+            tried += change[2].split(" ")[2] == "26"
+            self.assertEqual(not audit.problems(scenes.late_day(text)), is_out_of_sight(*change), change)
+        self.assertEqual(tried, 13)
+
     def test_each_line_taken_out_or_doubled(self):
-        for name in ("busy", "part-return"):
-            lines = scenes.output(name).splitlines(keepends=True)
+        days = [(scenes.day_file(name), scenes.output(name)) for name in ("busy", "part-return")]
+        for file, output in (*days, scenes.late()):
+            lines = output.splitlines(keepends=True)
             for at, line in enumerate(lines):
                 for text in (lines[:at] + lines[at + 1 :], lines[: at + 1] + lines[at:]):
-                    self.assertTrue(audit.problems(scenes.day(name, "".join(text))), line)
+                    self.assertTrue(audit.problems(history.read("changed", file, "".join(text))), line)
 
 
 TX1 = "about order 0 (TX1)"
@@ -290,6 +325,205 @@ class Returns(unittest.TestCase):
         text = scenes.changed(scenes.changed(text, "C 0 99900 0 0", "C 0 100000 0 0"), "C 1 100 0 0", "C 1 0 0 0")
         found = audit.problems(scenes.day("part-return", text))
         self.assertEqual(found, ["order 0 (TX1) is returned more than once: at tickets 4, 6"])
+
+
+TOP = 2**32 - 1
+TX2 = f"order TX2 from AAAALV22 to BBBBLV22 EUR 50.00 {scenes.IBAN}"
+
+
+def recall(time, refusal, *reports):
+    """A recall of TX1 by its payer, with its refusal and its reports; its own if it has none."""
+    told = reports or (() if refusal else ("1 5 0 40000",))
+    return f"{time} recall TX1 FRAD from AAAALV22", refusal, *told
+
+
+COVER = ("0 cover-in from AAAALV22 EUR 1000.00", 0)
+ORDER = (f"5 order TX1 from AAAALV22 to BBBBLV22 EUR 400.00 {scenes.IBAN}", 0, "1 1 0 40000")
+LINKED_YES = ("900000 answer TX1 yes from BBBBLV22", 0, "0 2 0 40000")
+BACK = ("0 100000 0 0", "1 0 0 0")  # closing positions where the payer has its cover again
+
+
+def problems(*steps, **how):
+    """What is said of an order of 400.00 and what comes behind it."""
+    return audit.problems(history.read("ordered", *scenes.stepped(COVER, ORDER, *steps, **how)))
+
+
+def in_time(ticket, seconds):
+    told = f"ticket {ticket} was turned back by 26, and recalls order 0 (TX1)"
+    return [f"{told} {seconds:,} seconds after its settlement: that is in time"]
+
+
+def too_late(became, seconds):
+    return [f"{became}, and recalls order 0 (TX1) {seconds:,} seconds after its settlement: 26 turns that back"]
+
+
+class Recalls(unittest.TestCase):
+    """An order of 400.00 that ticket 2 settles, in second 24 unless said otherwise, and tickets from 3 on: what is said of the
+    right output, and of others."""
+
+    def said(self, *steps, **how):
+        return audit.problems(history.read("settled", *scenes.settled(*steps, **how)))
+
+    def test_the_last_moment(self):
+        for seconds in (0, 1, 863_998, 863_999):
+            self.assertEqual(self.said(recall(24 + seconds, 0)), [])
+            self.assertEqual(self.said(recall(24 + seconds, 26)), in_time(3, seconds))
+
+    def test_from_864_000_seconds_on(self):
+        for seconds in (864_000, 864_001, 100_000_000):
+            self.assertEqual(self.said(recall(24 + seconds, 26)), [])
+            self.assertEqual(self.said(recall(24 + seconds, 0)), too_late("ticket 3 was accepted", seconds))
+            for other in (12, 16, 17, 18, 19, 22):
+                found = self.said(recall(24 + seconds, other))
+                self.assertEqual(found, too_late(f"ticket 3 was turned back by {other}", seconds))
+
+    def test_what_7_to_11_turn_back_is_not_looked_at(self):
+        for refusal in range(7, 12):
+            self.assertEqual(self.said(recall(864_024, refusal)), [])
+
+    def test_before_the_clock(self):
+        """A recall timed before the clock is for 11, though its own time is late."""
+        tick = ("900000 tick", 0)
+        self.assertEqual(self.said(tick, recall(890_000, 11)), [])
+        for refusal in (0, 18):
+            self.assertNotIn("26 turns that back", " ".join(self.said(tick, recall(890_000, refusal))))
+        first = "ticket 4 was turned back by 26, and its time is before the clock: 11 comes first"
+        self.assertIn(first, self.said(tick, recall(890_000, 26)))
+        self.assertEqual(self.said(tick, recall(900_000, 26)), [])
+
+    def test_counted_from_the_settlement(self):
+        """The order waits for a linked system, longer than a recall may take."""
+        waited = {"kind": "linked", "ordered": 5, "at": 2_000_000}
+        self.assertEqual(self.said(recall(2_000_000, 26), **waited), in_time(3, 0))
+        self.assertEqual(self.said(recall(2_863_999, 26), **waited), in_time(3, 863_999))
+        self.assertEqual(self.said(recall(2_863_999, 0), **waited), [])
+        self.assertEqual(self.said(recall(2_864_000, 26), **waited), [])
+        self.assertEqual(self.said(recall(2_864_000, 0), **waited), too_late("ticket 3 was accepted", 864_000))
+
+    def test_near_the_top_of_32_bits(self):
+        """A settlement 864,000 seconds before the last second has one late moment, a later one has none."""
+        self.assertEqual(self.said(recall(TOP, 26), at=4_294_103_295), [])
+        self.assertEqual(self.said(recall(TOP, 0), at=4_294_103_295), too_late("ticket 3 was accepted", 864_000))
+        self.assertEqual(self.said(recall(TOP - 1, 0), at=4_294_103_295), [])
+        for at, seconds in ((4_294_103_296, 863_999), (4_294_103_297, 863_998), (TOP, 0)):
+            self.assertEqual(self.said(recall(TOP, 0), at=at), [])
+            self.assertEqual(self.said(recall(TOP, 26), at=at), in_time(3, seconds))
+            self.assertEqual(self.said(recall(at, 26), at=at), in_time(3, 0))
+
+    def test_18_comes_first(self):
+        """Of an order that is asked, declined or returned."""
+        asked = [recall(864_023, 0)]
+        declined = [*asked, ("864023 decline TX1 CUST from BBBBLV22", 0, "0 7 0 40000")]
+        returned = [*asked, ("864023 return TX1 from BBBBLV22 EUR 400.00", 0, "0 6 0 40000")]
+        for before, closed in ((asked, scenes.PAID), (declined, scenes.PAID), (returned, BACK)):
+            self.assertEqual(self.said(*before, recall(864_024, 18), closed=closed), [])
+            due = f"ticket {3 + len(before)} was turned back by 26, and ticket 3 recalled order 0 (TX1): 18 comes first"
+            self.assertEqual(self.said(*before, recall(864_024, 26), closed=closed), [due])
+
+    def test_18_comes_first_of_an_order_that_is_not_settled(self):
+        """It waits, is refused, has expired, or is settled later."""
+        no = ("6 answer TX1 no from BBBBLV22", 0, "0 3 0 40000")
+        expired = ("25 tick", 0, "0 4 0 40000", "1 4 0 40000")
+        cases = (
+            ("linked", (), (), ("0 60000 40000 0", "1 0 0 0")),
+            ("bank", (no,), (), BACK),
+            ("bank", (expired,), (), BACK),
+            ("linked", (), (LINKED_YES,), scenes.PAID),
+        )
+        for kind, before, after, closed in cases:
+            told = f"ticket {2 + len(before)} was turned back by 26, and order 0 (TX1) is not settled: 18 comes first"
+            for refusal, due in ((18, []), (26, [told])):
+                found = problems(*before, recall(900_000, refusal), *after, kind=kind, closed=closed)
+                self.assertEqual(found, due, (kind, before, after))
+
+    def test_12_16_and_17_come_first(self):
+        cases = {
+            "TX1 FRAD from ZZZZLV22": (12, "its sender is no participant: 12 comes first"),
+            "TX9 FRAD from ZZZZLV22": (12, "its sender is no participant: 12 comes first"),
+            "TX9 FRAD from AAAALV22": (16, "no order has its TxId: 16 comes first"),
+            "TX1 FRAD from BBBBLV22": (17, "its sender is not the payer of order 0 (TX1): 17 comes first"),
+        }
+        for words, (first, why) in cases.items():
+            self.assertEqual(self.said((f"864024 recall {words}", first)), [])
+            found = self.said((f"864024 recall {words}", 26))
+            self.assertEqual(found, [f"ticket 3 was turned back by 26, and {why}"])
+
+    def test_nothing_but_a_recall_comes_too_late(self):
+        """Neither a return nor a decline of an order that was recalled in time, nor any other ticket."""
+        lines = ["return TX1 from BBBBLV22 EUR 400.00", "decline TX1 CUST from BBBBLV22", "inquiry TX1 from AAAALV22"]
+        lines += ["answer TX1 yes from BBBBLV22", TX2, "cover-in from AAAALV22 EUR 1.00", "cut", "tick"]
+        for line in lines:
+            found = self.said(recall(864_023, 0), (f"864024 {line}", 26))
+            self.assertEqual(found, ["ticket 4 was turned back by 26, and is no recall"])
+
+    def test_the_answer_to_a_recall_has_no_limit(self):
+        for time in (864_024, 1_728_023, TOP):
+            asked = recall(864_023, 0)
+            self.assertEqual(self.said(asked, (f"{time} decline TX1 CUST from BBBBLV22", 0, "0 7 0 40000")), [])
+            back = (f"{time} return TX1 from BBBBLV22 EUR 400.00", 0, "0 6 0 40000")
+            self.assertEqual(self.said(asked, back, closed=BACK), [])
+
+    def test_a_late_recall_marks_nothing(self):
+        """Another gets 26 again, an inquiry tells the payer alone, and neither a return nor a decline is accepted."""
+        late = recall(864_024, 26)
+        lines = ("decline TX1 CUST from BBBBLV22", "return TX1 from BBBBLV22 EUR 400.00")
+        self.assertEqual(self.said(late, recall(864_024, 26), recall(864_025, 26)), [])
+        self.assertEqual(self.said(late, ("864025 inquiry TX1 from AAAALV22", 0, "0 2 0 40000")), [])
+        self.assertEqual(self.said(late, *((f"864025 {line}", 18) for line in lines)), [])
+
+    def test_a_late_recall_that_marks(self):
+        late, none = recall(864_024, 26), "no recall of order 0 (TX1) was accepted before"
+        found = self.said(late, recall(864_025, 18))
+        self.assertEqual(found, too_late("ticket 4 was turned back by 18", 864_001))
+        for to, code in ((1, 8), (0, 7)):
+            found = self.said(late, ("864025 inquiry TX1 from AAAALV22", 0, "0 2 0 40000", f"{to} {code} 0 40000"))
+            self.assertEqual(found, [f"ticket 4 has a report {code}, and {none}"])
+        found = self.said(late, ("864025 decline TX1 CUST from BBBBLV22", 0, "0 7 0 40000"))
+        self.assertEqual(found, [f"ticket 4 was accepted, and {none}: 18 turns that back"])
+        back = ("864025 return TX1 from BBBBLV22 EUR 400.00", 0, "0 6 0 40000")
+        found = self.said(late, back, closed=BACK)
+        self.assertEqual(found, [f"ticket 4 was accepted, and {none}: 18 turns that back"])
+
+    def test_an_8_about_a_waiting_order_needs_no_recall(self):
+        """It goes to a linked system, whose answer to the order itself is due; a 7 needs one."""
+        asked = ("900000 inquiry TX1 from AAAALV22", 0, "1 8 0 40000")
+        self.assertEqual(problems(asked, LINKED_YES, kind="linked"), [])
+        told = ("900000 inquiry TX1 from AAAALV22", 0, "0 7 0 40000")
+        due = "ticket 2 has a report 7, and no recall of order 0 (TX1) was accepted before"
+        self.assertEqual(problems(told, LINKED_YES, kind="linked"), [due])
+
+    def test_it_leaves_what_a_tick_leaves(self):
+        """The clock moves: an order whose 20 seconds are over expires, and another doesn't."""
+        ends, waits = ("0 4 1 5000", "1 4 1 5000"), ("0 55000 5000 0", "1 40000 0 0")
+        ordered = lambda time: (f"{time} {TX2}", 0, "1 1 1 5000")
+        self.assertEqual(self.said(ordered(864_004), recall(864_024, 26, *ends)), [])
+        self.assertEqual(self.said(ordered(864_005), recall(864_024, 26), closed=waits), [])
+        found = self.said(ordered(864_004), recall(864_024, 26), closed=waits)
+        due = "ticket 4 must let order 1 (TX2) expire, 20 seconds after it, and doesn't"
+        self.assertEqual(found, [due])
+        found = self.said(ordered(864_004), recall(864_024, 26), ("864024 tick", 0, *ends))
+        self.assertEqual(found, ["ticket 5 lets order 1 (TX2) expire 20 seconds after it, and must not"])
+        found = self.said(ordered(864_005), recall(864_024, 26, *ends))
+        self.assertEqual(found, ["ticket 4 lets order 1 (TX2) expire 19 seconds after it, and must not"])
+
+    def test_it_tells_nothing_but_expiries(self):
+        for code, to in ((2, 0), (5, 1), (7, 0), (8, 1)):
+            found = self.said(recall(864_024, 26, f"{to} {code} 0 40000"))
+            self.assertIn(f"ticket 3: a report {code} comes from a ticket that doesn't bring it", found)
+
+    def test_one_who_pays_itself(self):
+        order = (f"5 order TX1 from AAAALV22 to AAAALV22 EUR 400.00 {scenes.IBAN}", 0, "0 1 0 40000")
+        yes = ("24 answer TX1 yes from AAAALV22", 0, "0 2 0 40000", "0 2 0 40000")
+        said = lambda step: audit.problems(history.read("itself", *scenes.stepped(COVER, order, yes, step, closed=BACK)))
+        self.assertEqual(said(recall(864_023, 0, "0 5 0 40000")), [])
+        self.assertEqual(said(recall(864_024, 26)), [])
+        self.assertEqual(said(recall(864_024, 0, "0 5 0 40000")), too_late("ticket 3 was accepted", 864_000))
+
+    def test_a_messages_refusal_is_no_tickets(self):
+        for refusal in (23, 24, 25, 27):
+            found = self.said(recall(24, refusal))
+            due = f"ticket 3 has refusal {refusal}, and the program gives a ticket 0, 7 to 22 or 26"
+            self.assertEqual(found, [due])
 
 
 if __name__ == "__main__":

@@ -155,6 +155,20 @@ class Shown(unittest.TestCase):
         self.assertEqual(told, [(4, 39900), (5, 39900), (11, 10000)])
         self.assertEqual([position.available for position in day.positions], [99900, 100])
 
+    def test_late_recall(self):
+        """In the last second, in the one behind it, and of an order that waited; return and decline more than ten days later."""
+        day = scenes.day("late-recall")
+        recalls = [event for event in day.events if event.ticket["kind"] == 5]
+        found = [(event.number, event.time - day.orders[event.order].ended.time, event.refusal) for event in recalls]
+        self.assertEqual(found, [(6, 863999, 0), (7, 864000, 26), (10, 259200, 0)])
+        self.assertGreater(recalls[2].time - day.orders[2].time, 864000)
+        self.assertEqual([(report.to, report.code) for report in day.events[8].reports], [(0, 2)])
+        answers = [(day.events[11], recalls[0]), (day.events[12], recalls[2])]
+        self.assertEqual([(event.ticket["kind"], event.refusal) for event, _ in answers], [(6, 0), (7, 0)])
+        for event, recall in answers:
+            self.assertEqual(event.order, recall.order)
+            self.assertGreater(event.time - recall.time, 864000)
+
     def test_messages(self):
         """Two orders that settle, and the first once more."""
         day = scenes.day("messages")

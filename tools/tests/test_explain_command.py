@@ -64,6 +64,23 @@ class Command(unittest.TestCase):
     def test_the_output_of_another_day(self):
         self.assertEqual(self.explain("case-d.bin", "busy.out").returncode, 1)
 
+    def test_late_recalls(self):
+        """As the program turns them back, and as if a recall had still counted."""
+        file, output = scenes.late()
+        counted = scenes.changed(output, "T 7 26 0 0", "T 7 0 1 0\nR 1 5 0 40000")
+        for name, data in (("late.bin", file), ("recalls.out", output.encode()), ("counted.out", counted.encode())):
+            files.write(self.path(name), data)
+        ran = self.explain("late.bin", "recalls.out", "--order", "TX1")
+        self.assertEqual((ran.returncode, ran.stderr), (0, ""))
+        self.assertEqual(ran.stdout.count("too late: settled at 00:00:24, the last moment was 240:00:23"), 2)
+        for words in ((), ("--order", "TX1"), ("--journal", "-")):
+            ran = self.explain("late.bin", "counted.out", *words)
+            self.assertEqual(ran.returncode, 1)
+            told = (
+                "ticket 7 was accepted, and recalls order 0 (TX1) 864,001 seconds after its settlement: 26 turns that back"
+            )
+            self.assertIn(told, ran.stderr if "--journal" in words else ran.stdout)
+
     def test_a_refused_file(self):
         ran = self.explain("refused-2.bin", "refused-2.out")
         self.assertEqual(ran.returncode, 0)

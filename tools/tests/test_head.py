@@ -4,7 +4,7 @@ import unittest
 
 from tests import pages, scenes
 from tests.pages import FOCUS, PAGES, READ, example, leads_of, words_of
-from tests.test_audit import TAMPERED
+from tests.test_audit import TAMPERED, TAMPERED_LATE
 from zolfigar import audit, history, page
 from zolfigar.page import head
 
@@ -30,6 +30,8 @@ def tampered():
     """The samples of the audit's tests: each day with the sentences that are said of it."""
     for name, line, other, said in TAMPERED:
         yield scenes.day(name, scenes.changed(scenes.output(name), line, other)), said
+    for line, other, said in TAMPERED_LATE:
+        yield scenes.late_day(scenes.changed(scenes.late()[1], line, other)), said
 
 
 def linked(day, sentence):

@@ -77,6 +77,27 @@ class Returns(unittest.TestCase):
             self.assertEqual([after for _, after in day.statement(0)][-1], (100000, 0, 0))
 
 
+class Recalls(unittest.TestCase):
+    def test_an_order_knows_its_recalls(self):
+        """Those that were accepted, and those that came too late; one that 18 turned back is neither."""
+        known = lambda day: [[[e.number for e in found] for found in (o.recalls, o.late_recalls)] for o in day.orders]
+        self.assertEqual(known(scenes.late_day()), [[[], [6, 7]], [[9], []], [[], []]])
+        busy = {o.txid: (len(o.recalls), len(o.late_recalls)) for o in scenes.day("busy").orders if o.recalls}
+        self.assertEqual(busy, {"SALARY-1": (1, 0), "INVOICE-3": (1, 0), "IN-TIME": (1, 0)})
+
+    def test_what_settled_it(self):
+        """Known behind it alone; an order that ended otherwise is never settled."""
+        day = scenes.late_day()
+        found = [[order.settled_before(event) for event in day.events] for order in day.orders]
+        yes, later = day.events[2], day.events[4]
+        self.assertEqual(found, [[None] * 3 + [yes] * 8, [None] * 5 + [later] * 6, [None] * 11])
+
+    def test_a_late_recall_sets_the_clock(self):
+        day = scenes.late_day()
+        self.assertTrue(day.events[6].sets_clock())
+        self.assertEqual((day.orders[2].ended.number, day.orders[2].code), (6, 4))
+
+
 class Files(unittest.TestCase):
     def test_a_refused_file(self):
         for number, name in enumerate(scenes.REFUSED, 1):

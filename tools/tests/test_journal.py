@@ -96,6 +96,19 @@ class Entries(unittest.TestCase):
         whole += "    cover:AAAALV22XXX:available                             EUR 100.00"
         self.assertEqual([entry for entry in entries if " returned, " in entry], [part, whole])
 
+    def test_a_late_recall_moves_nothing(self):
+        """Of its ticket there is what expired then alone; dates go on, and hledger finds the closing positions."""
+        text = journal.journal(scenes.late_day())
+        entries = [entry.split("\n")[0] for entry in text.split("\n\n")]
+        due = [
+            "2000-01-11 * (5) AAAALV22 | order 2 TX3 reserved, for BBBBLV22  ; time: 00:00:04",
+            "2000-01-11 * (6) AAAALV22 | order 2 TX3 expired, freed  ; time: 00:00:24",
+            "2000-01-21 * (10) BBBBLV22 | order 1 TX2 returned, to AAAALV22: 99.00 of 100.00, charge 1.00  ; time: 00:00:29",
+        ]
+        self.assertEqual(entries[-4:-1], due)
+        found = balances(text)
+        self.assertEqual([found[f"cover:{bic}XXX:available"] for bic in ("AAAALV22", "BBBBLV22")], [59900, 40100])
+
     def test_dates_go_on_behind_midnight(self):
         self.assertEqual(journal.date_of(journal.DATE, 86399), "2000-01-01")
         self.assertEqual(journal.date_of(journal.DATE, 86400), "2000-01-02")

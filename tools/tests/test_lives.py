@@ -63,6 +63,24 @@ class Lives(unittest.TestCase):
         why = "19 XT77: the return is above the order"
         self.assertEqual(told, [f"2,400 s: a ticket turned back, ticket 10 (return): {why}"])
 
+    def test_a_late_recall(self):
+        """The settlement with its time, each late recall with its reason, and no sign of a recall; an order that expires there."""
+        first, _, expired = scenes.late_day().orders
+        why = "26 XT86: the recall is too late: settled at 00:00:24, the last moment was 240:00:23"
+        due = [
+            "19 s: settled at 00:00:24, ticket 2 (answer yes)",
+            f"864,019 s: a ticket turned back, ticket 6 (recall FRAD): {why}",
+            f"864,020 s: a ticket turned back, ticket 7 (recall TECH): {why}",
+            "864,021 s: inquiry, ticket 8 (inquiry)",
+        ]
+        self.assertEqual([mark.words for mark in lives.marks_of(first)], due)
+        self.assertEqual([mark.words for mark in lives.marks_of(expired)], ["20 s: expired, ticket 6 (recall FRAD)"])
+
+    def test_a_recall_in_time_and_its_return(self):
+        marks = lives.marks_of(scenes.late_day().orders[1])
+        due = [("settled", 4), ("recall", 864_003), ("return", 1_728_003)]
+        self.assertEqual([(mark.sign, mark.age) for mark in marks], due)
+
     def test_a_ticket_that_is_no_end_and_does_not_name_the_order(self):
         text = scenes.changed(scenes.output("busy"), "T 48 0 0 0", "T 48 0 1 0\nR 1 1 0 4000")
         order = scenes.day("busy", text).orders[0]

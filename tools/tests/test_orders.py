@@ -24,8 +24,8 @@ class Words(unittest.TestCase):
             "RENT-7": "refused after 10 s",
             "GIFT": "expired after 20 s",
             "IN-TIME": "settled after 19 s",
-            "TO-FI-1": "settled after 120 s no limit: linked system",
-            "TO-FI-3": "waiting no limit: linked system",
+            "TO-FI-1": "settled after 120 s no 20 s limit: linked system",
+            "TO-FI-3": "waiting no 20 s limit: linked system",
         }
         for txid, words in cases.items():
             self.assertEqual(words_of(*orders.status_words(self.day, self.orders[txid])), words)
@@ -51,6 +51,24 @@ class Words(unittest.TestCase):
         day = scenes.day("part-return")
         order = dataclasses.replace(day.orders[0], ended=None, code=None)
         self.assertEqual(words_of(*orders.status_words(day, order)), f"returned {PART}")
+
+    def test_a_late_recall(self):
+        """The order stays settled, which leads to the first recall that came too late."""
+        day, late = scenes.late_day(), "not recalled: too late"
+        words = [orders.status_words(day, order) for order in day.orders]
+        due = [
+            f"settled after 19 s, {late}",
+            "settled after 4 s, returned 99.00 of 100.00, charge 1.00",
+            "expired after 20 s",
+        ]
+        self.assertEqual([words_of(*found) for found in words], due)
+        self.assertEqual(leads_of(*words[0]), [(late, "#t6")])
+
+    def test_a_late_recall_of_an_order_to_a_linked_system(self):
+        late = ("2864000 recall TX1 FRAD from AAAALV22", 26)
+        day = history.read("linked", *scenes.settled(late, at=2_000_000, ordered=5, kind="linked"))
+        words = words_of(*orders.status_words(day, day.orders[0]))
+        self.assertEqual(words, "settled after 1,999,995 s, not recalled: too late no 20 s limit: linked system")
 
     def test_payee(self):
         cases = {"SALARY-1": "BBBBLV22", "IN-TIME": "BBBBLV22 for BBBBLV22RIX", "TO-FI-1": "RTONFRPP for EEEEFIHH"}
@@ -86,12 +104,22 @@ class Seen(pages.InBrowser):
             self.browser.click("#o0 .status + a")
             self.assertEqual(self.js(FOCUS), "t4")
 
+    def test_a_late_recall_is_told_and_leads_to_its_reason(self):
+        for width in (1280, 360):
+            self.browser.size(width, 900)
+            self.open("late")
+            self.assertEqual(self.texts("#o0 td:nth-child(6)"), ["settled after 19 s, not recalled: too late"])
+            self.browser.click("#o0 .after + a")
+            self.assertEqual(self.js(FOCUS), "t6")
+            why = "26 XT86: the recall is too late: settled at 00:00:24, the last moment was 240:00:23"
+            self.assertEqual(self.texts("#t6 .outcome"), [f"turned back, {why}"])
+
     def test_marks_lead_to_their_tickets(self):
         self.open("busy")
         self.browser.click("#o4 .sign.decline")
         self.assertEqual(self.js(FOCUS), "t25")
-        self.assertIn("no limit", self.texts("#o5 td:nth-child(6)")[0])
-        self.assertNotIn("no limit", self.texts("#o4 td:nth-child(6)")[0])
+        self.assertIn("no 20 s limit", self.texts("#o5 td:nth-child(6)")[0])
+        self.assertNotIn("no 20 s limit", self.texts("#o4 td:nth-child(6)")[0])
 
 
 if __name__ == "__main__":

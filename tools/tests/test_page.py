@@ -159,7 +159,7 @@ class Seen(pages.InBrowser):
     # The figures
 
     def test_figures_are_those_of_the_output(self):
-        for name in ("case D", "busy", "part", "big", "full"):
+        for name in ("case D", "busy", "part", "late", "big", "full"):
             _, file, output = DAYS[name]
             refusals, reports, positions = printed(output)
             self.open(name)
@@ -233,7 +233,7 @@ class Seen(pages.InBrowser):
             const shown = boxes.filter(box => box.width).sort((one, other) => one.left - other.left);
             return shown.filter((box, n) => n && box.left < shown[n - 1].right + 2).map(() => drawing.getAttribute("aria-label"));
         })"""
-        for name in ("case D", "busy", "full", "long"):
+        for name in ("case D", "busy", "full", "late", "long"):
             self.open(name)
             for width in (360,) if name == "full" else (360, 1140, 1280):
                 self.browser.size(width, 900)

@@ -3,7 +3,7 @@
 import unittest
 
 from tests import scenes
-from zolfigar import telling
+from zolfigar import history, telling
 
 
 class Telling(unittest.TestCase):
@@ -23,29 +23,31 @@ class Telling(unittest.TestCase):
             38: "turned back, 21: somebody has held cover or an open debit",
             41: "turned back, 21: the sender has neither held cover nor an open debit, or the amount is not as it must be",
         }
-        self.assertEqual({n: telling.outcome(self.day.events[n]) for n in cases}, cases)
+        self.assertEqual({n: telling.outcome(self.day, self.day.events[n]) for n in cases}, cases)
 
     def test_every_refusal_is_told_with_its_code(self):
-        events = scenes.day("turned-back").events
-        told = {event.refusal: telling.outcome(event).split(":")[0] for event in events if event.refusal}
+        day = scenes.day("turned-back")
+        told = {event.refusal: telling.outcome(day, event).split(":")[0] for event in day.events if event.refusal}
         self.assertEqual(sorted(told), list(range(7, 23)))
         self.assertEqual(told[15], "turned back, 15 TECH")
         self.assertEqual(told[22], "turned back, 22")
 
     def test_small_letters_of_an_iban_are_named(self):
-        told = [telling.outcome(event) for event in scenes.day("small-letters").events if event.refusal]
+        day = scenes.day("small-letters")
+        told = [telling.outcome(day, event) for event in day.events if event.refusal]
         wrong = "turned back, 8 XD19: the IBAN is wrong: "
         due = ["character 5, b, and 3 more are small letters", "character 21, a, is a small letter"]
         self.assertEqual(told, [wrong + letters for letters in due])
 
     def test_a_wrong_iban_without_small_letters(self):
-        told = [telling.outcome(event) for event in scenes.day("turned-back").events if event.refusal == 8]
+        day = scenes.day("turned-back")
+        told = [telling.outcome(day, event) for event in day.events if event.refusal == 8]
         self.assertEqual(told, ["turned back, 8 XD19: the IBAN is wrong"])
 
     def test_small_letters_are_told_of_no_other_refusal(self):
         small = scenes.output("small-letters").replace("T 2 8 0 0", "T 2 11 0 0")
-        event = scenes.day("small-letters", small).events[2]
-        self.assertEqual(telling.outcome(event), "turned back, 11 DT01: the time is before the clock")
+        day = scenes.day("small-letters", small)
+        self.assertEqual(telling.outcome(day, day.events[2]), "turned back, 11 DT01: the time is before the clock")
 
     def test_reports(self):
         told = [telling.report(self.day, report) for report in self.day.events[37].reports]
@@ -72,6 +74,8 @@ class Telling(unittest.TestCase):
     def test_one_who_is_no_participant(self):
         self.assertEqual(telling.member(self.day, 40), "participant 40")
 
+
+TOP = 2**32 - 1  # the last second that a ticket can have
 
 # Cents returned of an order of 400.00, and what is said behind a colon on both statements and behind returned of the order.
 PARTS = {
@@ -120,8 +124,8 @@ class Returns(unittest.TestCase):
 
     def test_a_return_above_its_order(self):
         """It is turned back; an output that takes it has no charge."""
-        events = scenes.day("part-return").events
-        self.assertEqual(telling.outcome(events[10]), "turned back, 19 XT77: the return is above the order")
+        day = scenes.day("part-return")
+        self.assertEqual(telling.outcome(day, day.events[10]), "turned back, 19 XT77: the return is above the order")
         [order] = scenes.returned_day(40001, to=0).orders
         self.assertEqual(telling.standing(order), "returned 400.01 of 400.00")
 
@@ -132,6 +136,65 @@ class Returns(unittest.TestCase):
         self.assertEqual(told, "to AAAALV22: the order is returned (6), order 99, EUR 39.99")
         moved = [telling.move(day, move) for move in day.moves if move.event.number == 22]
         self.assertEqual(moved, ["order 99 returned, to AAAALV22", "order 99 returned, from BBBBLV22"])
+
+
+WRONG = "turned back, 26 XT86: the recall is too late"
+
+
+class LateRecalls(unittest.TestCase):
+    def told(self, *steps, **how):
+        """What became of the last ticket behind a settled order."""
+        day = history.read("settled", *scenes.settled(*steps, **how))
+        return telling.outcome(day, day.events[-1])
+
+    def recall(self, time):
+        return f"{time} recall TX1 FRAD from AAAALV22", 26
+
+    def test_it_says_when_the_order_was_settled_and_until_when_it_could_be_recalled(self):
+        due = f"{WRONG}: settled at 00:00:24, the last moment was 240:00:23"
+        day = scenes.late_day()
+        self.assertEqual([telling.outcome(day, day.events[number]) for number in (6, 7)], [due, due])
+        self.assertEqual(self.told(self.recall(TOP)), due)
+
+    def test_it_is_counted_from_the_settlement(self):
+        due = f"{WRONG}: settled at 555:33:20, the last moment was 795:33:19"
+        self.assertEqual(self.told(self.recall(2_864_000), kind="linked", ordered=5, at=2_000_000), due)
+
+    def test_near_the_top_of_32_bits(self):
+        """The last settlement with a late moment, the next, whose last moment is the last second, and one beyond: a recall of
+        these is turned back by a wrong output alone."""
+        cases = {
+            4_294_103_295: "settled at 1192806:28:15, the last moment was 1193046:28:14",
+            4_294_103_296: "settled at 1192806:28:16, the last moment was 1193046:28:15",
+            4_294_103_297: "settled at 1192806:28:17, and no recall of it can be late",
+        }
+        for at, words in cases.items():
+            self.assertEqual(self.told(self.recall(TOP), at=at), f"{WRONG}: {words}")
+
+    def test_no_time_where_none_is_told(self):
+        """No order has the TxId, or none was settled by then: of a wrong output."""
+        self.assertEqual(self.told(("864024 recall TX9 FRAD from AAAALV22", 26)), WRONG)
+        steps = (f"5 order TX1 from AAAALV22 to BBBBLV22 EUR 400.00 {scenes.IBAN}", 0, "1 1 0 40000"), self.recall(900_000)
+        later = ("900000 answer TX1 yes from BBBBLV22", 0, "0 2 0 40000")
+        for more in ((), (later,)):
+            day = history.read("unsettled", *scenes.stepped(*steps, *more, kind="linked"))
+            self.assertEqual(telling.outcome(day, day.events[1]), WRONG)
+
+    def test_the_order_stays_settled(self):
+        day = scenes.late_day()
+        due = ["settled, not recalled: too late", "returned 99.00 of 100.00, charge 1.00", "expired"]
+        self.assertEqual([telling.standing(order) for order in day.orders], due)
+        self.assertEqual([telling.status(order) for order in day.orders], ["settled", "returned", "expired"])
+        counts = "11 tickets: 9 carried out, 2 turned back; 3 orders: 1 settled, 1 returned, 1 expired"
+        self.assertEqual(telling.summary(day), counts)
+
+    def test_an_order_that_was_recalled_in_time(self):
+        """Or that another ticket was turned back of: nothing more is said of it."""
+        asked = ("864023 recall TX1 FRAD from AAAALV22", 0, "1 5 0 40000")
+        back = ("864024 return TX1 from BBBBLV22 EUR 400.00", 26)
+        for steps in ((asked,), (asked, self.recall(864_024)), (asked, back), (back,)):
+            [order] = history.read("settled", *scenes.settled(*steps)).orders
+            self.assertEqual(telling.standing(order), "settled")
 
 
 if __name__ == "__main__":

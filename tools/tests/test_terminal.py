@@ -76,6 +76,27 @@ class Returned(unittest.TestCase):
         self.assertFalse([line for line in shown("busy") if "charge" in line])
 
 
+class LateRecalls(unittest.TestCase):
+    def shown(self, member=None, order=None):
+        day = scenes.late_day()
+        return list(terminal.lines(day, audit.problems(day), PLAIN, member, order))
+
+    def test_why_and_what_it_leaves(self):
+        """In the whole day, of the payer, who sent it, and of the order: the reason below the ticket, and the order settled."""
+        for member, order in ((None, None), (0, None), (None, scenes.late_day().orders[0])):
+            lines = self.shown(member, order)
+            self.assertEqual("\n".join(lines[lines.index(LATE[0]) :][: len(LATE)]), "\n".join(LATE))
+            [found] = [line.split() for line in lines if line.startswith("      0  TX1 ")]
+            self.assertEqual(" ".join(found[6:]), "settled, not recalled: too late 2 19 s")
+
+    def test_the_payee_sees_its_order_settled(self):
+        orders = [line.split()[6:11] for line in self.shown(member=1) if line.startswith("      0  TX1 ")]
+        self.assertEqual(orders, [["settled,", "not", "recalled:", "too", "late"]])
+
+    def test_it_adds_up(self):
+        self.assertEqual(self.shown()[1], "Everything adds up: every cover, every wait, every ending.")
+
+
 class Colour(unittest.TestCase):
     def test_only_where_it_is_wanted(self):
         day = scenes.day("case-e")
@@ -143,6 +164,20 @@ Cover of BBBBLV22 (participant 1, bank, no opening cover)
 PART_MOVED = """\
   09:10:00       4  BBBBLV22  order 0 TX1 returned, to AAAALV22: 399.00 of 400.00, charge 1.00      -399.00
   09:10:00       4  AAAALV22  order 0 TX1 returned, from BBBBLV22: 399.00 of 400.00, charge 1.00    +399.00"""
+
+
+LATE = """\
+    6 240:00:24  recall TX1 FRAD from AAAALV22
+                turned back, 26 XT86: the recall is too late: settled at 00:00:24, the last moment was 240:00:23
+                  to AAAALV22: the order has expired (4), order 2 TX3, EUR 50.00
+                  to BBBBLV22: the order has expired (4), order 2 TX3, EUR 50.00
+    7 240:00:25  recall TX1 TECH from AAAALV22
+                turned back, 26 XT86: the recall is too late: settled at 00:00:24, the last moment was 240:00:23
+    8 240:00:26  inquiry TX1 from AAAALV22
+                carried out
+                  to AAAALV22: the order is settled (2), order 0 TX1, EUR 400.00""".split(
+    "\n"
+)
 
 
 if __name__ == "__main__":

@@ -1,6 +1,7 @@
 import unittest
 
 from zolfigar import text
+from zolfigar.words import RECALL_LIMIT
 
 
 def parted(line):
@@ -46,6 +47,7 @@ class Values(unittest.TestCase):
     def test_times(self):
         for word, seconds in (("0", 0), ("00:00:05", 5), ("08:00:05", 28805), ("1:00:00", 3600), ("000001:59:59", 7199)):
             self.assertEqual(text.time(word), seconds)
+        self.assertEqual((text.time("08:00:24"), text.time("248:00:24")), (28824, 28824 + RECALL_LIMIT))
         for word in ("4294967295", "1193046:28:15", "0" * 5000 + "4294967295"):
             self.assertEqual(text.time(word), 2**32 - 1)
         self.refused(text.time, "4294967296", "1193046:28:16", "9" * 5000, "9" * 5000 + ":00:00")

@@ -36,6 +36,19 @@ class Rows(unittest.TestCase):
         moved = [words_of(item) for item in tickets.ticket_row(view, view.day.events[4])[5].iter("li")]
         self.assertEqual(moved, ["BBBBLV22: available -399.00", "AAAALV22: available +399.00"])
 
+    def test_a_late_recall(self):
+        """It says why it was turned back, and what the clock's move brought; the payee, who isn't told, finds it too."""
+        view = View(scenes.late_day())
+        row = tickets.ticket_row(view, view.day.events[6])
+        self.assertEqual([words_of(cell) for cell in row][:3], ["6", "240:00:24", "recall TX1 FRAD from AAAALV22 order 0"])
+        why = "26 XT86: the recall is too late: settled at 00:00:24, the last moment was 240:00:23"
+        self.assertEqual(words_of(row[3]), f"turned back, {why}")
+        told = "the order has expired (4), order 2 TX3, EUR 50.00"
+        self.assertEqual([words_of(item) for item in row[4].iter("li")], [f"to AAAALV22: {told}", f"to BBBBLV22: {told}"])
+        second = tickets.ticket_row(view, view.day.events[7])
+        self.assertEqual((words_of(second[3]), words_of(second[4])), (f"turned back, {why}", ""))
+        self.assertEqual((second.get("class"), second.get("data-members")), ("turned", "0 1"))
+
     def test_an_open_debit_moves_nothing_and_is_told(self):
         moved = [words_of(item) for item in self.row(37)[5].iter("li")]
         self.assertEqual(moved[1:], ["BBBBLV22: open debit 140.00", "DDDDEE2X: available -150.00, held +150.00"])

@@ -15,9 +15,9 @@ class Words(unittest.TestCase):
         self.assertEqual([kind for kind, listed in words.LISTED.items() if "flag" in listed], sorted(words.FLAGS))
 
     def test_refusals(self):
-        self.assertEqual(sorted(words.REFUSALS), list(range(1, 26)))
+        self.assertEqual(list(words.REFUSALS), [*range(1, 19), 26, *range(19, 26)])
         codes = {number: code for number, (code, _) in words.REFUSALS.items() if code}
-        due = "7 XT33 8 XD19 9 AM01 10 AM02 11 DT01 13 AM05 14 PY01 15 TECH 16 AG09 17 XT87 18 XT75 19 XT77 20 AM04".split()
+        due = "7 XT33 8 XD19 9 AM01 10 AM02 11 DT01 13 AM05 14 PY01 15 TECH 16 AG09 17 XT87 18 XT75 26 XT86 19 XT77 20 AM04".split()
         self.assertEqual(codes, dict(zip(map(int, due[::2]), due[1::2])))
 
     def test_reports(self):

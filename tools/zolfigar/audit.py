@@ -1,16 +1,16 @@
-"""What doesn't add up in a day as it was seen: the clauses of 01 'Demand 3, word by word' and what slip 2 of 02 says of
-returns, held against tickets, answers, reports and closing positions.
+"""What doesn't add up in a day as it was seen: the clauses of 01 'Demand 3, word by word', what slip 2 of 02 says of returns
+and slip 5 of recalls that come too late, held against tickets, answers, reports and closing positions.
 
-No rule of the book is recomputed: which refusal a ticket should have had, how many route rows it followed, how large an open
-debit is and what an inquiry should have told are not looked at. A problem is a sentence that names the ticket, the order or
-the participant."""
+Of the book's rules two are recomputed: when a recall comes too late, and that nothing answers a recall which was not accepted.
+Else which refusal a ticket should have had, how many route rows it followed, how large an open debit is and what an inquiry
+should have told are not looked at. A problem is a sentence that names the ticket, the order or the participant."""
 
 from collections.abc import Iterator
 
 from .figures import counted, euro
 from .history import Day, Event, Order
 from .output import Parts, Report
-from .words import CUT_REPORTS, ENDINGS, LIMIT, NO_ORDER
+from .words import CUT_REPORTS, ENDINGS, LIMIT, NO_ORDER, RECALL_LIMIT
 
 
 def problems(day: Day) -> list[str]:
@@ -101,10 +101,16 @@ def caused(day: Day) -> Iterator[str]:
 
 
 def refusals(day: Day) -> Iterator[str]:
-    """A ticket of a file that is not refused has refusal 0 or 7 to 22: 1 to 5 are a file's, 6 a short buffer's, 23 to 25 a message's."""
+    """A ticket of a file that is not refused has refusal 0, 7 to 22 or 26: 1 to 5 are a file's, 6 a short buffer's, 23 to 25 a
+    message's."""
     for event in day.events:
-        if event.refusal and not 7 <= event.refusal <= 22:
-            yield f"ticket {event.number} has refusal {event.refusal}, and the program gives a ticket 0 or 7 to 22"
+        if event.refusal not in (0, *range(7, 23), 26):
+            yield f"ticket {event.number} has refusal {event.refusal}, and the program gives a ticket 0, 7 to 22 or 26"
+
+
+def named(day: Day, event: Event) -> Order | None:
+    """The order that a ticket makes or names, if there is one."""
+    return None if event.order is None else day.orders[event.order]
 
 
 def answered(day: Day) -> Iterator[str]:
@@ -113,7 +119,7 @@ def answered(day: Day) -> Iterator[str]:
         side = {5: "payer", 8: "payer", 4: "payee", 6: "payee", 7: "payee"}.get(event.ticket["kind"])
         if event.refusal or side is None:
             continue
-        order = None if event.order is None else day.orders[event.order]
+        order = named(day, event)
         if order is None:
             yield f"ticket {event.number} was accepted, and no order has its TxId"
         elif event.sender != (order.payer if side == "payer" else order.payee):
@@ -214,6 +220,61 @@ def returns(day: Day) -> Iterator[str]:
                 yield f"{told} nothing of {name_of(order)}: 9 turns that back"
 
 
+def late_recall(order: Order | None, event: Event, clock: int) -> tuple[bool, str]:
+    """Whether a ticket is one that 26 turns back, given the order that it names and the clock before it; and why, or why not."""
+    settled = order.settled_before(event) if order else None
+    recall = next(iter(order.recalls), event) if order else event
+    is_late = False
+    if event.ticket["kind"] != 5:
+        why = "is no recall"
+    elif event.time < clock:
+        why = "its time is before the clock: 11 comes first"
+    elif event.sender is None:
+        why = "its sender is no participant: 12 comes first"
+    elif order is None:
+        why = "no order has its TxId: 16 comes first"
+    elif event.sender != order.payer:
+        why = f"its sender is not the payer of {name_of(order)}: 17 comes first"
+    elif settled is None:
+        why = f"{name_of(order)} is not settled: 18 comes first"
+    elif recall.number < event.number:
+        why = f"ticket {recall.number} recalled {name_of(order)}: 18 comes first"
+    else:
+        after = event.time - settled.time
+        is_late = after >= RECALL_LIMIT
+        why = f"recalls {name_of(order)} {after:,} seconds after its settlement: "
+        why += "26 turns that back" if is_late else "that is in time"
+    return is_late, why
+
+
+def late_recalls(day: Day) -> Iterator[str]:
+    """26 turns back the recalls that come too late and nothing else. What 6 to 11 turn back is not looked at, nor what 7 to 10
+    should have."""
+    clock = 0
+    for event in day.events:
+        if event.sets_clock():
+            is_late, why = late_recall(named(day, event), event, clock)
+            if is_late != (event.refusal == 26):
+                became = f"was turned back by {event.refusal}" if event.refusal else "was accepted"
+                yield f"ticket {event.number} {became}, and {why}"
+            clock = max(clock, event.time)
+
+
+def marked(day: Day) -> Iterator[str]:
+    """Before a recall of an order is accepted, no return and no decline of it is, and no 7 is told of it, nor an 8 once it is
+    settled: a recall that comes too late marks nothing."""
+    for order in day.orders:
+        first = order.recalls[0].number if order.recalls else len(day.events)
+        for event in (event for event in order.events if event.number < first):
+            marks = (7, 8) if order.settled_before(event) else (7,)
+            told = [report.code for report in event.reports if report.order == order.number and report.code in marks]
+            none = f"no recall of {name_of(order)} was accepted before"
+            if event.order == order.number and (event.is_accepted(6) or event.is_accepted(7)):
+                yield f"ticket {event.number} was accepted, and {none}: 18 turns that back"
+            elif told:
+                yield f"ticket {event.number} has a report {told[0]}, and {none}"
+
+
 def never_below(day: Day) -> Iterator[str]:
     """No part of a participant's cover is ever below zero."""
     for participant in day.participants:
@@ -253,6 +314,8 @@ CLAUSES = (
     repeated,
     alike,
     returns,
+    late_recalls,
+    marked,
     never_below,
     positions,
 )

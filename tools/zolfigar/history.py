@@ -73,6 +73,21 @@ class Order:
     def time(self) -> int:
         return self.event.time
 
+    def settled_before(self, event: Event) -> Event | None:
+        """The event that settled it, if that came before the event."""
+        return self.ended if self.ended and self.code == 2 and self.ended.number < event.number else None
+
+    @property
+    def recalls(self) -> list[Event]:
+        """The accepted recalls of it, of which there is one at most if all is right."""
+        return [event for event in self.events if event.is_accepted(5) and event.order == self.number]
+
+    @property
+    def late_recalls(self) -> list[Event]:
+        """The recalls of it that were turned back as too late."""
+        named = [event for event in self.events if event.order == self.number]
+        return [event for event in named if event.ticket["kind"] == 5 and event.refusal == 26]
+
     @property
     def returned(self) -> Event | None:
         """The accepted return of it, which has the returned amount; the first where there are several."""

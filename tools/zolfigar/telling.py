@@ -2,11 +2,11 @@
 
 from collections import Counter
 
-from .figures import counted, euro
+from .figures import clock, counted, euro
 from .history import TERMS, Day, Event, Move, Order
 from .output import Report
-from .text import small_letters
-from .words import CUT_REPORTS, MEANING_BY_KIND, REFUSALS, REPORTS
+from .text import MOST_TIME, small_letters
+from .words import CUT_REPORTS, MEANING_BY_KIND, RECALL_LIMIT, REFUSALS, REPORTS
 
 MOVES = {
     "cover-ins": "cover in",
@@ -54,16 +54,31 @@ def refused(day: Day) -> str:
     return f"the day file is refused by {refusal(day.refusal)}"
 
 
-def reason(event: Event) -> str:
-    """The refusal that a ticket got; of a wrong IBAN also which letters are small, as no IBAN has one."""
-    small = small_letters(event.ticket["iban"].decode("latin-1")) if event.refusal == 8 else ""
-    return ": ".join(filter(None, (refusal(event.refusal, event.ticket["kind"]), small)))
+def reason(event: Event, order: Order | None) -> str:
+    """The refusal that a ticket got; of a wrong IBAN also which letters are small, as no IBAN has one, and of a recall that
+    comes too late until when one would have been in time. The order is the one that the ticket names, if there is one."""
+    more = ""
+    if event.refusal == 8:
+        more = small_letters(event.ticket["iban"].decode("latin-1"))
+    elif event.refusal == 26 and event.ticket["kind"] == 5 and order is not None:
+        more = last_moment(event, order)
+    return ": ".join(filter(None, (refusal(event.refusal, event.ticket["kind"]), more)))
 
 
-def outcome(event: Event) -> str:
+def last_moment(event: Event, order: Order) -> str:
+    """When an order was settled, and the last moment to recall it; nothing where it wasn't settled before the event."""
+    settled = order.settled_before(event)
+    if settled is None:
+        return ""
+    last = settled.time + RECALL_LIMIT - 1
+    until = f"the last moment was {clock(last)}" if last <= MOST_TIME else "and no recall of it can be late"
+    return f"settled at {clock(settled.time)}, {until}"
+
+
+def outcome(day: Day, event: Event) -> str:
     """What became of a ticket."""
     if event.refusal:
-        return f"turned back, {reason(event)}"
+        return f"turned back, {reason(event, order_of(day, event.order))}"
     if event.rows:
         return f"carried out, {counted(event.rows, 'route row')} followed"
     return "carried out"
@@ -118,9 +133,15 @@ def part_returned(order: Order) -> str:
     return part(order.returned.ticket["amount"], order) if order.returned else ""
 
 
+def not_recalled(order: Order) -> str:
+    """That an order stays settled as if no recall of it had come, since all that came were too late; nothing of another."""
+    return "not recalled: too late" if order.late_recalls and not order.recalls and status(order) == "settled" else ""
+
+
 def standing(order: Order) -> str:
-    """How an order stands, and what was kept: returned 399.00 of 400.00, charge 1.00."""
-    return " ".join(filter(None, (status(order), part_returned(order))))
+    """How an order stands, and what was kept: returned 399.00 of 400.00, charge 1.00; or: settled, not recalled: too late."""
+    words = " ".join(filter(None, (status(order), part_returned(order))))
+    return ", ".join(filter(None, (words, not_recalled(order))))
 
 
 def ended_after(order: Order) -> int | None:

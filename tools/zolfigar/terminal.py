@@ -72,7 +72,7 @@ def verdict(problems: Sequence[str], style: Style) -> Iterator[str]:
 
 def ticket(day: Day, event: Event, style: Style) -> Iterator[str]:
     yield f"{event.number:>5} {clock(event.time):>9}  {ticket_words(event.ticket)}"
-    yield INDENT + style(telling.outcome(event), "back" if event.refusal else "good")
+    yield INDENT + style(telling.outcome(day, event), "back" if event.refusal else "good")
     for report in event.reports:
         yield f"{INDENT}  {telling.report(day, report)}"
 

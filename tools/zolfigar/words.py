@@ -37,7 +37,7 @@ FLAGS = {
 
 PARTICIPANT_KINDS = {0: "bank", 1: "linked"}
 
-# Number: code (empty where the paper gives none) and meaning.
+# Number: code (empty where the paper gives none) and meaning, in the order in which they are looked at; 23 to 25 are a message's.
 REFUSALS = {
     1: ("", "the file is below 12 bytes"),
     2: ("", "participants are not 1 to 32, routes above 64 or tickets above 512"),
@@ -57,6 +57,7 @@ REFUSALS = {
     16: ("AG09", "no order with this TxId is held"),
     17: ("XT87", "the sender is the wrong party"),
     18: ("XT75", "the order's status or recall mark is not as the step needs"),
+    26: ("XT86", "the recall is too late"),
     19: ("XT77", "the return is above the order"),
     20: ("AM04", "available cover is below the amount"),
     21: ("", "a cut with held or open debit somewhere, a confirm with neither or with an amount that its rule excludes"),
@@ -90,3 +91,4 @@ ENDINGS = (2, 3, 4)
 CUT_REPORTS = (10, 11)
 NO_ORDER = 65535
 LIMIT = 20
+RECALL_LIMIT = 864000  # a recall so many seconds after the settlement is too late

@@ -89,13 +89,13 @@ overNight =
     bookAt 100 (bookOf
     (fileBytes (bankOpening bicA 500 ∷ bank bicB ∷ linked bicL ∷ []) (direct bicA 0 ∷ direct bicB 1 ∷ direct bicL 2 ∷ []) []) .roster)
     (cover 500 200 80 ∷ cover 1000 60 0 ∷ cover 0 0 0 ∷ [])
-    (order tx1 0 1 400 5 (Settled None)
+    (order tx1 0 1 400 5 (Settled None 9)
     ∷ order tx2 0 1 100 6 Expired
     ∷ order tx3 0 2 50 7 Waiting
     ∷ order tx4 0 1 150 90 Waiting
     ∷ order tx5 1 0 60 91 Waiting
     ∷ order tx6 1 0 70 92 Refused
-    ∷ order tx7 0 1 30 93 (Returned 29)
+    ∷ order tx7 0 1 30 93 (Returned 95 29)
     ∷ [])
 
 -- The linked system says yes to an order of long before; all that ended before are asked about; held is confirmed; one order is answered in
@@ -156,7 +156,7 @@ abbrev waiting : Book
 waiting = startOf banks atFirst Waiting
 
 abbrev settled : Book
-settled = startOf banks settledCovers (Settled None)
+settled = startOf banks settledCovers (Settled None 5)
 
 -- no order, and 900 held, or an open debit of 70
 abbrev withHeld : Book
@@ -174,9 +174,9 @@ told = toldAt 30
 
 abbrev pub ofStarts : List WrittenHistory
 ofStarts =
-    since "the start's cover is not there" settled [] (cover 0 0 0 ∷ cover 0 0 0 ∷ []) (Settled None ∷ []) "cover"
+    since "the start's cover is not there" settled [] (cover 0 0 0 ∷ cover 0 0 0 ∷ []) (Settled None 5 ∷ []) "cover"
     ∷ since "the start's held is not there" withHeld [] (cover 100 0 0 ∷ cover 0 0 0 ∷ []) [] "cover"
-    ∷ since "cover of the start counted twice" settled (quiet 30 ∷ []) (cover 1200 0 0 ∷ cover 800 0 0 ∷ []) (Settled None ∷ []) "cover"
+    ∷ since "cover of the start counted twice" settled (quiet 30 ∷ []) (cover 1200 0 0 ∷ cover 800 0 0 ∷ []) (Settled None 5 ∷ []) "cover"
     ∷ since "held in the start confirmed as a debit" withHeld
     (event (confirmTicket 6 bicA 900) 0 [] ∷ [])
     (cover 1000 0 900 ∷ cover 0 0 0 ∷ []) [] "cover"
@@ -205,40 +205,40 @@ ofOrdersBefore =
     (event (orderTicket 6 bicA bicB 500 tx2 ibanD) 0 (report 1 1 1 500 ∷ [])
     ∷ event (yesTicket 7 bicB tx2) 0 (report 0 2 0 500 ∷ report 1 2 0 500 ∷ [])
     ∷ [])
-    (cover 100 0 0 ∷ cover 900 0 0 ∷ []) (Settled None ∷ Settled None ∷ []) "reserved, waiting, once, alike"
+    (cover 100 0 0 ∷ cover 900 0 0 ∷ []) (Settled None 5 ∷ Settled None 7 ∷ []) "reserved, waiting, once, alike"
     ∷ since "an ending of the number behind those of the start" settled
     (event (tickTicket 6) 0 (report 0 3 1 400 ∷ []) ∷ [])
-    settledCovers (Settled None ∷ []) "known"
+    settledCovers (Settled None 5 ∷ []) "known"
     ∷ []
 
 abbrev pub ofEndingsBefore : List WrittenHistory
 ofEndingsBefore =
-    since "an order settled before is told to expire" settled (expiredAt 25 ∷ []) settledCovers (Settled None ∷ []) "once, alike"
+    since "an order settled before is told to expire" settled (expiredAt 25 ∷ []) settledCovers (Settled None 5 ∷ []) "once, alike"
     ∷ since "an order settled before settles again" settled (settledAt 6 ∷ []) (cover 200 0 0 ∷ cover 800 0 0 ∷ [])
-    (Settled None ∷ []) "once"
+    (Settled None 6 ∷ []) "once"
     ∷ since "an order refused before settles" (startOf banks freedCovers Refused) (settledAt 6 ∷ []) settledCovers
-    (Settled None ∷ []) "once, alike"
+    (Settled None 6 ∷ []) "once, alike"
     ∷ since "an order that expired before expires again" (startOf banks freedCovers Expired) (expiredAt 25 ∷ [])
     freedCovers (Expired ∷ []) "once"
-    ∷ since "an order settled before, told as expired by an inquiry" settled (told 4 400 ∷ []) settledCovers (Settled None ∷ []) "alike"
+    ∷ since "an order settled before, told as expired by an inquiry" settled (told 4 400 ∷ []) settledCovers (Settled None 5 ∷ []) "alike"
     ∷ since "an order refused before, told as settled by an inquiry" (startOf banks freedCovers Refused) (told 2 400 ∷ [])
     freedCovers (Refused ∷ []) "alike"
     ∷ since "an order that expired before, told as refused by an inquiry" (startOf banks freedCovers Expired) (told 3 400 ∷ [])
     freedCovers (Expired ∷ []) "alike"
-    ∷ since "an order returned before, told as refused by an inquiry" (startOf banks freedCovers (Returned 400)) (told 3 400 ∷ [])
-    freedCovers (Returned 400 ∷ []) "alike"
-    ∷ since "a repeat with another amount than the row's" settled (told 2 401 ∷ []) settledCovers (Settled None ∷ []) "alike"
+    ∷ since "an order returned before, told as refused by an inquiry" (startOf banks freedCovers (Returned 5 400)) (told 3 400 ∷ [])
+    freedCovers (Returned 5 400 ∷ []) "alike"
+    ∷ since "a repeat with another amount than the row's" settled (told 2 401 ∷ []) settledCovers (Settled None 5 ∷ []) "alike"
     ∷ since "an order that waits in the start, ended by an inquiry alone" waiting (toldAt 10 2 400 ∷ []) freedCovers
-    (Settled None ∷ []) "once"
+    (Settled None 10 ∷ []) "once"
     ∷ since "an order settled before, told in a refused inquiry" settled
     (event (inquiryTicket 30 bicB tx1) 17 (report 0 2 0 400 ∷ []) ∷ [])
-    settledCovers (Settled None ∷ []) "once"
+    settledCovers (Settled None 5 ∷ []) "once"
     ∷ since "an order settled before, told in an inquiry about another" settled
     (orderedMore ∷ event (inquiryTicket 8 bicA tx2) 0 (report 0 2 0 400 ∷ []) ∷ [])
-    (cover 100 500 0 ∷ cover 400 0 0 ∷ []) (Settled None ∷ Waiting ∷ []) "once"
-    ∷ since "an order settled before, returned and nobody told" (startOf banks settledCovers (Settled Asked))
+    (cover 100 500 0 ∷ cover 400 0 0 ∷ []) (Settled None 5 ∷ Waiting ∷ []) "once"
+    ∷ since "an order settled before, returned and nobody told" (startOf banks settledCovers (Settled Asked 5))
     (event (returnTicket 9 bicB 400 tx1) 0 [] ∷ [])
-    (cover 600 0 0 ∷ cover 0 0 0 ∷ []) (Returned 400 ∷ []) "told"
+    (cover 600 0 0 ∷ cover 0 0 0 ∷ []) (Returned 5 400 ∷ []) "told"
     ∷ []
 
 pub starts-false : AllFalse ofStarts
@@ -256,15 +256,15 @@ endings-before-false = all-false ofEndingsBefore refl
 -- the claim holds
 abbrev pub rightStarts : List WrittenHistory
 rightStarts =
-    since "nothing was seen yet" settled [] settledCovers (Settled None ∷ []) ""
+    since "nothing was seen yet" settled [] settledCovers (Settled None 5 ∷ []) ""
     ∷ since "held in the start confirmed as a credit" withHeld (event (confirmTicket 6 bicA 900) 0 [] ∷ [])
     (cover 100 0 0 ∷ cover 0 0 0 ∷ []) [] ""
     ∷ since "open debit in the start confirmed in part" withDebit (event (confirmTicket 6 bicA 40) 0 [] ∷ [])
     (cover 70 0 0 ∷ cover 0 0 0 ∷ []) [] ""
     ∷ since "a waiting order of the start settles in its last second" waiting (settledAt 24 ∷ told 2 400 ∷ [])
-    settledCovers (Settled None ∷ []) ""
+    settledCovers (Settled None 24 ∷ []) ""
     ∷ since "a waiting order of the start expires" waiting (expiredAt 25 ∷ told 4 400 ∷ []) freedCovers (Expired ∷ []) ""
-    ∷ since "an order settled before is repeated, twice" settled (told 2 400 ∷ told 2 400 ∷ []) settledCovers (Settled None ∷ []) ""
+    ∷ since "an order settled before is repeated, twice" settled (told 2 400 ∷ told 2 400 ∷ []) settledCovers (Settled None 5 ∷ []) ""
     ∷ since "an order refused before is repeated" (startOf banks freedCovers Refused) (told 3 400 ∷ []) freedCovers (Refused ∷ []) ""
     ∷ since "an order that expired before is repeated" (startOf banks freedCovers Expired) (told 4 400 ∷ []) freedCovers (Expired ∷ []) ""
     ∷ []

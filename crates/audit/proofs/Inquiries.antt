@@ -83,9 +83,9 @@ module _ {ps : Roster} {h : History} {w : Book} {t : List ℕ} {time n : ℕ} {r
   repeat-order r rs w′ is code amount =
       record { fate = Fate.repeated (asks (r ∷ rs)) w′ w′ refl r is (code, amount, tt); same = alike; quiet = rw w′ }
 
-  settled : (m : Recall) → o .status ≡ status.Settled m → let rs = listed (settledAnswer x m) in
+  settled : (m : Recall) (at : ℕ) → o .status ≡ status.Settled m at → let rs = listed (settledAnswer x m) in
       OwnStep ps h (takenEvent t rs₀ rs) w (applied w (orderKept x nobody false Told.Nobody)) rs
-  settled m e =
+  settled m at e =
       go m (ap isWaiting e) (sym (ap endCode e))
     where
       go : (m : Recall) → isWaiting (o .status) ≡ false → _≡_ {A = ℕ} 2 (endCode (o .status))
@@ -109,8 +109,8 @@ module _ {ps : Roster} {h : History} {w : Book} {t : List ℕ} {time n : ℕ} {r
       answered _ (refl, tt) (refl, tt) (repeat-order (toPayer x 3) [] (ap isWaiting e) (simp (eq-eqb j j refl)) (sym (ap endCode e)) refl)
   by-status status.Expired e =
       answered _ (refl, tt) (refl, tt) (repeat-order (toPayer x 4) [] (ap isWaiting e) (simp (eq-eqb j j refl)) (sym (ap endCode e)) refl)
-  by-status (status.Returned m) e = answered _ (refl, tt) (refl, tt) (quiet-order (returnReport x m ∷ []) (simp and-false))
-  by-status (status.Settled m) e = settled m e
+  by-status (status.Returned at m) e = answered _ (refl, tt) (refl, tt) (quiet-order (returnReport x m ∷ []) (simp and-false))
+  by-status (status.Settled m at) e = settled m at e
 
   pub inquiry-own : OwnStepOf ps h w t (fieldsOf kind.Inquiry time n) rs₀
   inquiry-own = by-status (o .status) refl

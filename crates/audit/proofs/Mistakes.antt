@@ -2,14 +2,17 @@
 -- `reviewers` and `mistakes`; of those in `unseen` it holds, and demand 2 shuts them out. A row count is no part of an event, so that an
 -- invented one is for demand 2 also.
 -- Assumes nothing.
+use Prim.Native.Nat.{ℕ}
 use mathlib.Core.Path.{refl}
 use mathlib.Core.List.{List, [], _∷_}
 use Rattle.codes.specs.Bic.{isBic}
 use Rattle.ticket.specs.TicketWriting.{coverInTicket, orderTicket, yesTicket, noTicket, recallTicket, returnTicket, cutTicket, tickTicket}
 use Rattle.dayfile.specs.DayFile.{dayFile}
+use Rattle.report.specs.declared.Report.{Report}
 use Rattle.rules.specs.declared.Status.the-variants.{Waiting, Refused, Expired, Returned, Settled}
-use Rattle.rules.specs.declared.Recall.the-variants.{None}
-use Rattle.rules.proofs.Names.{bicA, bicB, tx1, ibanD}
+use Rattle.rules.specs.declared.Recall.the-variants.{None, Asked}
+use Rattle.rules.proofs.Names.{bicA, bicB, tx1, tx2, ibanD}
+use Rattle.audit.specs.History.{Event}
 use Rattle.audit.proofs.HistoryRows.{WrittenHistory, AllFalse, AllTrue, all-false, all-true, event, report, cover}
 use Rattle.audit.proofs.HistoryParts.{
   banks,
@@ -28,10 +31,17 @@ use Rattle.audit.proofs.HistoryParts.{
   freedCovers,
 }
 
+-- order 1, of 100 at 863,987, and a recall of order 0 in the second in which order 1 expires, 864,000 after a settlement at 7
+abbrev orderedLater : Event
+orderedLater = event (orderTicket 863_987 bicA bicB 100 tx2 ibanD) 0 (report 1 1 1 100 ∷ [])
+
+abbrev lateRecall : ℕ → List Report → Event
+lateRecall refusal reports = event (recallTicket 864_007 bicA 1 tx1) refusal reports
+
 -- 01 'A reviewer will try'
 abbrev pub reviewers : List WrittenHistory
 reviewers =
-    row "2: accepts and moves no cover" banks (lodged ∷ ordered ∷ settledAt 24 ∷ []) freedCovers (Settled None ∷ []) "cover"
+    row "2: accepts and moves no cover" banks (lodged ∷ ordered ∷ settledAt 24 ∷ []) freedCovers (Settled None 24 ∷ []) "cover"
     ∷ row "2: sends report 2 always, at a time-out too" banks
     (lodged ∷ ordered ∷ event (tickTicket 25) 0 (report 0 2 0 400 ∷ report 1 2 0 400 ∷ []) ∷ [])
     freedCovers (Expired ∷ []) "expiry"
@@ -45,7 +55,7 @@ abbrev pub mistakes : List WrittenHistory
 mistakes =
     row "expiring at more than 20 seconds: a yes at 20 settles" banks
     (lodged ∷ ordered ∷ settledAt 25 ∷ [])
-    settledCovers (Settled None ∷ []) "expiry"
+    settledCovers (Settled None 25 ∷ []) "expiry"
     ∷ row "adding 20 to a time near the top of 32 bits: the sum wraps, and after 15 seconds the order expires" banks
     (lodged
     ∷ event (orderTicket 4294967280 bicA bicB 400 tx1 ibanD) 0 (report 1 1 0 400 ∷ [])
@@ -56,7 +66,7 @@ mistakes =
     freedCovers (Expired ∷ []) "expiry"
     ∷ row "letting a refusal 18 stop the clock: the second order's time-out at 26 is not seen" banks
     (lodged ∷ ordered ∷ orderedMore ∷ settledAt 7 ∷ event (yesTicket 26 bicB tx1) 18 [] ∷ [])
-    (cover 100 500 0 ∷ cover 400 0 0 ∷ []) (Settled None ∷ Waiting ∷ []) "expiry"
+    (cover 100 500 0 ∷ cover 400 0 0 ∷ []) (Settled None 7 ∷ Waiting ∷ []) "expiry"
     ∷ row "moving reserved cover at a cut" opening
     (lodged ∷ ordered ∷ event (cutTicket 6) 0 (report 0 11 65535 900 ∷ []) ∷ [])
     (cover 100 0 900 ∷ cover 0 0 0 ∷ []) (Waiting ∷ []) "reserved"
@@ -68,7 +78,11 @@ mistakes =
     ∷ event (recallTicket 8 bicA 1 tx1) 0 (report 1 5 0 400 ∷ [])
     ∷ event (returnTicket 9 bicB 400 tx1) 0 (report 0 6 0 400 ∷ [])
     ∷ [])
-    (cover 900 100 0 ∷ cover 0 0 0 ∷ []) (Returned 400 ∷ Waiting ∷ []) "reserved"
+    (cover 900 100 0 ∷ cover 0 0 0 ∷ []) (Returned 7 400 ∷ Waiting ∷ []) "reserved"
+    -- 02, slip 5
+    ∷ row "letting a refusal 26 stop the clock: the second order's time-out in the second of the late recall is not seen" banks
+    (lodged ∷ ordered ∷ settledAt 7 ∷ orderedLater ∷ lateRecall 26 [] ∷ [])
+    (cover 500 100 0 ∷ cover 400 0 0 ∷ []) (Settled None 7 ∷ Waiting ∷ []) "expiry"
     ∷ []
 
 pub reviewers-false : AllFalse reviewers
@@ -93,7 +107,14 @@ unseen =
     freedCovers (Refused ∷ []) ""
     -- 02, slip 2
     ∷ row "a return of 399 of 400 told with the order's amount" banks (lessACharge 400)
-    (cover 999 0 0 ∷ cover 1 0 0 ∷ []) (Returned 399 ∷ []) ""
+    (cover 999 0 0 ∷ cover 1 0 0 ∷ []) (Returned 7 399 ∷ []) ""
+    -- 02, slip 5
+    ∷ row "a recall 864,000 seconds after the settlement is accepted" banks
+    (lodged ∷ ordered ∷ settledAt 7 ∷ lateRecall 0 (report 1 5 0 400 ∷ []) ∷ [])
+    settledCovers (Settled Asked 7 ∷ []) ""
+    ∷ row "a recall refused by 26, with the reports of the order that expires beside it, marks its order all the same" banks
+    (lodged ∷ ordered ∷ settledAt 7 ∷ orderedLater ∷ lateRecall 26 (report 0 4 1 100 ∷ report 1 4 1 100 ∷ []) ∷ [])
+    settledCovers (Settled Asked 7 ∷ Expired ∷ []) ""
     ∷ []
 
 pub unseen-true : AllTrue unseen

@@ -11,7 +11,7 @@ use Rattle.report.specs.Ending.{isEnding}
 use Rattle.report.specs.declared.Report.{Report}
 use Rattle.dayfile.specs.declared.roster.Roster.{Roster}
 use Rattle.rules.specs.Book.{coverOf}
-use Rattle.rules.specs.Status.{isWaiting, isUnmarked, isAsked, withStatus}
+use Rattle.rules.specs.Status.{isWaiting, isUnmarked, isAsked, settledAt, withStatus}
 use Rattle.rules.specs.Cover.{transferred}
 use Rattle.rules.specs.Find.{finding}
 use Rattle.rules.specs.Terms.{termsOf, namesSender, namesOrder}
@@ -41,15 +41,15 @@ unmarked-code : (s : Status) → isUnmarked s ≡ true → endCode s ≡ 2
 unmarked-code status.Waiting e = let z : _≡_ {A = ℕ} 0 1 = cc in absurd (omega arith)
 unmarked-code status.Refused e = let z : _≡_ {A = ℕ} 0 1 = cc in absurd (omega arith)
 unmarked-code status.Expired e = let z : _≡_ {A = ℕ} 0 1 = cc in absurd (omega arith)
-unmarked-code (status.Returned n) e = refl
-unmarked-code (status.Settled m) e = refl
+unmarked-code (status.Returned at n) e = refl
+unmarked-code (status.Settled m at) e = refl
 
 asked-code : (s : Status) → isAsked s ≡ true → endCode s ≡ 2
 asked-code status.Waiting e = let z : _≡_ {A = ℕ} 0 1 = cc in absurd (omega arith)
 asked-code status.Refused e = let z : _≡_ {A = ℕ} 0 1 = cc in absurd (omega arith)
 asked-code status.Expired e = let z : _≡_ {A = ℕ} 0 1 = cc in absurd (omega arith)
-asked-code (status.Returned n) e = refl
-asked-code (status.Settled m) e = refl
+asked-code (status.Returned at n) e = refl
+asked-code (status.Settled m at) e = refl
 
 -- one report that is no ending, and a status with the same end
 marked-order : (asks : Bool) (i : ℕ) (o : Order) (s : Status) (r : Report) → isEnding i r ≡ false → isWaiting s ≡ false
@@ -85,7 +85,8 @@ module _ {ps : Roster} {h : History} {w : Book} {t : List ℕ} {time n : ℕ} {r
       let j = accepting.orderNumber w f t in
       let o = accepting.theOrder w f t in
       let right = accepting.status-meets w f t (k .passed .r18) in
-      mark-own k refl refl (status.Settled mark.Asked) (toPayee (finding w f t) 5) refl (and-false (eqb j j)) refl refl
+      mark-own k refl refl (status.Settled mark.Asked (settledAt (o .status))) (toPayee (finding w f t) 5) refl (and-false (eqb j j))
+      refl refl
       (unmarked-not-waiting (o .status) right) (sym (unmarked-code (o .status) right)) (rw (kind-is k))
       (λ p. rw (kind-is k)) (λ p. rw (kind-is k))
 
@@ -96,7 +97,8 @@ module _ {ps : Roster} {h : History} {w : Book} {t : List ℕ} {time n : ℕ} {r
       let j = accepting.orderNumber w f t in
       let o = accepting.theOrder w f t in
       let right = accepting.status-meets w f t (k .passed .r18) in
-      mark-own k refl refl (status.Settled mark.Declined) (toPayer (finding w f t) 7) refl (and-false (eqb j j)) refl refl
+      mark-own k refl refl (status.Settled mark.Declined (settledAt (o .status))) (toPayer (finding w f t) 7) refl (and-false (eqb j j))
+      refl refl
       (asked-not-waiting (o .status) right) (sym (asked-code (o .status) right)) (rw (kind-is k))
       (λ p. rw (kind-is k)) (λ p. rw (kind-is k))
 
@@ -110,9 +112,9 @@ module _ {ps : Roster} {h : History} {w : Book} {t : List ℕ} {time n : ℕ} {r
       let s = k .midway .sound in
       let held = order-held k (r ∷ []) refl in
       let first : firstWith 6 (rs₀ ++ (r ∷ [])) ≡ r ∷ [] = first-after 6 rs₀ (r ∷ []) (k .code) refl in
-      about-own k (r ∷ []) (withStatus o (status.Returned n))
+      about-own k (r ∷ []) (withStatus o (status.Returned (settledAt (o .status)) n))
       (transferred (by (o .payer) Give n) (transferred (by (o .payee) Draw n) (w .covers))) refl (rw (kind-is k)) (refl, tt)
-      (marked-order _ j o (status.Returned n) r (and-false (eqb j j)) refl (asked-not-waiting (o .status) right)
+      (marked-order _ j o (status.Returned (settledAt (o .status)) n) r (and-false (eqb j j)) refl (asked-not-waiting (o .status) right)
       (sym (asked-code (o .status) right)))
       (λ p l.
       two-covers k (r ∷ []) (refl, tt) (by (o .payee) Draw n) (by (o .payer) Give n) (s .orders .payee j held) (s .orders .payer j held)

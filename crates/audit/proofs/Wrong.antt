@@ -44,8 +44,8 @@ abbrev pub ofCover : List WrittenHistory
 ofCover =
     row "cover moved and not told" banks
     (lodged ∷ ordered ∷ event (yesTicket 24 bicB tx1) 0 [] ∷ [])
-    settledCovers (Settled None ∷ []) "told, cover, reserved, waiting"
-    ∷ row "told and not moved" banks (lodged ∷ ordered ∷ settledAt 24 ∷ []) atFirst (Settled None ∷ []) "cover, reserved"
+    settledCovers (Settled None 24 ∷ []) "told, cover, reserved, waiting"
+    ∷ row "told and not moved" banks (lodged ∷ ordered ∷ settledAt 24 ∷ []) atFirst (Settled None 24 ∷ []) "cover, reserved"
     ∷ row "a confirm counted as a debit after a report 11" opening
     (lodged ∷ event (cutTicket 1) 0 (report 0 11 65535 900 ∷ []) ∷ event (confirmTicket 2 bicA 900) 0 [] ∷ [])
     (cover 1000 0 900 ∷ cover 0 0 0 ∷ []) [] "cover"
@@ -55,10 +55,10 @@ ofCover =
     ∷ row "reserved one cent off" banks (lodged ∷ ordered ∷ []) (cover 601 399 0 ∷ cover 0 0 0 ∷ []) (Waiting ∷ []) "reserved"
     -- 02, slip 2
     ∷ row "a return of 399 of 400, and the payer gets the charge too" banks (lessACharge 399)
-    (cover 1000 0 0 ∷ cover 1 0 0 ∷ []) (Returned 399 ∷ []) "cover"
-    ∷ row "a return of 399 of 400 that moves all 400" banks (lessACharge 399) freedCovers (Returned 399 ∷ []) "cover"
+    (cover 1000 0 0 ∷ cover 1 0 0 ∷ []) (Returned 7 399 ∷ []) "cover"
+    ∷ row "a return of 399 of 400 that moves all 400" banks (lessACharge 399) freedCovers (Returned 7 399 ∷ []) "cover"
     ∷ row "a return of 399 of 400 whose charge is nobody's" banks (lessACharge 399)
-    (cover 999 0 0 ∷ cover 0 0 0 ∷ []) (Returned 399 ∷ []) "cover"
+    (cover 999 0 0 ∷ cover 0 0 0 ∷ []) (Returned 7 399 ∷ []) "cover"
     ∷ []
 
 -- the reports that sums and orders go by are not there
@@ -71,7 +71,7 @@ ofParties =
     ∷ event (recallTicket 8 bicA 1 tx1) 0 (report 1 5 0 400 ∷ [])
     ∷ event (returnTicket 9 bicB 400 tx1) 0 []
     ∷ [])
-    (cover 600 0 0 ∷ cover 0 0 0 ∷ []) (Returned 400 ∷ []) "told"
+    (cover 600 0 0 ∷ cover 0 0 0 ∷ []) (Returned 7 400 ∷ []) "told"
     ∷ row "a return told to one who is no participant" banks
     (lodged
     ∷ ordered
@@ -79,7 +79,7 @@ ofParties =
     ∷ event (recallTicket 8 bicA 1 tx1) 0 (report 1 5 0 400 ∷ [])
     ∷ event (returnTicket 9 bicB 400 tx1) 0 (report 2 6 0 400 ∷ [])
     ∷ [])
-    (cover 600 0 0 ∷ cover 0 0 0 ∷ []) (Returned 400 ∷ []) "told"
+    (cover 600 0 0 ∷ cover 0 0 0 ∷ []) (Returned 7 400 ∷ []) "told"
     ∷ row "an order that tells nobody, and never expires" banks
     (lodged ∷ event (orderTicket 5 bicA bicB 400 tx1 ibanD) 0 [] ∷ quiet 4294967295 ∷ [])
     atFirst (Waiting ∷ []) "told"
@@ -125,31 +125,31 @@ ofEndings =
     atFirst (Waiting ∷ []) "known"
     ∷ row "a second ending in a later ticket that is no inquiry" banks
     (lodged ∷ ordered ∷ settledAt 24 ∷ event (tickTicket 30) 0 (report 0 2 0 400 ∷ []) ∷ [])
-    settledCovers (Settled None ∷ []) "once"
+    settledCovers (Settled None 24 ∷ []) "once"
     ∷ row "a second ending in a refused inquiry" banks
     (lodged ∷ ordered ∷ settledAt 24 ∷ event (inquiryTicket 30 bicB tx1) 17 (report 0 2 0 400 ∷ []) ∷ [])
-    settledCovers (Settled None ∷ []) "once"
+    settledCovers (Settled None 24 ∷ []) "once"
     ∷ row "an inquiry that repeats another order's ending" banks
     (lodged ∷ ordered ∷ orderedMore ∷ settledAt 7 ∷ event (inquiryTicket 8 bicA tx2) 0 (report 0 2 0 400 ∷ []) ∷ [])
-    (cover 100 500 0 ∷ cover 400 0 0 ∷ []) (Settled None ∷ Waiting ∷ []) "once"
+    (cover 100 500 0 ∷ cover 400 0 0 ∷ []) (Settled None 7 ∷ Waiting ∷ []) "once"
     ∷ row "an inquiry that tells 2 before the yes, the order waiting on" banks
     (lodged ∷ ordered ∷ event (inquiryTicket 6 bicA tx1) 0 (report 0 2 0 400 ∷ []) ∷ [])
     atFirst (Waiting ∷ []) "reserved, waiting, once"
     ∷ row "an inquiry that tells 2 before the yes, the order ended by it" banks
     (lodged ∷ ordered ∷ event (inquiryTicket 6 bicA tx1) 0 (report 0 2 0 400 ∷ []) ∷ [])
-    freedCovers (Settled None ∷ []) "once"
+    freedCovers (Settled None 6 ∷ []) "once"
     ∷ row "a settled order told 'expired' to one of the two" banks
     (lodged ∷ ordered ∷ event (yesTicket 24 bicB tx1) 0 (report 0 2 0 400 ∷ report 1 4 0 400 ∷ []) ∷ [])
-    settledCovers (Settled None ∷ []) "alike"
+    settledCovers (Settled None 24 ∷ []) "alike"
     ∷ row "an inquiry that repeats another code" banks
     (lodged ∷ ordered ∷ settledAt 24 ∷ event (inquiryTicket 30 bicA tx1) 0 (report 0 4 0 400 ∷ []) ∷ [])
-    settledCovers (Settled None ∷ []) "alike"
+    settledCovers (Settled None 24 ∷ []) "alike"
     ∷ row "an amount in report 2 that isn't the order's, and is moved" banks
     (lodged ∷ ordered ∷ event (yesTicket 24 bicB tx1) 0 (report 0 2 0 401 ∷ report 1 2 0 401 ∷ []) ∷ [])
-    (cover 599 0 0 ∷ cover 401 0 0 ∷ []) (Settled None ∷ []) "alike"
+    (cover 599 0 0 ∷ cover 401 0 0 ∷ []) (Settled None 24 ∷ []) "alike"
     ∷ row "an amount in report 2 that isn't the order's, and isn't moved" banks
     (lodged ∷ ordered ∷ event (yesTicket 24 bicB tx1) 0 (report 0 2 0 401 ∷ report 1 2 0 401 ∷ []) ∷ [])
-    settledCovers (Settled None ∷ []) "cover, alike"
+    settledCovers (Settled None 24 ∷ []) "cover, alike"
     ∷ []
 
 pub parties-false : AllFalse ofParties
@@ -177,7 +177,7 @@ abbrev pub seenEarlier : List WrittenHistory
 seenEarlier =
     row "an inquiry that tells 2 before the yes, when the yes has come" banks
     (lodged ∷ ordered ∷ event (inquiryTicket 6 bicA tx1) 0 (report 0 2 0 400 ∷ []) ∷ settledAt 24 ∷ [])
-    settledCovers (Settled None ∷ []) ""
+    settledCovers (Settled None 24 ∷ []) ""
     ∷ []
 
 pub seen-earlier : AllTrue seenEarlier

@@ -72,11 +72,11 @@ module _ {ps : Roster} {h : History} {w : Book} {t : List ℕ} {time n : ℕ} {r
       all-ends : endingsIn j rs ≡ rs
       all-ends = simp (eq-eqb j j refl, ends)
 
-      yes-order : OwnOrder (asksAbout j (takenEvent t rs₀ rs) h) j o (withStatus o (status.Settled mark.None)) rs
+      yes-order : OwnOrder (asksAbout j (takenEvent t rs₀ rs) h) j o (withStatus o (status.Settled mark.None (w .clock))) rs
       yes-order =
           record {
             fate = Fate.ended yes-waits refl (toPayer x 2) more all-ends (refl, refl, carry) (rw (kind-is k) (omega arith));
-            same = status-same o (status.Settled mark.None);
+            same = status-same o (status.Settled mark.None (w .clock));
             quiet = rw all-ends (and-false (isWaiting (o .status)));
           }
 
@@ -97,7 +97,7 @@ module _ {ps : Roster} {h : History} {w : Book} {t : List ℕ} {time n : ℕ} {r
 
       yes-with : OwnStep ps h (takenEvent t rs₀ rs) w (applied w (decisionOf x)) rs
       yes-with =
-          about-own k rs (withStatus o (status.Settled mark.None))
+          about-own k rs (withStatus o (status.Settled mark.None (w .clock)))
           (transferred (by (o .payee) Give (o .amount)) (transferred (by (o .payer) Spend (o .amount)) (w .covers)))
           refl (rw (kind-is k)) (refl, about) yes-order yes-cover
 

@@ -78,8 +78,8 @@ abbrev pub endCode : Status → ℕ
 endCode Waiting = 0
 endCode Refused = 3
 endCode Expired = 4
-endCode (Returned n) = 2
-endCode (Settled mark) = 2
+endCode (Returned at n) = 2
+endCode (Settled mark at) = 2
 
 -- that ending, with the order's own amount
 abbrev pub endedBefore : ℕ → Order → List Report

@@ -1,4 +1,4 @@
-// Checks 12 to 22, a function each. Each equals a definition of `rules`, in Checks.antt. Refusal 22 takes the difference between 10^18
+// Checks from 12 on, a function each. Each equals a definition of `rules`, in Checks.antt. Refusal 22 takes the difference between 10^18
 // and all cover, not the sum with the amount, which could leave 64 bits; in a sound book all cover is at most 10^18.
 use dayfile::route::Followed;
 use fields::Found;
@@ -11,13 +11,14 @@ use rules::checks::Held;
 use rules::checks::Limit;
 use rules::checks::Party;
 use rules::checks::Payee;
+use rules::checks::Recalling;
 use rules::checks::Sender;
 use rules::checks::Space;
 use rules::checks::Standing;
 use rules::checks::Sum;
 use rules::checks::Txid;
 use rules::decision::Move;
-ghost use Prim.Native.Nat.{_≤_};
+ghost use Prim.Native.Nat.{_≤_, _-_};
 ghost use mathlib.Core.Path.{_≡_};
 ghost use Rattle.rules.specs.Cover.{mostTotal};
 ghost use Rattle.rules.specs.Checks.{
@@ -31,6 +32,7 @@ ghost use Rattle.rules.specs.Checks.{
   waitingCheck,
   unmarkedCheck,
   askedCheck,
+  recallCheck,
   sumCheck,
   fundsCheck,
   cutCheck,
@@ -40,6 +42,8 @@ ghost use Rattle.rules.specs.Checks.{
 };
 
 const MOST_ORDERS: usize = 256;
+
+const RECALL_LIMIT: u32 = 864_000;
 
 const MOST_TOTAL: u64 = 1_000_000_000_000_000_000;
 
@@ -133,6 +137,27 @@ pub fn asked_check(s: Status) -> Standing
     ensures { λ r. ⌜ r ≡ askedCheck s ⌝ }
 {
     standing(status::is_asked(s))
+}
+
+// The seconds from one time to another, 0 where that is no later.
+fn seconds_since(earlier: u32, later: u32) -> u32
+    ensures { λ r. ⌜ r ≡ later - earlier ⌝ }
+{
+    if later < earlier {
+        return 0;
+    }
+    later - earlier
+}
+
+// 26. Recall: 864,000 seconds or more after the settlement.
+pub fn recall_check(clock: u32, s: Status) -> Recalling
+    ensures { λ r. ⌜ r ≡ recallCheck clock s ⌝ }
+{
+    let late = RECALL_LIMIT <= seconds_since(status::settled_at(s), clock);
+    if late {
+        return Recalling::TooLate;
+    }
+    Recalling::InTime
 }
 
 // 19. Return: amount above the order's.

@@ -1,9 +1,9 @@
 // Tickets one after the other, each in a turn: it is seen, orders expire, it is judged, and what was judged is carried out. Seeing and
 // judging are one call each. The expiries and the carrying out stand here: they change orders and covers, and neither an array of structs
 // nor two fields of one struct can be lent to one call to be changed. What is found is found before the expiries, which change no TxId
-// and no roster (`sender-same`, `order-same`, `route-same` in `Facts.antt` of `turns`). A ticket that 12 to 22 refuse ends its turn where
-// it is judged (`late-done`), which takes 3 ns less than carrying out nothing. A verdict is carried out in parts that do nothing where it
-// says nothing; only the order is a match, as opening, changing and cutting write different things.
+// and no roster (`sender-same`, `order-same`, `route-same` in `Facts.antt` of `turns`). A ticket that is refused from 12 on ends its turn
+// where it is judged (`late-done`), which takes 3 ns less than carrying out nothing. A verdict is carried out in parts that do nothing
+// where it says nothing; only the order is a match, as opening, changing and cutting write different things.
 //
 // The index of TxIds is in locals, lent to the searches and not passed. A TxId gets its row and its link where an order is new, and only
 // there: other verdicts leave every order's TxId (`KeepsName`). All cover together is a local too, changed by what each move changes
@@ -178,6 +178,7 @@ pub fn take<'a>(
         let v = judge::judge(Facts {
             kind,
             amount: s.amount,
+            clock: b.clock,
             sender,
             cover,
             order,
@@ -195,7 +196,7 @@ pub fn take<'a>(
             total,
         });
 
-        // refused by 12 to 22, it leaves what a tick of its time leaves
+        // refused from 12 on, it leaves what a tick of its time leaves
         let refused = v.refusal != 0;
         if refused {
             answer::put_answer(

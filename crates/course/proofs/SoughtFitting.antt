@@ -31,7 +31,7 @@ use Rattle.dayfile.proofs.Arriving.{bic-arrives}
 use Rattle.dayfile.proofs.Following.{rows-few}
 use Rattle.rules.specs.Book.{mostOrders, orderOf, coverOf, isBank}
 use Rattle.rules.specs.Tick.{due}
-use Rattle.rules.specs.Status.{isWaiting}
+use Rattle.rules.specs.Status.{isWaiting, settledAt}
 use Rattle.rules.specs.Cover.{Enough, transferred, whole, mostTotal}
 use Rattle.rules.specs.Find.{senderIn, orderIn, wayIn, finding}
 use Rattle.rules.specs.Terms.{termsOf, namesSender}
@@ -269,7 +269,7 @@ module _ (b : Book) (s : Sound b) where
         let most : o .amount ≤ mostTotal = let m = s .orders .most _ h in omega arith in
         let enough = waiting-reserved b s _ h (accepting.status-meets b (f kind.Yes) t (none .r18)) in
         let m = by (o .payer) Spend (o .amount) in
-        becomes-applicable (entry kind.Yes) t (status.Settled mark.None) m (by (o .payee) Give (o .amount)) _ refl
+        becomes-applicable (entry kind.Yes) t (status.Settled mark.None (b .clock)) m (by (o .payee) Give (o .amount)) _ refl
         (participant-below b s (o .payer) payer) most enough (participant-below b s (o .payee) payee) most
         (room-to-move Give (o .amount) (coverOf (transferred m (b .covers)) (o .payee)) tt most
         (left-limited m payer enough refl (o .payee) (whole-limited b s (o .payee) payee)))
@@ -284,8 +284,8 @@ module _ (b : Book) (s : Sound b) where
         (whole-limited b s (o .payer) payer))
         (omega arith) (omega arith) tt
     decided-applicable kind.Recall tells none =
-        becomes-applicable (entry kind.Recall) t (status.Settled mark.Asked) nobody nobody _ refl (omega arith) (omega arith) tt
-        (omega arith) (omega arith) tt
+        becomes-applicable (entry kind.Recall) t (status.Settled mark.Asked (settledAt (o .status))) nobody nobody _ refl
+        (omega arith) (omega arith) tt (omega arith) (omega arith) tt
     decided-applicable kind.Return tells none =
         let h = accepting.order-found b (f kind.Return) t (none .r16) refl .below in
         let payer = s .orders .payer _ h in
@@ -294,13 +294,13 @@ module _ (b : Book) (s : Sound b) where
         let enough : n ≤ coverOf (b .covers) (o .payee) .available =
         rw (← accepting.right-party b (f kind.Return) t (none .r17) refl) (accepting.cover-there b (f kind.Return) t (none .r20) refl) in
         let m = by (o .payee) Draw n in
-        becomes-applicable (entry kind.Return) t (status.Returned n) m (by (o .payer) Give n) _ refl
+        becomes-applicable (entry kind.Return) t (status.Returned (settledAt (o .status)) n) m (by (o .payer) Give n) _ refl
         (participant-below b s (o .payee) payee) most enough (participant-below b s (o .payer) payer) most
         (room-to-move Give n (coverOf (transferred m (b .covers)) (o .payer)) tt most
         (left-limited m payee enough refl (o .payer) (whole-limited b s (o .payer) payer)))
     decided-applicable kind.Decline tells none =
-        becomes-applicable (entry kind.Decline) t (status.Settled mark.Declined) nobody nobody _ refl (omega arith) (omega arith) tt
-        (omega arith) (omega arith) tt
+        becomes-applicable (entry kind.Decline) t (status.Settled mark.Declined (settledAt (o .status))) nobody nobody _ refl
+        (omega arith) (omega arith) tt (omega arith) (omega arith) tt
     decided-applicable kind.Inquiry tells none =
         stays-applicable (entry kind.Inquiry) t false (decisionOf (sought b (entry kind.Inquiry) t) .told) (λ c. never (sym c))
     decided-applicable kind.Cut tells none = stays-applicable (entry kind.Cut) t true Nobody (λ c. refl)

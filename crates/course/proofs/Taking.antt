@@ -145,10 +145,10 @@ module _ (w : Step) (t : List ℕ) (r time n : ℕ) where
   answers-alike status.Waiting = refl
   answers-alike status.Refused = refl
   answers-alike status.Expired = refl
-  answers-alike (status.Returned n) = refl
-  answers-alike (status.Settled mark.None) = refl
-  answers-alike (status.Settled mark.Asked) = refl
-  answers-alike (status.Settled mark.Declined) = refl
+  answers-alike (status.Returned at n) = refl
+  answers-alike (status.Settled mark.None at) = refl
+  answers-alike (status.Settled mark.Asked at) = refl
+  answers-alike (status.Settled mark.Declined at) = refl
 
   -- and so do the steps
   sought-decides : (k : Kind) → accepted w (decisionOf (y k)) ≡ accepted w (decisionOf (x k))

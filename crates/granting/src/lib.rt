@@ -1,5 +1,6 @@
 // The verdict of each ticket's own step, and of a refused ticket. Each function equals a definition of `verdict`, in OwnStep.antt. Of a
 // refused ticket all but the refusal is nothing (`refused-alone`), so it may be carried out or skipped.
+use orders::status;
 use rules::Recall;
 use rules::Status;
 use rules::decision::Move;
@@ -112,13 +113,14 @@ fn payee_told(a: About, bank: bool) -> Notice
     Notice { to: 0, code: 0 }
 }
 
-// Yes to Waiting: payer's reserved falls, payee's available rises; Settled, mark none; report 2 to payer, then to payee if a bank.
-pub fn settled(i: usize, a: About, bank: bool) -> Verdict
-    ensures { λ r. ⌜ r ≡ settled i a bank ⌝ }
+// Yes to Waiting: payer's reserved falls, payee's available rises; Settled, mark none; report 2 to payer, then to payee if a bank. The
+// clock is the time of its settlement.
+pub fn settled(i: usize, a: About, bank: bool, clock: u32) -> Verdict
+    ensures { λ r. ⌜ r ≡ settled i a bank clock ⌝ }
 {
     Verdict {
         refusal: 0,
-        does: Does::Becomes(Status::Settled(Recall::None)),
+        does: Does::Becomes(Status::Settled(Recall::None, clock)),
         number: i,
         first: Mover {
             who: a.payer,
@@ -163,12 +165,13 @@ pub fn turned_down(i: usize, a: About) -> Verdict
 }
 
 // The order's mark changes, and one is told.
-fn marked(mark: Recall, i: usize, n: u64, told: Notice) -> Verdict
-    ensures { λ r. ⌜ r ≡ marked mark i n told ⌝ }
+// At is the time of its settlement.
+fn marked(mark: Recall, at: u32, i: usize, n: u64, told: Notice) -> Verdict
+    ensures { λ r. ⌜ r ≡ marked mark at i n told ⌝ }
 {
     Verdict {
         refusal: 0,
-        does: Does::Becomes(Status::Settled(mark)),
+        does: Does::Becomes(Status::Settled(mark, at)),
         number: i,
         first: Mover {
             who: 0,
@@ -192,7 +195,8 @@ pub fn recalled(i: usize, a: About) -> Verdict
         to: a.payee,
         code: 5,
     };
-    marked(Recall::Asked, i, a.amount, told)
+    let status = a.status;
+    marked(Recall::Asked, status::settled_at(status), i, a.amount, told)
 }
 
 // Decline of Settled, asked: declined; report 7 to payer.
@@ -203,16 +207,24 @@ pub fn declined(i: usize, a: About) -> Verdict
         to: a.payer,
         code: 7,
     };
-    marked(Recall::Declined, i, a.amount, told)
+    let status = a.status;
+    marked(
+        Recall::Declined,
+        status::settled_at(status),
+        i,
+        a.amount,
+        told,
+    )
 }
 
 // Return: payee's available falls, payer's rises; Returned; report 6 to payer. All by the ticket's amount, n.
 pub fn returned(i: usize, a: About, n: u64) -> Verdict
     ensures { λ r. ⌜ r ≡ returned i a n ⌝ }
 {
+    let status = a.status;
     Verdict {
         refusal: 0,
-        does: Does::Becomes(Status::Returned(n)),
+        does: Does::Becomes(Status::Returned(status::settled_at(status), n)),
         number: i,
         first: Mover {
             who: a.payee,
@@ -260,11 +272,11 @@ fn answer_told(a: About, bank: bool, s: Status) -> Notice
             to: a.payer,
             code: 4,
         },
-        Status::Returned(_) => Notice {
+        Status::Returned(_, _) => Notice {
             to: a.payer,
             code: 6,
         },
-        Status::Settled(_) => Notice {
+        Status::Settled(_, _) => Notice {
             to: a.payer,
             code: 2,
         },
@@ -295,8 +307,8 @@ fn answer_also(a: About, s: Status) -> Notice
         Status::Waiting => Notice { to: 0, code: 0 },
         Status::Refused => Notice { to: 0, code: 0 },
         Status::Expired => Notice { to: 0, code: 0 },
-        Status::Returned(_) => Notice { to: 0, code: 0 },
-        Status::Settled(mark) => mark_told(a, mark),
+        Status::Returned(_, _) => Notice { to: 0, code: 0 },
+        Status::Settled(mark, _) => mark_told(a, mark),
     }
 }
 
@@ -308,8 +320,8 @@ fn answer_amount(a: About, s: Status) -> u64
         Status::Waiting => a.amount,
         Status::Refused => a.amount,
         Status::Expired => a.amount,
-        Status::Returned(n) => n,
-        Status::Settled(_) => a.amount,
+        Status::Returned(_, n) => n,
+        Status::Settled(_, _) => a.amount,
     }
 }
 

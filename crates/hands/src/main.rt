@@ -16,8 +16,8 @@
 //                                                 fill: the length again if all are, else the place of the first that isn't
 //     K clock                                     of the book at the end
 //     C number available reserved held debit      of each participant
-//     O number payer payee amount time status TxId    of each order; a settled one with its recall mark behind a hyphen, a returned one
-//                                                 with the returned amount there
+//     O number payer payee amount time status TxId    of each order; hyphens join the word of a settled one, its recall mark and the
+//                                                 time of its settlement; of a returned one that time and the returned amount
 //
 // `stdin` is made from the text beside it: tools/day pack --inputs crates/hands/inputs.txt -o crates/hands/stdin
 mod input;

@@ -30,16 +30,26 @@ fn print_word(word: &[u8]) {
     io::write_all(STDOUT_FILENO, b" ");
 }
 
-fn print_settled(mark: Recall) {
-    match mark {
-        Recall::None => print_word(b"Settled-none"),
-        Recall::Asked => print_word(b"Settled-asked"),
-        Recall::Declined => print_word(b"Settled-declined"),
-    }
+// Behind a space, with a hyphen and a time behind it.
+fn print_since(word: &[u8], at: u32) {
+    io::write_all(STDOUT_FILENO, b" ");
+    io::write_all(STDOUT_FILENO, word);
+    io::write_all(STDOUT_FILENO, b"-");
+    io::print_decimal(STDOUT_FILENO, at as u64);
 }
 
-fn print_returned(n: u64) {
-    io::write_all(STDOUT_FILENO, b" Returned-");
+fn print_settled(mark: Recall, at: u32) {
+    match mark {
+        Recall::None => print_since(b"Settled-none", at),
+        Recall::Asked => print_since(b"Settled-asked", at),
+        Recall::Declined => print_since(b"Settled-declined", at),
+    }
+    io::write_all(STDOUT_FILENO, b" ");
+}
+
+fn print_returned(at: u32, n: u64) {
+    print_since(b"Returned", at);
+    io::write_all(STDOUT_FILENO, b"-");
     io::print_decimal(STDOUT_FILENO, n);
     io::write_all(STDOUT_FILENO, b" ");
 }
@@ -49,8 +59,8 @@ fn print_status(status: Status) {
         Status::Waiting => print_word(b"Waiting"),
         Status::Refused => print_word(b"Refused"),
         Status::Expired => print_word(b"Expired"),
-        Status::Returned(n) => print_returned(n),
-        Status::Settled(mark) => print_settled(mark),
+        Status::Returned(at, n) => print_returned(at, n),
+        Status::Settled(mark, at) => print_settled(mark, at),
     }
 }
 

@@ -10,6 +10,7 @@ use rules::checks::Held;
 use rules::checks::Limit;
 use rules::checks::Party;
 use rules::checks::Payee;
+use rules::checks::Recalling;
 use rules::checks::Sender;
 use rules::checks::Space;
 use rules::checks::Standing;
@@ -93,8 +94,8 @@ pub fn order(
 }
 
 // Yes of the payee, to Waiting.
-pub fn yes(sender: Found, order: Found, a: About, bank: bool) -> Verdict
-    ensures { λ r. ⌜ r ≡ yesVerdict sender order a bank ⌝ }
+pub fn yes(sender: Found, order: Found, a: About, bank: bool, clock: u32) -> Verdict
+    ensures { λ r. ⌜ r ≡ yesVerdict sender order a bank clock ⌝ }
 {
     let status = a.status;
     let Sender::Is(p) = checks::sender_check(sender) else {
@@ -109,7 +110,7 @@ pub fn yes(sender: Found, order: Found, a: About, bank: bool) -> Verdict
     let Standing::AsNeeded = checks::waiting_check(status) else {
         return granting::refused(18);
     };
-    granting::settled(i, a, bank)
+    granting::settled(i, a, bank, clock)
 }
 
 // No of the payee, to Waiting.
@@ -132,9 +133,9 @@ pub fn no(sender: Found, order: Found, a: About) -> Verdict
     granting::turned_down(i, a)
 }
 
-// Recall of the payer, of Settled with mark none.
-pub fn recall(sender: Found, order: Found, a: About) -> Verdict
-    ensures { λ r. ⌜ r ≡ recallVerdict sender order a ⌝ }
+// Recall of the payer, of Settled with mark none, less than 864,000 seconds after the settlement.
+pub fn recall(sender: Found, order: Found, a: About, clock: u32) -> Verdict
+    ensures { λ r. ⌜ r ≡ recallVerdict sender order a clock ⌝ }
 {
     let status = a.status;
     let Sender::Is(p) = checks::sender_check(sender) else {
@@ -148,6 +149,9 @@ pub fn recall(sender: Found, order: Found, a: About) -> Verdict
     };
     let Standing::AsNeeded = checks::unmarked_check(status) else {
         return granting::refused(18);
+    };
+    let Recalling::InTime = checks::recall_check(clock, status) else {
+        return granting::refused(26);
     };
     granting::recalled(i, a)
 }

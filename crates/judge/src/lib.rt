@@ -1,4 +1,4 @@
-// The judgement of a ticket, check by check: the first of 12 to 22 that applies, or the verdict of its step. Each function equals a
+// The judgement of a ticket, check by check: the first refusal from 12 on that applies, or the verdict of its step. Each function equals a
 // definition of `verdict`.
 mod kinds;
 
@@ -33,9 +33,9 @@ pub fn judge(x: Facts) -> Verdict
             cover.available,
             x.amount,
         ),
-        Kind::Yes => kinds::yes(sender, order, about, x.bank),
+        Kind::Yes => kinds::yes(sender, order, about, x.bank, x.clock),
         Kind::No => kinds::no(sender, order, about),
-        Kind::Recall => kinds::recall(sender, order, about),
+        Kind::Recall => kinds::recall(sender, order, about, x.clock),
         Kind::Return => kinds::return_of(sender, order, about, cover.available, x.amount),
         Kind::Decline => kinds::decline(sender, order, about),
         Kind::Inquiry => kinds::inquiry(sender, order, about, x.bank),

@@ -3,7 +3,7 @@ use rules::Order;
 use rules::Recall;
 use rules::Status;
 ghost use mathlib.Core.Path.{_≡_};
-ghost use Rattle.rules.specs.Status.{isWaiting, noMark, isUnmarked, wasAsked, isAsked, withStatus};
+ghost use Rattle.rules.specs.Status.{isWaiting, noMark, isUnmarked, wasAsked, isAsked, settledAt, withStatus};
 
 pub fn is_waiting(s: Status) -> bool
     ensures { λ r. ⌜ r ≡ isWaiting s ⌝ }
@@ -12,8 +12,8 @@ pub fn is_waiting(s: Status) -> bool
         Status::Waiting => true,
         Status::Refused => false,
         Status::Expired => false,
-        Status::Returned(_) => false,
-        Status::Settled(_) => false,
+        Status::Returned(_, _) => false,
+        Status::Settled(_, _) => false,
     }
 }
 
@@ -34,8 +34,8 @@ pub fn is_unmarked(s: Status) -> bool
         Status::Waiting => false,
         Status::Refused => false,
         Status::Expired => false,
-        Status::Returned(_) => false,
-        Status::Settled(mark) => no_mark(mark),
+        Status::Returned(_, _) => false,
+        Status::Settled(mark, _) => no_mark(mark),
     }
 }
 
@@ -56,8 +56,21 @@ pub fn is_asked(s: Status) -> bool
         Status::Waiting => false,
         Status::Refused => false,
         Status::Expired => false,
-        Status::Returned(_) => false,
-        Status::Settled(mark) => was_asked(mark),
+        Status::Returned(_, _) => false,
+        Status::Settled(mark, _) => was_asked(mark),
+    }
+}
+
+// The time of its settlement, 0 where there is none.
+pub fn settled_at(s: Status) -> u32
+    ensures { λ r. ⌜ r ≡ settledAt s ⌝ }
+{
+    match s {
+        Status::Waiting => 0,
+        Status::Refused => 0,
+        Status::Expired => 0,
+        Status::Returned(at, _) => at,
+        Status::Settled(_, at) => at,
     }
 }
 

@@ -1,5 +1,6 @@
 -- Soundness rules something out: a book whose reserved cover is a cent off is not sound, nor is one in which nothing was returned of a
--- returned order, or a cent more than its amount. Assumes nothing.
+-- returned order, or a cent more than its amount, or in which an order was settled a second before it came, or a second after the clock.
+-- Assumes nothing.
 use mathlib.Core.Path.{_≡_}
 use mathlib.Core.List.{[], _∷_}
 use Prim.Native.Nat.{ℕ}
@@ -14,7 +15,9 @@ use Rattle.rules.specs.Cover.{transferred}
 use Rattle.rules.specs.Decision.{by}
 use Rattle.rules.specs.Sound.{Sound}
 use Rattle.rules.specs.declared.decision.Move.the-variants.{Give, Reserve}
-use Rattle.rules.specs.declared.Status.the-variants.{Returned}
+use Rattle.rules.specs.declared.Recall.the-variants.{None}
+use Rattle.rules.specs.declared.Status.{Status}
+use Rattle.rules.specs.declared.Status.the-variants.{Returned, Settled}
 use Rattle.rules.specs.declared.Book.{Book}
 use Rattle.rules.proofs.Names.{bicA, tx1}
 
@@ -28,23 +31,38 @@ pub cent-off-not-sound : Sound centOff → ⊥
 unfolding isBic dayFile
 cent-off-not-sound s = let e : _≡_ {A = ℕ} 1 0 = s .covers .reserved 0 (omega arith) in omega arith
 
--- one participant, and an order of 400 to itself that was returned
-abbrev returning : ℕ → Book
-returning n =
+-- one participant, and at 30 an order of 400 at 5 to itself, with a status
+abbrev having : Status → Book
+having s =
     let b = bookOf (fileBytes (bank bicA ∷ []) [] []) in
     record {
-      clock = 0;
+      clock = 30;
       covers = b .covers;
-      orders =
-          set (b .orders) 0 (record { txid = padded 35 tx1; payer = 0; payee = 0; amount = 400; time = 0; status = Returned n });
+      orders = set (b .orders) 0 (record { txid = padded 35 tx1; payer = 0; payee = 0; amount = 400; time = 5; status = s });
       count = 1;
       roster = b .roster;
     }
 
-pub nothing-returned-not-sound : Sound (returning 0) → ⊥
+pub nothing-returned-not-sound : Sound (having (Returned 24 0)) → ⊥
 unfolding isBic dayFile
-nothing-returned-not-sound s = let e = s .orders .returned 0 (omega arith) .0 in omega arith
+nothing-returned-not-sound s = let e = s .orders .status 0 (omega arith) .2 in omega arith
 
-pub too-much-returned-not-sound : Sound (returning 401) → ⊥
+pub too-much-returned-not-sound : Sound (having (Returned 24 401)) → ⊥
 unfolding isBic dayFile
-too-much-returned-not-sound s = let e = s .orders .returned 0 (omega arith) .1 in omega arith
+too-much-returned-not-sound s = let e = s .orders .status 0 (omega arith) .3 in omega arith
+
+pub settled-before-it-came-not-sound : Sound (having (Settled None 4)) → ⊥
+unfolding isBic dayFile
+settled-before-it-came-not-sound s = let e = s .orders .status 0 (omega arith) .0 in omega arith
+
+pub settled-after-the-clock-not-sound : Sound (having (Settled None 31)) → ⊥
+unfolding isBic dayFile
+settled-after-the-clock-not-sound s = let e = s .orders .status 0 (omega arith) .1 in omega arith
+
+pub returned-and-settled-before-it-came-not-sound : Sound (having (Returned 4 400)) → ⊥
+unfolding isBic dayFile
+returned-and-settled-before-it-came-not-sound s = let e = s .orders .status 0 (omega arith) .0 in omega arith
+
+pub returned-and-settled-after-the-clock-not-sound : Sound (having (Returned 31 400)) → ⊥
+unfolding isBic dayFile
+returned-and-settled-after-the-clock-not-sound s = let e = s .orders .status 0 (omega arith) .1 in omega arith

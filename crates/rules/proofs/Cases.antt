@@ -22,6 +22,7 @@ use Rattle.rules.proofs.Names.{bicA, bicB, tx1, ibanD, smallIbanD, twoB
 use Rattle.rules.proofs.Edges.{edges}
 use Rattle.rules.proofs.LimitEdges.{limits}
 use Rattle.rules.proofs.ReturnEdges.{returnEdges}
+use Rattle.rules.proofs.RecallEdges.{recallEdges}
 
 abbrev pub markedCases : List Row
 markedCases =
@@ -80,7 +81,7 @@ markedCases =
 
 -- the rows of `iban`, those of `codes` and these, under one statement
 abbrev pub cases : List Row
-cases = iban.cases ++ codes.cases ++ markedCases ++ edges ++ limits ++ returnEdges
+cases = iban.cases ++ codes.cases ++ markedCases ++ edges ++ limits ++ returnEdges ++ recallEdges
 
 pub cases-met : AllMet cases
 unfolding isBic isIban isTxid reading dayFile followed senderIn orderIn routeIn wayIn anyOpen total tick stepOf

@@ -1,5 +1,5 @@
 -- The three courses that a step can take: turned back by 6 to 11, refused by 12 or more, or accepted. What holds of each holds of every
--- step; and a step's refusal fits its byte in an answer. Assumes nothing.
+-- step; and a step's refusal fits its byte in an answer. What 26 leaves is what 18 leaves. Assumes nothing.
 use mathlib.Core.Path.{_≡_, refl, _∙_}
 use mathlib.Core.Bool.{Bool, true, false, cond}
 use mathlib.Core.List.{List}
@@ -89,3 +89,9 @@ module _ (b : Book) (t : List ℕ) where
   pub step-refusal-small : stepOf b t .refusal < 256
   unfolding stepOf
   step-refusal-small = read-small (reading t) refl
+
+-- 02, slip 5: 26 leaves what 18 leaves
+pub late-leaves : (w : Step) (x : Finding)
+    → refusedOr 26 w x
+    ≡ record { refusal = 26; reports = refusedOr 18 w x .reports; rows = refusedOr 18 w x .rows; book = refusedOr 18 w x .book }
+late-leaves w x = refl

@@ -2,6 +2,7 @@ pub mod Names
 pub mod Edges
 pub mod LimitEdges
 pub mod ReturnEdges
+pub mod RecallEdges
 pub mod Cases
 pub mod CoverMoving
 pub mod OrdersKeeping
@@ -15,7 +16,7 @@ pub mod Courses
 pub mod Cutting
 pub mod StepSound
 pub mod Inputs
-pub mod Returning
+pub mod Lasting
 pub mod SoundLimits
 pub mod Reporting
 pub mod Biting

@@ -32,7 +32,7 @@ lentRow name n due =
 -- a settled order of one cent, A to B, with the TxId "TX" and its number
 abbrev pub heldOrder : ℕ → Order
 heldOrder i =
-    record { txid = padded 35 (text "TX" ++ decimal i); payer = 0; payee = 1; amount = 1; time = 0; status = Settled None }
+    record { txid = padded 35 (text "TX" ++ decimal i); payer = 0; payee = 1; amount = 1; time = 0; status = Settled None 0 }
 
 -- n of them from number i on
 abbrev pub heldFrom : ℕ → ℕ → List Order

@@ -16,12 +16,21 @@ use Rattle.fields.proofs.UpTo.{sum-same, sum-change, sum-part}
 use Rattle.ticket.specs.Form.{mostOrder}
 use Rattle.rules.specs.Book.{mostOrders, noOrder, orderOf}
 use Rattle.rules.specs.Status.{isWaiting, withStatus}
-use Rattle.rules.specs.Sound.{waitingAmount, waitingSum, ReturnedWithin, OrdersSound}
+use Rattle.rules.specs.Sound.{waitingAmount, waitingSum, StatusSound, OrdersSound}
 use Rattle.rules.specs.declared.Status.{Status}
+use Rattle.rules.specs.declared.Status.the-variants.{Waiting, Refused, Expired, Returned, Settled}
 use Rattle.rules.specs.declared.Order.{Order}
 use Rattle.fields.proofs.Compared.{same-or-not}
 
 -- the clock goes on
+status-later : (amount time clock clock′ : ℕ) → clock ≤ clock′ → (s : Status)
+    → StatusSound amount time clock s → StatusSound amount time clock′ s
+status-later amount time clock clock′ l Waiting h = tt
+status-later amount time clock clock′ l Refused h = tt
+status-later amount time clock clock′ l Expired h = tt
+status-later amount time clock clock′ l (Returned at n) h = (h .0, (let e = h .1 in omega arith), h .2, h .3)
+status-later amount time clock clock′ l (Settled mark at) h = (h .0, let e = h .1 in omega arith)
+
 pub orders-later : (size clock clock′ n : ℕ) (os : List Order) → clock ≤ clock′ → OrdersSound size clock n os → OrdersSound size clock′ n os
 orders-later size clock clock′ n os l s =
     record {
@@ -31,7 +40,7 @@ orders-later size clock clock′ n os l s =
       payee = s .payee;
       least = s .least;
       most = s .most;
-      returned = s .returned;
+      status = λ i h. status-later _ _ clock clock′ l (orderOf os i .status) (s .status i h);
       padded = s .padded;
       txid = s .txid;
       distinct = s .distinct;
@@ -59,9 +68,10 @@ module _ (size clock n : ℕ) (os : List Order) (s : OrdersSound size clock n os
   kept f e j =
       ⊎-elim (λ (q : j ≡ i). rw q (ap f here ∙ e)) (λ (k : j ≡ i → ⊥). ap f (there j k)) (same-or-not j i)
 
-  pub status-keeps : ReturnedWithin (orderOf os i .amount) status → OrdersSound size clock n (set os i (withStatus (orderOf os i) status))
+  pub status-keeps : StatusSound (orderOf os i .amount) (orderOf os i .time) clock status
+      → OrdersSound size clock n (set os i (withStatus (orderOf os i) status))
   unfolding changed
-  status-keeps within =
+  status-keeps fits =
       record {
         long = length-set os i (withStatus (orderOf os i) status) ∙ s .long;
         count = s .count;
@@ -69,10 +79,10 @@ module _ (size clock n : ℕ) (os : List Order) (s : OrdersSound size clock n os
         payee = λ j l. rw (kept (λ (o : Order). o .payee) refl j) (s .payee j l);
         least = λ j l. rw (kept (λ (o : Order). o .amount) refl j) (s .least j l);
         most = λ j l. rw (kept (λ (o : Order). o .amount) refl j) (s .most j l);
-        returned = λ j l.
+        status = λ j l.
             ⊎-elim
-            (λ (q : j ≡ i). rw (q, here) within)
-            (λ (k : j ≡ i → ⊥). rw (there j k) (s .returned j l))
+            (λ (q : j ≡ i). rw (q, here) fits)
+            (λ (k : j ≡ i → ⊥). rw (there j k) (s .status j l))
             (same-or-not j i);
         padded = λ j l. rw (kept (λ (o : Order). o .txid) refl j) (s .padded j l);
         txid = λ j l. rw (kept (λ (o : Order). o .txid) refl j) (s .txid j l);
@@ -106,7 +116,7 @@ pub record NewOrder (size clock n : ℕ) (os : List Order) (o : Order) : Type 0 
   pub payee : o .payee < size
   pub least : 1 ≤ o .amount
   pub most : o .amount ≤ mostOrder
-  pub returned : ReturnedWithin (o .amount) (o .status)
+  pub status : StatusSound (o .amount) (o .time) clock (o .status)
   pub padded : length (o .txid) ≡ 35
   pub txid : isTxid (unpadded (o .txid)) ≡ true
   pub fresh : (i : ℕ) → i < n → same (orderOf os i .txid) (o .txid) ≡ false
@@ -146,7 +156,7 @@ module _ (size clock n : ℕ) (os : List Order) (s : OrdersSound size clock n os
         payee = each (λ (x : Order). x .payee < size) (s .payee) (new .payee);
         least = each (λ (x : Order). 1 ≤ x .amount) (s .least) (new .least);
         most = each (λ (x : Order). x .amount ≤ mostOrder) (s .most) (new .most);
-        returned = each (λ (x : Order). ReturnedWithin (x .amount) (x .status)) (s .returned) (new .returned);
+        status = each (λ (x : Order). StatusSound (x .amount) (x .time) clock (x .status)) (s .status) (new .status);
         padded = each (λ (x : Order). length (x .txid) ≡ 35) (s .padded) (new .padded);
         txid = each (λ (x : Order). isTxid (unpadded (x .txid)) ≡ true) (s .txid) (new .txid);
         distinct = pairs (λ (x y : Order). same (x .txid) (y .txid) ≡ false) (s .distinct) (new .fresh);

@@ -14,6 +14,7 @@ use Rattle.rules.specs.Refusal.{
   refusal16,
   refusal17,
   refusal18,
+  refusal26,
   refusal19,
   refusal20,
   refusal21,
@@ -31,7 +32,7 @@ use Rattle.rules.specs.declared.finding.Finding.{Finding}
 use Rattle.rules.specs.declared.refusal.Naming.{Naming}
 use Rattle.rules.specs.declared.refusal.Naming.the-variants.{Known, NoParticipant, TxidHeld, NoRoute, Full, TxidNotHeld}
 use Rattle.rules.specs.declared.refusal.Permission.{Permission}
-use Rattle.rules.specs.declared.refusal.Permission.the-variants.{Granted, WrongParty, WrongStatus, AboveOrder}
+use Rattle.rules.specs.declared.refusal.Permission.the-variants.{Granted, WrongParty, WrongStatus, TooLate, AboveOrder}
 use Rattle.rules.specs.declared.refusal.Backing.{Backing}
 use Rattle.rules.specs.declared.refusal.Backing.the-variants.{Backed, TooLittle, NotAsCut, AboveLimit}
 
@@ -43,6 +44,7 @@ pub record NoRefusal (x : Finding) : Type 0 where
   pub r16 : refusal16 x ≡ false
   pub r17 : refusal17 x ≡ false
   pub r18 : refusal18 x ≡ false
+  pub r26 : refusal26 x ≡ false
   pub r19 : refusal19 x ≡ false
   pub r20 : refusal20 x ≡ false
   pub r21 : refusal21 x ≡ false
@@ -72,7 +74,8 @@ none-applies x e =
     let s16 = on namingRefusal (refusal16 x) TxidNotHeld _ (omega arith) (s15 .1) in
     let s17 = on permissionRefusal (refusal17 x) WrongParty _ (omega arith) (c .0) in
     let s18 = on permissionRefusal (refusal18 x) WrongStatus _ (omega arith) (s17 .1) in
-    let s19 = on permissionRefusal (refusal19 x) AboveOrder _ (omega arith) (s18 .1) in
+    let s26 = on permissionRefusal (refusal26 x) TooLate _ (omega arith) (s18 .1) in
+    let s19 = on permissionRefusal (refusal19 x) AboveOrder _ (omega arith) (s26 .1) in
     let s20 = on backingRefusal (refusal20 x) TooLittle _ (omega arith) (c .1) in
     let s21 = on backingRefusal (refusal21 x) NotAsCut _ (omega arith) (s20 .1) in
     let s22 = on backingRefusal (refusal22 x) AboveLimit _ (omega arith) (s21 .1) in
@@ -84,6 +87,7 @@ none-applies x e =
       r16 = s16 .0;
       r17 = s17 .0;
       r18 = s18 .0;
+      r26 = s26 .0;
       r19 = s19 .0;
       r20 = s20 .0;
       r21 = s21 .0;
@@ -106,6 +110,7 @@ late-permission : (a : Permission) → Late (permissionRefusal a)
 late-permission Granted = inl refl
 late-permission WrongParty = inr (omega arith)
 late-permission WrongStatus = inr (omega arith)
+late-permission TooLate = inr (omega arith)
 late-permission AboveOrder = inr (omega arith)
 
 late-backing : (a : Backing) → Late (backingRefusal a)
@@ -141,6 +146,7 @@ small-permission : (a : Permission) → permissionRefusal a < 256
 small-permission Granted = omega arith
 small-permission WrongParty = omega arith
 small-permission WrongStatus = omega arith
+small-permission TooLate = omega arith
 small-permission AboveOrder = omega arith
 
 small-backing : (a : Backing) → backingRefusal a < 256

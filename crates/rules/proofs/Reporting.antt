@@ -26,7 +26,7 @@ use Rattle.rules.specs.Find.{finding}
 use Rattle.rules.specs.Cut.{cutReport, cutReportsTo}
 use Rattle.rules.specs.Decision.{toPayer, toPayee, returnReport, settledTold, settledAnswer, inquiryAnswer, decisionOf, toldBy}
 use Rattle.rules.specs.Step.{stepOf, handed, outcome}
-use Rattle.rules.specs.Sound.{ReturnedWithin, Sound}
+use Rattle.rules.specs.Sound.{StatusSound, Sound}
 use Rattle.rules.specs.declared.finding.Finding.{Finding}
 use Rattle.rules.specs.declared.decision.Told.the-variants.{One, Two}
 use Rattle.rules.specs.declared.Recall.{Recall}
@@ -161,7 +161,7 @@ module _ (b : Book) (s : Sound b) where
     return-few : (m : ℕ) → m ≤ mostOrder → Few 32 (returnReport x m ∷ [])
     return-few m l = few-one 31 _ (fit-order b s _ 6 (numberOf (x .order)) m (s .orders .payer _ h) (omega arith) (order-below b s _ h) l)
 
-    answer-few : (u : Status) → ReturnedWithin (x .about .amount) u → Few 32 (listed (inquiryAnswer x u))
+    answer-few : (u : Status) → StatusSound (x .about .amount) (x .about .time) (b .clock) u → Few 32 (listed (inquiryAnswer x u))
     answer-few status.Waiting w = go (x .bank)
       where
         go : (z : Bool) → Few 32 (cond z (toPayer x 9) (toPayee x 8) ∷ [])
@@ -169,8 +169,8 @@ module _ (b : Book) (s : Sound b) where
         go false = few-one 31 _ (fit-payee 8 (omega arith))
     answer-few status.Refused w = few-one 31 _ (fit-payer 3 (omega arith))
     answer-few status.Expired w = few-one 31 _ (fit-payer 4 (omega arith))
-    answer-few (status.Returned m) w = return-few m (let l = w .1 in let o = s .orders .most _ h in omega arith)
-    answer-few (status.Settled m) w = settled-answer-few m
+    answer-few (status.Returned at m) w = return-few m (let l = w .3 in let o = s .orders .most _ h in omega arith)
+    answer-few (status.Settled m at) w = settled-answer-few m
 
     payer-few : (code : ℕ) → code < 12 → Few 32 (toPayer x code ∷ [])
     payer-few code c = few-one 31 _ (fit-payer code c)
@@ -200,7 +200,7 @@ module _ (b : Book) (s : Sound b) where
     own-few kind.Inquiry tells r =
         let f = fieldsOf kind.Inquiry time n in
         let h = accepting.order-found b f t (r .r16) refl .below in
-        answer-few n time t kind.Inquiry h (accepting.theOrder b f t .status) (s .orders .returned _ h)
+        answer-few n time t kind.Inquiry h (accepting.theOrder b f t .status) (s .orders .status _ h)
     own-few kind.Cut tells r = few-more (b .roster .size) 32 _ (s .roster .size) (cut-few (b .roster .size) (omega arith))
     own-few kind.Confirm tells r = few-none 32
     own-few kind.Tick tells r = few-none 32

@@ -17,7 +17,7 @@ use Rattle.rules.specs.Status.{isWaiting, withStatus}
 use Rattle.rules.specs.Cover.{Enough, transferred, whole, totalOf, total, mostTotal}
 use Rattle.rules.specs.Tick.{atTime, freed}
 use Rattle.rules.specs.Decision.{by}
-use Rattle.rules.specs.Sound.{waitingAmount, waitingSum, ReturnedWithin, CoversSound, Sound}
+use Rattle.rules.specs.Sound.{waitingAmount, waitingSum, StatusSound, CoversSound, Sound}
 use Rattle.rules.specs.declared.decision.Move.the-variants.{Give, Draw, Reserve, Spend}
 use Rattle.rules.specs.declared.decision.Transfer.{Transfer}
 use Rattle.rules.specs.declared.Status.{Status}
@@ -42,7 +42,7 @@ fresh-sound r g =
             payee = λ i h. absurd (not-suc-le-zero h);
             least = λ i h. absurd (not-suc-le-zero h);
             most = λ i h. absurd (not-suc-le-zero h);
-            returned = λ i h. absurd (not-suc-le-zero h);
+            status = λ i h. absurd (not-suc-le-zero h);
             padded = λ i h. absurd (not-suc-le-zero h);
             txid = λ i h. absurd (not-suc-le-zero h);
             distinct = λ i j l h. absurd (not-suc-le-zero h);
@@ -108,7 +108,7 @@ module _ (b : Book) (s : Sound b) where
       (let e = transfer-total (fitted few (s .covers)) m h enough in omega arith)
 
   module _ (i : ℕ) (h : i < b .count) (t : Status) (ended : isWaiting t ≡ false)
-      (within : ReturnedWithin (orderOf (b .orders) i .amount) t) where
+      (fits : StatusSound (orderOf (b .orders) i .amount) (orderOf (b .orders) i .time) (b .clock) t) where
     o : Order
     o = orderOf (b .orders) i
 
@@ -131,7 +131,7 @@ module _ (b : Book) (s : Sound b) where
     ended-sound cs c l =
         record {
           roster = s .roster;
-          orders = status-keeps (b .roster .size) (b .clock) (b .count) (b .orders) (s .orders) i h t within;
+          orders = status-keeps (b .roster .size) (b .clock) (b .count) (b .orders) (s .orders) i h t fits;
           covers = c;
           limited = l;
         }

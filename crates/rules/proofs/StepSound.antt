@@ -8,21 +8,22 @@ use lib.Dec.{eqb}
 use lib.Seq.{set-getD}
 use Rattle.fields.proofs.UpTo.{none-at}
 use Rattle.fields.proofs.Stores.{length-part}
+use Rattle.fields.proofs.Tests.{never}
 use Rattle.ticket.specs.declared.Fields.{Fields}
 use Rattle.ticket.specs.declared.kinds.Kind.{Kind}
 use Rattle.ticket.specs.declared.kinds.Kind.the-variants as kind
 use Rattle.ticket.proofs.TicketTelling.{Tells, listed-txid}
 use Rattle.dayfile.specs.DayFile.{dayFile}
 use Rattle.dayfile.proofs.Accepted.{guaranteed}
-use Rattle.rules.specs.Book.{noOrder, coverOf, withCovers, bookOf}
-use Rattle.rules.specs.Status.{isWaiting, isUnmarked, isAsked}
+use Rattle.rules.specs.Book.{noOrder, orderOf, coverOf, withCovers, bookOf}
+use Rattle.rules.specs.Status.{isWaiting, isUnmarked, isAsked, settledAt}
 use Rattle.rules.specs.Cover.{transferred, total, mostTotal}
 use Rattle.rules.specs.Tick.{Step, tick}
 use Rattle.rules.specs.Find.{isOpen, anyOpen, finding}
 use Rattle.rules.specs.Cut.{cutTo}
 use Rattle.rules.specs.Decision.{by, nobody, orderKept, newOrder, confirmMove, decisionOf, applied}
 use Rattle.rules.specs.Step.{stepOf, handed}
-use Rattle.rules.specs.Sound.{Sound}
+use Rattle.rules.specs.Sound.{StatusSound, Sound}
 use Rattle.rules.specs.declared.decision.Move.the-variants.{Give, Draw, Credit, Debit}
 use Rattle.rules.specs.declared.decision.Transfer.{Transfer}
 use Rattle.rules.specs.declared.decision.Told.{Told}
@@ -46,15 +47,30 @@ pub unmarked-not-waiting : (s : Status) → isUnmarked s ≡ true → isWaiting 
 unmarked-not-waiting status.Waiting e = sym e
 unmarked-not-waiting status.Refused e = refl
 unmarked-not-waiting status.Expired e = refl
-unmarked-not-waiting (status.Returned n) e = refl
-unmarked-not-waiting (status.Settled m) e = refl
+unmarked-not-waiting (status.Returned at n) e = refl
+unmarked-not-waiting (status.Settled m at) e = refl
 
 pub asked-not-waiting : (s : Status) → isAsked s ≡ true → isWaiting s ≡ false
 asked-not-waiting status.Waiting e = sym e
 asked-not-waiting status.Refused e = refl
 asked-not-waiting status.Expired e = refl
-asked-not-waiting (status.Returned n) e = refl
-asked-not-waiting (status.Settled m) e = refl
+asked-not-waiting (status.Returned at n) e = refl
+asked-not-waiting (status.Settled m at) e = refl
+
+-- the settlement time of an order whose status passes a test that Waiting, Refused and Expired fail is from the order's time to the clock
+settled-between : (b : Book) → Sound b → (i : ℕ) → i < b .count → let o = orderOf (b .orders) i in
+    (test : Status → Bool) → test status.Waiting ≡ false → test status.Refused ≡ false → test status.Expired ≡ false
+    → test (o .status) ≡ true
+    → (o .time ≤ settledAt (o .status)) × (settledAt (o .status) ≤ b .clock)
+settled-between b s i h test waiting refused expired passes = go (orderOf (b .orders) i .status) passes (s .orders .status i h)
+  where
+    go : (u : Status) → test u ≡ true → StatusSound (orderOf (b .orders) i .amount) (orderOf (b .orders) i .time) (b .clock) u
+        → (orderOf (b .orders) i .time ≤ settledAt u) × (settledAt u ≤ b .clock)
+    go status.Waiting e w = never (sym e ∙ waiting)
+    go status.Refused e w = never (sym e ∙ refused)
+    go status.Expired e w = never (sym e ∙ expired)
+    go (status.Returned at n) e w = (w .0, w .1)
+    go (status.Settled m at) e w = w
 
 -- a decision that keeps the order: one cover moves
 kept-applied : (b : Book) (f : Fields) (t : List ℕ) (m : Transfer) (told : Told)
@@ -118,7 +134,7 @@ module _ (b : Book) (s : Sound b) (n time : ℕ) (t : List ℕ) where
         payee = accepting.payee-known b f t (s .roster) (r .r14) refl;
         least = tells .least;
         most = tells .most;
-        returned = tt;
+        status = tt;
         padded = length-part 35 38 t (rw (tells .whole) (omega arith));
         txid = listed-txid t f tells refl;
         fresh = accepting.txid-free b f t (r .r13) refl;
@@ -128,7 +144,8 @@ module _ (b : Book) (s : Sound b) (n time : ℕ) (t : List ℕ) where
   own-sound kind.Yes tells r =
       let f = fieldsOf kind.Yes time n in
       keeping.settled-sound b s (accepting.orderNumber b f t) (accepting.order-found b f t (r .r16) refl .below)
-      (status.Settled mark.None) refl tt
+      (status.Settled mark.None (b .clock)) refl
+      (s .orders .early (accepting.orderNumber b f t) (accepting.order-found b f t (r .r16) refl .below), omega arith)
       (accepting.status-meets b f t (r .r18))
   own-sound kind.No tells r =
       let f = fieldsOf kind.No time n in
@@ -139,20 +156,26 @@ module _ (b : Book) (s : Sound b) (n time : ℕ) (t : List ℕ) where
       let f = fieldsOf kind.Recall time n in
       rw (nobody-moves (transferred nobody (b .covers)), nobody-moves (b .covers))
       (keeping.remarked-sound b s (accepting.orderNumber b f t) (accepting.order-found b f t (r .r16) refl .below)
-      (status.Settled mark.Asked) refl tt
+      (status.Settled mark.Asked (settledAt (accepting.theOrder b f t .status))) refl
+      (settled-between b s (accepting.orderNumber b f t) (accepting.order-found b f t (r .r16) refl .below) isUnmarked refl refl refl
+      (accepting.status-meets b f t (r .r18)))
       (unmarked-not-waiting (accepting.theOrder b f t .status) (accepting.status-meets b f t (r .r18))))
   own-sound kind.Return tells r =
       let f = fieldsOf kind.Return time n in
       keeping.returned-sound b s (accepting.orderNumber b f t) (accepting.order-found b f t (r .r16) refl .below)
-      (status.Returned n) refl
-      (tells .least, accepting.order-covers b f t (r .r19) refl)
+      (status.Returned (settledAt (accepting.theOrder b f t .status)) n) refl
+      (let at = settled-between b s (accepting.orderNumber b f t) (accepting.order-found b f t (r .r16) refl .below) isAsked refl refl refl
+      (accepting.status-meets b f t (r .r18)) in
+      (at .0, at .1, tells .least, accepting.order-covers b f t (r .r19) refl))
       (asked-not-waiting (accepting.theOrder b f t .status) (accepting.status-meets b f t (r .r18))) n
       (rw (← accepting.right-party b f t (r .r17) refl) (accepting.cover-there b f t (r .r20) refl))
   own-sound kind.Decline tells r =
       let f = fieldsOf kind.Decline time n in
       rw (nobody-moves (transferred nobody (b .covers)), nobody-moves (b .covers))
       (keeping.remarked-sound b s (accepting.orderNumber b f t) (accepting.order-found b f t (r .r16) refl .below)
-      (status.Settled mark.Declined) refl tt
+      (status.Settled mark.Declined (settledAt (accepting.theOrder b f t .status))) refl
+      (settled-between b s (accepting.orderNumber b f t) (accepting.order-found b f t (r .r16) refl .below) isAsked refl refl refl
+      (accepting.status-meets b f t (r .r18)))
       (asked-not-waiting (accepting.theOrder b f t .status) (accepting.status-meets b f t (r .r18))))
   own-sound kind.Inquiry tells r = rw (same-applied b (fieldsOf kind.Inquiry time n) t _) s
   own-sound kind.Cut tells r =

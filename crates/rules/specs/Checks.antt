@@ -1,8 +1,9 @@
--- Checks 12 to 22, one by one: when each passes, and the number of each answer. They look at the book after the expiries.
+-- Checks from 12 on, one by one: when each passes, and the number of each answer. They look at the book after the expiries.
 --     senderCheck, heldCheck                          12, 16: who sends, and which order is named
 --     newCheck, payeeCheck, spaceCheck                13, 14, 15: whether an order can be opened
 --     partyCheck                                      17
 --     waitingCheck, unmarkedCheck, askedCheck         18, by the status that a step needs
+--     recallCheck                                     26
 --     sumCheck, fundsCheck                            19, 20
 --     cutCheck, confirmCheck                          21, of a cut and of a confirm
 --     limitCheck                                      22
@@ -17,7 +18,7 @@ use Rattle.dayfile.specs.Route.{reached}
 use Rattle.dayfile.specs.declared.route.Followed.{Followed}
 use Rattle.rules.specs.Book.{mostOrders}
 use Rattle.rules.specs.Cover.{mostTotal}
-use Rattle.rules.specs.Status.{isWaiting, isUnmarked, isAsked}
+use Rattle.rules.specs.Status.{isWaiting, isUnmarked, isAsked, isLate}
 use Rattle.rules.specs.declared.decision.Move.{Move}
 use Rattle.rules.specs.declared.decision.Move.the-variants.{Stay, Give, Draw, Reserve, Release, Spend, Credit, Debit}
 use Rattle.rules.specs.declared.checks.Sender.{Sender}
@@ -34,6 +35,8 @@ use Rattle.rules.specs.declared.checks.Party.{Party}
 use Rattle.rules.specs.declared.checks.Party.the-variants.{Right, Wrong}
 use Rattle.rules.specs.declared.checks.Standing.{Standing}
 use Rattle.rules.specs.declared.checks.Standing.the-variants.{AsNeeded, NotAsNeeded}
+use Rattle.rules.specs.declared.checks.Recalling.{Recalling}
+use Rattle.rules.specs.declared.checks.Recalling.the-variants.{InTime, TooLate}
 use Rattle.rules.specs.declared.checks.Sum.{Sum}
 use Rattle.rules.specs.declared.checks.Sum.the-variants.{UpToOrder, AboveOrder}
 use Rattle.rules.specs.declared.checks.Funds.{Funds}
@@ -132,6 +135,14 @@ askedCheck s = standing (isAsked s)
 abbrev pub standingRefusal : Standing → ℕ
 standingRefusal AsNeeded = 0
 standingRefusal NotAsNeeded = 18
+
+-- 26. Recall: 864,000 seconds or more after the settlement (XT86)
+abbrev pub recallCheck : ℕ → Status → Recalling
+recallCheck clock s = cond (isLate clock s) TooLate InTime
+
+abbrev pub recallingRefusal : Recalling → ℕ
+recallingRefusal InTime = 0
+recallingRefusal TooLate = 26
 
 -- 19. Return: amount above the order's (XT77)
 abbrev pub sumCheck : ℕ → ℕ → Sum

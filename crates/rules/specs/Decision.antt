@@ -16,7 +16,7 @@ use Rattle.ticket.specs.declared.kinds.Kind.{Kind}
 use Rattle.ticket.specs.declared.kinds.Kind.the-variants as kind
 use Rattle.dayfile.specs.Route.{reached, rowsFollowed}
 use Rattle.report.specs.declared.Report.{Report}
-use Rattle.rules.specs.Status.{withStatus}
+use Rattle.rules.specs.Status.{settledAt, withStatus}
 use Rattle.rules.specs.Cover.{transferred}
 use Rattle.rules.specs.Tell.{tellOrder, listed}
 use Rattle.rules.specs.Tick.{freed}
@@ -126,8 +126,8 @@ abbrev pub inquiryAnswer : Finding → Status → Told
 inquiryAnswer x status.Waiting = One (cond (x .bank) (toPayer x 9) (toPayee x 8))
 inquiryAnswer x status.Refused = One (toPayer x 3)
 inquiryAnswer x status.Expired = One (toPayer x 4)
-inquiryAnswer x (status.Returned n) = One (returnReport x n)
-inquiryAnswer x (status.Settled mark) = settledAnswer x mark
+inquiryAnswer x (status.Returned at n) = One (returnReport x n)
+inquiryAnswer x (status.Settled mark at) = settledAnswer x mark
 
 -- Confirm: with held, a confirmed credit; with open debit, a confirmed debit
 abbrev pub confirmMove : Finding → Move
@@ -138,25 +138,26 @@ abbrev pub decidedFor : Kind → Finding → Decision
 decidedFor kind.CoverIn x = orderKept x (by (numberOf (x .sender)) Give (x .amount)) false Nobody
 decidedFor kind.CoverOut x = orderKept x (by (numberOf (x .sender)) Draw (x .amount)) false Nobody
 decidedFor kind.Order x = orderOpened x (newOrder x)
--- Yes to Waiting: payer's reserved falls, payee's available rises; Settled, mark none
+-- Yes to Waiting: payer's reserved falls, payee's available rises; Settled, mark none. 02, slip 5: at the yes' time, which is kept from
+-- then on
 decidedFor kind.Yes x =
-    orderBecomes x (status.Settled mark.None)
+    orderBecomes x (status.Settled mark.None (x .clock))
     (by (x .about .payer) Spend (x .about .amount))
     (by (x .about .payee) Give (x .about .amount))
     (settledTold x)
 -- No to Waiting: reserved to available; Refused; report 3 to payer only
 decidedFor kind.No x = orderBecomes x status.Refused (freed (x .about)) nobody (One (toPayer x 3))
 -- Recall of Settled with mark none: asked; report 5 to payee
-decidedFor kind.Recall x = orderBecomes x (status.Settled mark.Asked) nobody nobody (One (toPayee x 5))
+decidedFor kind.Recall x = orderBecomes x (status.Settled mark.Asked (settledAt (x .about .status))) nobody nobody (One (toPayee x 5))
 -- Return of Settled, asked: payee's available falls, payer's rises; Returned. 02, slip 2: by the ticket's amount; a charge stays with the
 -- payee
 decidedFor kind.Return x =
-    orderBecomes x (status.Returned (x .amount))
+    orderBecomes x (status.Returned (settledAt (x .about .status)) (x .amount))
     (by (x .about .payee) Draw (x .amount))
     (by (x .about .payer) Give (x .amount))
     (returnTold x)
 -- Decline of Settled, asked: declined; report 7 to payer
-decidedFor kind.Decline x = orderBecomes x (status.Settled mark.Declined) nobody nobody (One (toPayer x 7))
+decidedFor kind.Decline x = orderBecomes x (status.Settled mark.Declined (settledAt (x .about .status))) nobody nobody (One (toPayer x 7))
 -- Inquiry changes no order
 decidedFor kind.Inquiry x = orderKept x nobody false (inquiryAnswer x (x .about .status))
 decidedFor kind.Cut x = orderKept x nobody true Nobody

@@ -3,7 +3,7 @@
 --     senderIn    the participant whose BIC the ticket's sender is
 --     orderIn     the order with the ticket's TxId
 --     isOpen      a cover has held or open debit
---     finding     all that refusals 12 to 22 and the ticket's own step look at
+--     finding     all that refusals from 12 on and the ticket's own step look at
 -- Assumes nothing.
 use Prim.Native.Nat.{ℕ}
 use mathlib.Core.Bool.{Bool, _||_, not}

@@ -1,11 +1,12 @@
--- Refusals 6 and 11 to 22: the condition of each, in three groups from 12 on, and the number of each answer. Each condition is on any
--- finding, so that it can be read by itself. The code goes kind by kind instead, and `judged-verdict` joins the two.
+-- Refusals 6 and 11 to 22, and 26, which comes directly after 18: the condition of each, in three groups from 12 on, and the number of
+-- each answer. Each condition is on any finding, so that it can be read by itself. The code goes kind by kind instead, and
+-- `judged-verdict` joins the two.
 --     bufferOf, timingOf        6 and 11
 --     namingOf                  12 to 16: who and what is named
---     permissionOf              17 to 19: whether this may be done
+--     permissionOf              17, 18, 26, 19: whether this may be done
 --     backingOf                 20 to 22: whether there is cover and room
---     firstRefusal              the first of 12 to 22 that applies, 0 if none does
--- Conditions 12 to 22 are of what was found in the book after the expiries.
+--     firstRefusal              the first from 12 on that applies, 0 if none does
+-- Conditions from 12 on are of what was found in the book after the expiries.
 -- Assumes nothing.
 use Prim.Native.Nat.{ℕ, _+_}
 use mathlib.Core.Bool.{Bool, true, false, _&&_, not, cond}
@@ -15,6 +16,7 @@ use lib.ListN.{length}
 use Rattle.fields.specs.Search.{isFound, numberOf}
 use Rattle.rules.specs.Book.{mostOrders}
 use Rattle.rules.specs.Cover.{mostTotal}
+use Rattle.rules.specs.Status.{isLate}
 use Rattle.rules.specs.Terms.{termsOf, namesSender, opensOrder, namesOrder, partyOf, meets, draws}
 use Rattle.rules.specs.declared.terms.Flow.{Flow}
 use Rattle.rules.specs.declared.terms.Flow.the-variants as flow
@@ -26,7 +28,7 @@ use Rattle.rules.specs.declared.refusal.Timing.the-variants.{InTime, Ear
 use Rattle.rules.specs.declared.refusal.Naming.{Naming}
 use Rattle.rules.specs.declared.refusal.Naming.the-variants.{Known, NoParticipant, TxidHeld, NoRoute, Full, TxidNotHeld}
 use Rattle.rules.specs.declared.refusal.Permission.{Permission}
-use Rattle.rules.specs.declared.refusal.Permission.the-variants.{Granted, WrongParty, WrongStatus, AboveOrder}
+use Rattle.rules.specs.declared.refusal.Permission.the-variants.{Granted, WrongParty, WrongStatus, TooLate, AboveOrder}
 use Rattle.rules.specs.declared.refusal.Backing.{Backing}
 use Rattle.rules.specs.declared.refusal.Backing.the-variants.{Backed, TooLittle, NotAsCut, AboveLimit}
 use Rattle.rules.specs.declared.Cover.{Cover}
@@ -95,17 +97,26 @@ refusal17 x =
 abbrev pub refusal18 : Finding → Bool
 refusal18 x = not (meets (termsOf (x .kind) .needs) (x .about .status))
 
+-- 26. Recall: 864,000 seconds or more after the settlement (XT86). 02, slip 5: directly after 18 and leaving what 18 leaves
+abbrev pub refusal26 : Finding → Bool
+refusal26 x = termsOf (x .kind) .timely && isLate (x .clock) (x .about .status)
+
 -- 19. Return: amount above the order's (XT77). 02, slip 2: a return may be any amount from 1 cent to the order's; 0 is 9's
 abbrev pub refusal19 : Finding → Bool
 refusal19 x = termsOf (x .kind) .within && ltb (x .about .amount) (x .amount)
 
 abbrev pub permissionOf : Finding → Permission
-permissionOf x = cond (refusal17 x) WrongParty (cond (refusal18 x) WrongStatus (cond (refusal19 x) AboveOrder Granted))
+permissionOf x =
+    cond (refusal17 x) WrongParty
+    (cond (refusal18 x) WrongStatus
+    (cond (refusal26 x) TooLate
+    (cond (refusal19 x) AboveOrder Granted)))
 
 abbrev pub permissionRefusal : Permission → ℕ
 permissionRefusal Granted = 0
 permissionRefusal WrongParty = 17
 permissionRefusal WrongStatus = 18
+permissionRefusal TooLate = 26
 permissionRefusal AboveOrder = 19
 
 -- 20. Kinds 2, 3, 6: available of payer or drawer (for 6 the payee) below the amount (AM04): in each case the sender's

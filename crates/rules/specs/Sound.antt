@@ -3,7 +3,8 @@
 -- them, and they read back from it (`buffer-reads-back`).
 --     waitingAmount   what an order adds to the reserved cover of participant p: its amount, if p pays it and it waits
 --     waitingSum      what all orders in use add
---     ReturnedWithin  what was returned of an order is from 1 cent to its amount
+--     StatusSound     what a status keeps: the settlement is no earlier than the order and no later than the clock, and what was
+--                     returned is from 1 cent to the order's amount
 --     OrdersSound     the orders
 --     CoversSound     the cover, each participant's reserved being what is due
 --     Sound           the book
@@ -36,25 +37,25 @@ waitingAmount p o = cond (isWaiting (o .status) && eqb (o .payer) p) (o .amount)
 abbrev pub waitingSum : ℕ → List Order → ℕ → ℕ
 waitingSum count os p = sumTo (λ i. waitingAmount p (orderOf os i)) count
 
--- 02, slip 2: any amount from 1 cent to the order's
-abbrev pub ReturnedWithin : ℕ → Status → Type 0
-ReturnedWithin amount status.Waiting = Unit {0}
-ReturnedWithin amount status.Refused = Unit {0}
-ReturnedWithin amount status.Expired = Unit {0}
-ReturnedWithin amount (status.Returned n) = (1 ≤ n) × (n ≤ amount)
-ReturnedWithin amount (status.Settled mark) = Unit {0}
+-- 02, slip 5: order's time, settlement and clock never fall; slip 2: any amount from 1 cent to the order's
+abbrev pub StatusSound : ℕ → ℕ → ℕ → Status → Type 0
+StatusSound amount time clock status.Waiting = Unit {0}
+StatusSound amount time clock status.Refused = Unit {0}
+StatusSound amount time clock status.Expired = Unit {0}
+StatusSound amount time clock (status.Returned at n) = (time ≤ at) × (at ≤ clock) × (1 ≤ n) × (n ≤ amount)
+StatusSound amount time clock (status.Settled mark at) = (time ≤ at) × (at ≤ clock)
 
 pub record OrdersSound (size clock n : ℕ) (os : List Order) : Type 0 where
   pub long : length os ≡ mostOrders
   pub count : n ≤ mostOrders
-  -- each order in use: its parties are participants; its amount, its TxId and what was returned of it are such as tickets may have
+  -- each order in use: its parties are participants; its amount, its TxId and what its status keeps are such as tickets may have
   pub payer : (i : ℕ) → i < n → orderOf os i .payer < size
   pub payee : (i : ℕ) → i < n → orderOf os i .payee < size
   pub least : (i : ℕ) → i < n → 1 ≤ orderOf os i .amount
   pub most : (i : ℕ) → i < n → orderOf os i .amount ≤ mostOrder
   pub padded : (i : ℕ) → i < n → length (orderOf os i .txid) ≡ 35
   pub txid : (i : ℕ) → i < n → isTxid (unpadded (orderOf os i .txid)) ≡ true
-  pub returned : (i : ℕ) → i < n → ReturnedWithin (orderOf os i .amount) (orderOf os i .status)
+  pub status : (i : ℕ) → i < n → StatusSound (orderOf os i .amount) (orderOf os i .time) clock (orderOf os i .status)
   -- no two share a TxId; their times never fall in arrival order, and none is after the clock
   pub distinct : (i j : ℕ) → i < j → j < n → same (orderOf os i .txid) (orderOf os j .txid) ≡ false
   pub ordered : (i j : ℕ) → i < j → j < n → orderOf os i .time ≤ orderOf os j .time

@@ -32,7 +32,7 @@ use Rattle.rules.specs.declared.Book.{Book}
 abbrev pub untouched : Book → ℕ → Step
 untouched b n = record { refusal = n; reports = []; rows = 0; book = b }
 
--- 12 to 22 leave what a tick of that time leaves, with its reports
+-- 12 to 22, and 26, which leaves what 18 leaves: what a tick of that time leaves, with its reports
 abbrev pub ticked : Step → ℕ → Step
 ticked w n = record { refusal = n; reports = w .reports; rows = 0; book = w .book }
 

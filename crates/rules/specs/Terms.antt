@@ -23,21 +23,26 @@ use Rattle.rules.specs.declared.Order.{Order}
 
 -- a ticket about an order that is held: who answers, and the status that it needs
 abbrev aboutTerms : Party → Needs → Terms
-aboutTerms party status = record { subject = names.HeldOrder; party = party; needs = status; within = false; flow = flow.Nothing }
+aboutTerms party status =
+    record { subject = names.HeldOrder; party = party; needs = status; timely = false; within = false; flow = flow.Nothing }
 
 -- a ticket about cover
 abbrev coverTerms : Subject → Flow → Terms
-coverTerms subject does = record { subject = subject; party = by.Anyone; needs = needs.Anything; within = false; flow = does }
+coverTerms subject does =
+    record { subject = subject; party = by.Anyone; needs = needs.Anything; timely = false; within = false; flow = does }
 
--- 01: payer answers for kinds 5 and 8, payee for 4, 6, 7; the steps say what status they need
+-- 01: payer answers for kinds 5 and 8, payee for 4, 6, 7; the steps say what status they need. 02, slip 5: of these a recall alone has
+-- to come in time
 abbrev pub termsOf : Kind → Terms
 termsOf kind.CoverIn = coverTerms names.Sender flow.Brings
 termsOf kind.CoverOut = coverTerms names.Sender flow.Draws
 termsOf kind.Order = coverTerms names.NewOrder flow.Draws
 termsOf kind.Yes = aboutTerms by.Payee needs.Waiting
 termsOf kind.No = aboutTerms by.Payee needs.Waiting
-termsOf kind.Recall = aboutTerms by.Payer needs.Unmarked
-termsOf kind.Return = record { subject = names.HeldOrder; party = by.Payee; needs = needs.Asked; within = true; flow = flow.Draws }
+termsOf kind.Recall =
+    record { subject = names.HeldOrder; party = by.Payer; needs = needs.Unmarked; timely = true; within = false; flow = flow.Nothing }
+termsOf kind.Return =
+    record { subject = names.HeldOrder; party = by.Payee; needs = needs.Asked; timely = false; within = true; flow = flow.Draws }
 termsOf kind.Decline = aboutTerms by.Payee needs.Asked
 termsOf kind.Inquiry = aboutTerms by.Payer needs.Anything
 termsOf kind.Cut = coverTerms names.Nothing flow.Cuts

@@ -1,4 +1,4 @@
-// The answers of the checks 12 to 22, an enum for each. The case that passes carries what the checks behind it and the step take from it.
+// The answers of the checks from 12 on, an enum for each. The case that passes carries what the checks behind it and the step take from it.
 // specs/Checks.antt says when each is given, and the refusal's number. 21 has two, since a cut and a confirm look at different things; 18
 // has one enum and a check for each status that a step needs.
 use super::decision::Move;
@@ -43,6 +43,12 @@ pub enum Party {
 pub enum Standing {
     AsNeeded,
     NotAsNeeded,
+}
+
+// 26
+pub enum Recalling {
+    InTime,
+    TooLate,
 }
 
 // 19

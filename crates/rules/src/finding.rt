@@ -1,4 +1,4 @@
-// What a book finds in a ticket: all that refusals 12 to 22 and the ticket's own step look at.
+// What a book finds in a ticket: all that refusals from 12 on and the ticket's own step look at.
 use super::Cover;
 use super::Order;
 use dayfile::route::Followed;

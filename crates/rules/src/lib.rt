@@ -17,13 +17,13 @@ pub enum Recall {
     Declined,
 }
 
-// 02, slip 2: a returned order keeps the returned amount beside its own.
+// 02, slip 5: from its settlement on an order keeps the time of it; slip 2: a returned one keeps the returned amount beside its own.
 pub enum Status {
     Waiting,
     Refused,
     Expired,
-    Returned(u64),
-    Settled(Recall),
+    Returned(u32, u64),
+    Settled(Recall, u32),
 }
 
 // The TxId is stored as its 35 padded bytes; payer and payee are participant numbers.

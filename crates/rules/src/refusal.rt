@@ -22,11 +22,12 @@ pub enum Naming {
     TxidNotHeld,
 }
 
-// 17 to 19: whether this may be done.
+// 17, 18, 26, 19: whether this may be done.
 pub enum Permission {
     Granted,
     WrongParty,
     WrongStatus,
+    TooLate,
     AboveOrder,
 }
 

@@ -32,11 +32,12 @@ pub enum Flow {
     Confirms,
 }
 
-// Within: its amount is at most the order's.
+// Timely: it comes less than 864,000 seconds after the order's settlement. Within: its amount is at most the order's.
 pub struct Terms {
     pub subject: Subject,
     pub party: Party,
     pub needs: Needs,
+    pub timely: bool,
     pub within: bool,
     pub flow: Flow,
 }

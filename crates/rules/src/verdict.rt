@@ -20,8 +20,10 @@ pub struct About {
 
 // Of what was found for a ticket, all that is looked at.
 pub struct Facts {
+    // the ticket's; its time is the clock
     pub kind: Kind,
     pub amount: u64,
+    pub clock: u32,
     // the participant that sends it, and its cover
     pub sender: Found,
     pub cover: Cover,

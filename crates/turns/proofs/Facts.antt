@@ -113,6 +113,7 @@ module _ {b : Book} {t : List ℕ} {e : Entry} {n₀ : ℕ} {text₀ : List ℕ}
           (record {
             kind = e .kind;
             amount = e .amount;
+            clock = c .clock;
             sender = sender;
             cover = coverOf (c .covers) p;
             order = order;

@@ -12,7 +12,7 @@ use Rattle.ticket.specs.declared.kinds.Kind.the-variants as kind
 use Rattle.dayfile.specs.Route.{reached}
 use Rattle.rules.specs.Book.{mostOrders}
 use Rattle.rules.specs.Cover.{mostTotal}
-use Rattle.rules.specs.Status.{isWaiting, isUnmarked, isAsked}
+use Rattle.rules.specs.Status.{isWaiting, isUnmarked, isAsked, isLate}
 use Rattle.rules.specs.Decision.{by, nobody, orderKept, orderBecomes, inquiryAnswer, decisionOf}
 use Rattle.rules.specs.Refusal.{namingRefusal, permissionRefusal, backingRefusal, firstOf, firstRefusal}
 use Rattle.rules.specs.Checks.{
@@ -20,6 +20,7 @@ use Rattle.rules.specs.Checks.{
   partyRefusal,
   standing,
   standingRefusal,
+  recallingRefusal,
   sumRefusal,
   fundsRefusal,
   confirmRefusal,
@@ -37,6 +38,7 @@ use Rattle.rules.specs.declared.refusal.Permission.the-variants as permission
 use Rattle.rules.specs.declared.refusal.Backing.the-variants as backing
 use Rattle.rules.specs.declared.checks.Space.the-variants as space
 use Rattle.rules.specs.declared.checks.Party.the-variants as party
+use Rattle.rules.specs.declared.checks.Recalling.the-variants as recalling
 use Rattle.rules.specs.declared.checks.Sum.the-variants as sum
 use Rattle.rules.specs.declared.checks.Funds.the-variants as funds
 use Rattle.rules.specs.declared.checks.Confirming.{Confirming}
@@ -106,6 +108,20 @@ party-standing : (right met : Bool)
 party-standing false met = refl
 party-standing true false = refl
 party-standing true true = refl
+
+recall-checks : (right met late : Bool)
+    → firstOf
+    (permissionRefusal
+    (cond (not right) permission.WrongParty
+    (cond (not met) permission.WrongStatus
+    (cond late permission.TooLate permission.Granted)))) 0
+    ≡ firstOf (partyRefusal (cond right party.Right party.Wrong))
+    (firstOf (standingRefusal (standing met))
+    (recallingRefusal (cond late recalling.TooLate recalling.InTime)))
+recall-checks false met late = refl
+recall-checks true false late = refl
+recall-checks true true true = refl
+recall-checks true true false = refl
 
 return-checks : (right met above short : Bool)
     → firstOf
@@ -232,10 +248,11 @@ module _ (x : Finding) where
   yes (At p) Nothing r = refl
   yes (At p) (At i) r =
       let y = of kind.Yes (At p) (At i) r in
-      unless-judged y (answerRefusal (At p) (At i) about) (settled i about (x .bank))
+      unless-judged y (answerRefusal (At p) (At i) about) (settled i about (x .bank) (x .clock))
       (party-standing (eqb p (about .payee)) (isWaiting (about .status))) refl
       (ap
-      (orderBecomes y (status.Settled mark.None) (by (about .payer) Spend (about .amount)) (by (about .payee) Give (about .amount)))
+      (orderBecomes y (status.Settled mark.None (x .clock)) (by (about .payer) Spend (about .amount))
+      (by (about .payee) Give (about .amount)))
       (yes-told (about .payer) (about .payee) i (about .amount) (x .bank)))
 
   no : (s o r : Found) → Stands (of kind.No s o r)
@@ -249,8 +266,8 @@ module _ (x : Finding) where
   recall Nothing o r = refl
   recall (At p) Nothing r = refl
   recall (At p) (At i) r =
-      unless-judged (of kind.Recall (At p) (At i) r) (recallRefusal (At p) (At i) about) (recalled i about)
-      (party-standing (eqb p (about .payer)) (isUnmarked (about .status))) refl refl
+      unless-judged (of kind.Recall (At p) (At i) r) (recallRefusal (At p) (At i) about (x .clock)) (recalled i about)
+      (recall-checks (eqb p (about .payer)) (isUnmarked (about .status)) (isLate (x .clock) (about .status))) refl refl
 
   return : (s o r : Found) → Stands (of kind.Return s o r)
   return Nothing o r = refl
@@ -275,10 +292,10 @@ module _ (x : Finding) where
   inquiry-told p i r status.Waiting = waiting-told (about .payer) (about .payee) i (about .amount) (x .bank)
   inquiry-told p i r status.Refused = refl
   inquiry-told p i r status.Expired = refl
-  inquiry-told p i r (status.Returned n) = refl
-  inquiry-told p i r (status.Settled mark.None) = refl
-  inquiry-told p i r (status.Settled mark.Asked) = refl
-  inquiry-told p i r (status.Settled mark.Declined) = refl
+  inquiry-told p i r (status.Returned at n) = refl
+  inquiry-told p i r (status.Settled mark.None at) = refl
+  inquiry-told p i r (status.Settled mark.Asked at) = refl
+  inquiry-told p i r (status.Settled mark.Declined at) = refl
 
   inquiry : (s o r : Found) → Stands (of kind.Inquiry s o r)
   inquiry Nothing o r = refl

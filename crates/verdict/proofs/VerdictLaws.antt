@@ -73,7 +73,7 @@ abbrev pub stepFor : Kind → Facts → Verdict
 stepFor kind.CoverIn x = coverMoved (sending (senderCheck (x .sender))) Give (x .amount)
 stepFor kind.CoverOut x = coverMoved (sending (senderCheck (x .sender))) Draw (x .amount)
 stepFor kind.Order x = opened (x .count) (sending (senderCheck (x .sender))) (receiving (payeeCheck (x .route) (x .way))) (x .amount)
-stepFor kind.Yes x = settled (named (heldCheck (x .order))) (x .about) (x .bank)
+stepFor kind.Yes x = settled (named (heldCheck (x .order))) (x .about) (x .bank) (x .clock)
 stepFor kind.No x = turnedDown (named (heldCheck (x .order))) (x .about)
 stepFor kind.Recall x = recalled (named (heldCheck (x .order))) (x .about)
 stepFor kind.Return x = returned (named (heldCheck (x .order))) (x .about) (x .amount)
@@ -99,7 +99,7 @@ module _ (P : Verdict → Type 0) (refused : (n : ℕ) → P (refusedVerdict n))
       either (orderRefusal (x .sender) (x .order) (x .route) (x .way) (x .count) (x .cover .available) (x .amount)) (stepFor kind.Order x)
   by-kind kind.Yes x = either (answerRefusal (x .sender) (x .order) (x .about)) (stepFor kind.Yes x)
   by-kind kind.No x = either (answerRefusal (x .sender) (x .order) (x .about)) (stepFor kind.No x)
-  by-kind kind.Recall x = either (recallRefusal (x .sender) (x .order) (x .about)) (stepFor kind.Recall x)
+  by-kind kind.Recall x = either (recallRefusal (x .sender) (x .order) (x .about) (x .clock)) (stepFor kind.Recall x)
   by-kind kind.Return x =
       either (returnRefusal (x .sender) (x .order) (x .about) (x .cover .available) (x .amount)) (stepFor kind.Return x)
   by-kind kind.Decline x = either (declineRefusal (x .sender) (x .order) (x .about)) (stepFor kind.Decline x)
@@ -184,21 +184,21 @@ module _ (size : ℕ) (a : About) (payer : a .payer < size) (payee : a .payee < 
   told-below false status.Waiting = payee
   told-below bank status.Refused = payer
   told-below bank status.Expired = payer
-  told-below bank (status.Returned n) = payer
-  told-below bank (status.Settled m) = payer
+  told-below bank (status.Returned at n) = payer
+  told-below bank (status.Settled m at) = payer
 
   also-below : (s : Status) → answerAlso a s .to < size
   also-below status.Waiting = omega arith
   also-below status.Refused = omega arith
   also-below status.Expired = omega arith
-  also-below (status.Returned n) = omega arith
-  also-below (status.Settled mark.None) = omega arith
-  also-below (status.Settled mark.Asked) = payee
-  also-below (status.Settled mark.Declined) = payer
+  also-below (status.Returned at n) = omega arith
+  also-below (status.Settled mark.None at) = omega arith
+  also-below (status.Settled mark.Asked at) = payee
+  also-below (status.Settled mark.Declined at) = payer
 
-  payee-below : (i : ℕ) (bank : Bool) → settled i a bank .also .to < size
-  payee-below i true = payee
-  payee-below i false = omega arith
+  payee-below : (i : ℕ) (bank : Bool) (clock : ℕ) → settled i a bank clock .also .to < size
+  payee-below i true clock = payee
+  payee-below i false clock = omega arith
 
 module _ (size orders : ℕ) (x : Facts) (h : Known size orders x) where
   i : named (heldCheck (x .order)) < orders
@@ -236,7 +236,7 @@ module _ (size orders : ℕ) (x : Facts) (h : Known size orders x) where
         first = h .payer;
         second = h .payee;
         told = h .payer;
-        also = payee-below size (x .about) (h .payer) (h .payee) (named (heldCheck (x .order))) (x .bank);
+        also = payee-below size (x .about) (h .payer) (h .payee) (named (heldCheck (x .order))) (x .bank) (x .clock);
         number = i;
       }
   step-in-range kind.No = record { first = h .payer; second = omega (arith, p); told = h .payer; also = omega (arith, p); number = i }

@@ -1,5 +1,5 @@
--- The judgement of a ticket, kind by kind: the first of 12 to 22 that applies, a check a line, and else the verdict of its step. A later
--- check is looked at only when all before it pass.
+-- The judgement of a ticket, kind by kind: the first refusal from 12 on that applies, a check a line, and else the verdict of its step.
+-- A later check is looked at only when all before it pass.
 --     ..Refusal      the first refusal that applies to a ticket of that kind, 0 if none does
 --     ..Verdict      refused by that, or the step
 --     verdictOf      of any ticket, by what was found for it
@@ -31,6 +31,8 @@ use Rattle.rules.specs.Checks.{
   unmarkedCheck,
   askedCheck,
   standingRefusal,
+  recallCheck,
+  recallingRefusal,
   sumCheck,
   sumRefusal,
   fundsCheck,
@@ -101,22 +103,23 @@ answerRefusal sender order a =
     (firstOf (partyRefusal (partyCheck (sending (senderCheck sender)) (a .payee)))
     (standingRefusal (waitingCheck (a .status)))))
 
-abbrev pub yesVerdict : Found → Found → About → Bool → Verdict
-yesVerdict sender order a bank = unless (answerRefusal sender order a) (settled (named (heldCheck order)) a bank)
+abbrev pub yesVerdict : Found → Found → About → Bool → ℕ → Verdict
+yesVerdict sender order a bank clock = unless (answerRefusal sender order a) (settled (named (heldCheck order)) a bank clock)
 
 abbrev pub noVerdict : Found → Found → About → Verdict
 noVerdict sender order a = unless (answerRefusal sender order a) (turnedDown (named (heldCheck order)) a)
 
--- Recall: of the payer, of Settled with mark none
-abbrev pub recallRefusal : Found → Found → About → ℕ
-recallRefusal sender order a =
+-- Recall: of the payer, of Settled with mark none, less than 864,000 seconds after the settlement
+abbrev pub recallRefusal : Found → Found → About → ℕ → ℕ
+recallRefusal sender order a clock =
     firstOf (senderRefusal (senderCheck sender))
     (firstOf (heldRefusal (heldCheck order))
     (firstOf (partyRefusal (partyCheck (sending (senderCheck sender)) (a .payer)))
-    (standingRefusal (unmarkedCheck (a .status)))))
+    (firstOf (standingRefusal (unmarkedCheck (a .status)))
+    (recallingRefusal (recallCheck clock (a .status))))))
 
-abbrev pub recallVerdict : Found → Found → About → Verdict
-recallVerdict sender order a = unless (recallRefusal sender order a) (recalled (named (heldCheck order)) a)
+abbrev pub recallVerdict : Found → Found → About → ℕ → Verdict
+recallVerdict sender order a clock = unless (recallRefusal sender order a clock) (recalled (named (heldCheck order)) a)
 
 -- Return: of the payee, of Settled, asked, by an amount up to the order's
 abbrev pub returnRefusal : Found → Found → About → ℕ → ℕ → ℕ
@@ -173,9 +176,9 @@ verdictFor kind.CoverIn x = coverInVerdict (x .sender) (x .total) (x .amount)
 verdictFor kind.CoverOut x = coverOutVerdict (x .sender) (x .cover .available) (x .amount)
 verdictFor kind.Order x =
     orderVerdict (x .sender) (x .order) (x .route) (x .way) (x .count) (x .cover .available) (x .amount)
-verdictFor kind.Yes x = yesVerdict (x .sender) (x .order) (x .about) (x .bank)
+verdictFor kind.Yes x = yesVerdict (x .sender) (x .order) (x .about) (x .bank) (x .clock)
 verdictFor kind.No x = noVerdict (x .sender) (x .order) (x .about)
-verdictFor kind.Recall x = recallVerdict (x .sender) (x .order) (x .about)
+verdictFor kind.Recall x = recallVerdict (x .sender) (x .order) (x .about) (x .clock)
 verdictFor kind.Return x = returnVerdict (x .sender) (x .order) (x .about) (x .cover .available) (x .amount)
 verdictFor kind.Decline x = declineVerdict (x .sender) (x .order) (x .about)
 verdictFor kind.Inquiry x = inquiryVerdict (x .sender) (x .order) (x .about) (x .bank)

@@ -47,6 +47,7 @@ factsOf x =
     record {
       kind = x .kind;
       amount = x .amount;
+      clock = x .clock;
       sender = x .sender;
       cover = x .cover;
       order = x .order;

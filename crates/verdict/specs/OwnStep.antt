@@ -5,6 +5,7 @@
 use Prim.Native.Nat.{ℕ}
 use mathlib.Core.Bool.{Bool, cond}
 use lib.Dec.{eqb}
+use Rattle.rules.specs.Status.{settledAt}
 use Rattle.rules.specs.declared.Recall.{Recall}
 use Rattle.rules.specs.declared.Recall.the-variants as mark
 use Rattle.rules.specs.declared.Status.{Status}
@@ -70,12 +71,13 @@ opened i payer payee n =
       also = noNotice;
     }
 
--- Yes to Waiting: payer's reserved falls, payee's available rises; Settled, mark none; report 2 to payer, then to payee if a bank
-abbrev pub settled : ℕ → About → Bool → Verdict
-settled i a bank =
+-- Yes to Waiting: payer's reserved falls, payee's available rises; Settled, mark none; report 2 to payer, then to payee if a bank. 02,
+-- slip 5: an order remembers the time of its settlement
+abbrev pub settled : ℕ → About → Bool → ℕ → Verdict
+settled i a bank clock =
     record {
       refusal = 0;
-      does = Becomes (status.Settled mark.None);
+      does = Becomes (status.Settled mark.None clock);
       number = i;
       first = mover (a .payer) Spend;
       second = mover (a .payee) Give;
@@ -99,11 +101,11 @@ turnedDown i a =
     }
 
 -- the order's mark changes, and one is told
-abbrev pub marked : Recall → ℕ → ℕ → Notice → Verdict
-marked m i n told =
+abbrev pub marked : Recall → ℕ → ℕ → ℕ → Notice → Verdict
+marked m at i n told =
     record {
       refusal = 0;
-      does = Becomes (status.Settled m);
+      does = Becomes (status.Settled m at);
       number = i;
       first = noMover;
       second = noMover;
@@ -114,18 +116,18 @@ marked m i n told =
 
 -- Recall of Settled with mark none: asked; report 5 to payee
 abbrev pub recalled : ℕ → About → Verdict
-recalled i a = marked mark.Asked i (a .amount) (notice (a .payee) 5)
+recalled i a = marked mark.Asked (settledAt (a .status)) i (a .amount) (notice (a .payee) 5)
 
 -- Decline of Settled, asked: declined; report 7 to payer
 abbrev pub declined : ℕ → About → Verdict
-declined i a = marked mark.Declined i (a .amount) (notice (a .payer) 7)
+declined i a = marked mark.Declined (settledAt (a .status)) i (a .amount) (notice (a .payer) 7)
 
 -- Return of Settled, asked: payee's available falls, payer's rises; Returned; report 6 to payer. 02, slip 2: by the ticket's amount
 abbrev pub returned : ℕ → About → ℕ → Verdict
 returned i a n =
     record {
       refusal = 0;
-      does = Becomes (status.Returned n);
+      does = Becomes (status.Returned (settledAt (a .status)) n);
       number = i;
       first = mover (a .payee) Draw;
       second = mover (a .payer) Give;
@@ -139,8 +141,8 @@ abbrev pub answerTold : About → Bool → Status → Notice
 answerTold a bank status.Waiting = cond bank (notice (a .payer) 9) (notice (a .payee) 8)
 answerTold a bank status.Refused = notice (a .payer) 3
 answerTold a bank status.Expired = notice (a .payer) 4
-answerTold a bank (status.Returned n) = notice (a .payer) 6
-answerTold a bank (status.Settled m) = notice (a .payer) 2
+answerTold a bank (status.Returned at n) = notice (a .payer) 6
+answerTold a bank (status.Settled m at) = notice (a .payer) 2
 
 -- then 8 to payee if asked, or 7 to payer if declined
 abbrev pub markTold : About → Recall → Notice
@@ -152,16 +154,16 @@ abbrev pub answerAlso : About → Status → Notice
 answerAlso a status.Waiting = noNotice
 answerAlso a status.Refused = noNotice
 answerAlso a status.Expired = noNotice
-answerAlso a (status.Returned n) = noNotice
-answerAlso a (status.Settled m) = markTold a m
+answerAlso a (status.Returned at n) = noNotice
+answerAlso a (status.Settled m at) = markTold a m
 
 -- 02, slip 2: report 6 carries the returned amount, also when an inquiry repeats it; the others carry the order's
 abbrev pub answerAmount : About → Status → ℕ
 answerAmount a status.Waiting = a .amount
 answerAmount a status.Refused = a .amount
 answerAmount a status.Expired = a .amount
-answerAmount a (status.Returned n) = n
-answerAmount a (status.Settled m) = a .amount
+answerAmount a (status.Returned at n) = n
+answerAmount a (status.Settled m at) = a .amount
 
 -- Inquiry changes no order
 abbrev pub answered : ℕ → About → Bool → Verdict

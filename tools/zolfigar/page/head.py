@@ -14,7 +14,7 @@ ADDS_UP = (
 )
 NOT_LOOKED_AT = (
     "Held against each other: tickets, answers, reports and closing positions. Which refusal a ticket should have had is not "
-    "looked at here."
+    "looked at here, but for late recalls."
 )
 
 

@@ -8,6 +8,7 @@ from typing import NamedTuple
 from xml.etree.ElementTree import Element
 
 from .. import telling
+from ..figures import clock
 from ..history import Day, Event, Order
 from ..words import FLAGS, KINDS, LIMIT
 from .markup import node, percent
@@ -108,9 +109,13 @@ def signs_of(order: Order, event: Event) -> Iterator[str]:
 
 
 def sign_words(order: Order, event: Event, name: str) -> str:
-    """What a sign says of an event; of a return in part also what came back and what was kept."""
-    part = telling.part(event.ticket["amount"], order) if name == "return" else ""
-    return " ".join(filter(None, (SIGNS[name], part)))
+    """What a sign says of an event; of a settlement also its time, of a return in part what came back and what was kept."""
+    more = ""
+    if name == "settled":
+        more = f"at {clock(event.time)}"
+    elif name == "return":
+        more = telling.part(event.ticket["amount"], order)
+    return " ".join(filter(None, (SIGNS[name], more)))
 
 
 def marks_of(order: Order) -> list[Mark]:
@@ -118,7 +123,7 @@ def marks_of(order: Order) -> list[Mark]:
     for event in order.events:
         for name in signs_of(order, event):
             age, said = event.time - order.time, sign_words(order, event, name)
-            why = f": {telling.refusal(event.refusal)}" if name == "turned" else ""
+            why = f": {telling.reason(event, order)}" if name == "turned" else ""
             marks.append(Mark(event, age, name, f"{age:,} s: {said}, ticket {event.number} ({kind_words(event)}){why}"))
     return marks
 

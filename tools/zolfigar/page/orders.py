@@ -5,6 +5,7 @@ from xml.etree.ElementTree import Element
 from .. import audit, telling
 from ..figures import counted, euro
 from ..history import Day, Order, text_of
+from ..words import LIMIT
 from . import lives
 from .markup import Child, comma_separated, head_row, link, member_link, node, section, ticket_link
 from .view import View
@@ -27,6 +28,12 @@ def standing_words(order: Order) -> list[Child]:
     return [word, " ", ticket_link(order.returned.number, part)] if order.returned and part else [word]
 
 
+def late_words(order: Order) -> list[Child]:
+    """That recalls of the order came too late, which leads to the first of them."""
+    words = telling.not_recalled(order)
+    return [", ", ticket_link(order.late_recalls[0].number, words)] if words else []
+
+
 def ended_words(order: Order) -> list[Child]:
     """How the order stands, and after how long its wait ended: settled after 4 s, returned."""
     after = telling.ended_after(order)
@@ -38,9 +45,9 @@ def ended_words(order: Order) -> list[Child]:
 
 
 def status_words(day: Day, order: Order) -> list[Child]:
-    """How the order stands, and that a linked system has no limit."""
-    words = ended_words(order)
-    return words if audit.is_for_bank(day, order) else [*words, " ", node("small", "no limit: linked system")]
+    """How the order stands, that recalls of it came too late, and that a linked system has no limit of 20 seconds."""
+    words = [*ended_words(order), *late_words(order)]
+    return words if audit.is_for_bank(day, order) else [*words, " ", node("small", f"no {LIMIT} s limit: linked system")]
 
 
 def life_cell(view: View, order: Order) -> Element:

@@ -62,7 +62,7 @@ def ticket_row(view: View, event: Event) -> Element:
         node("th", ticket_link(event.number), scope="row"),
         node("td", clock(event.time), class_="time"),
         ticket_cell(event),
-        node("td", telling.outcome(event), class_="outcome"),
+        node("td", telling.outcome(view.day, event), class_="outcome"),
         node("td", folded(reports, FEW, "report"), class_="reports"),
         node("td", folded(moves, FEW, "movement"), class_="moved"),
     ]

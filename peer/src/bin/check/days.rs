@@ -3,7 +3,7 @@
 use crate::codes;
 use crate::random::Random;
 use crate::setup::{new_bic, set_up, Setup};
-use peer::book::{Book, Recall, Status, MOST_ORDERS, WAIT};
+use peer::book::{Book, Recall, Status, LATE, MOST_ORDERS, WAIT};
 use peer::codes::{Bic, TxId};
 use peer::dayfile::{DayFile, Roster, MOST_OPENING, MOST_TICKETS};
 use peer::report::BUFFER_LEN;
@@ -24,6 +24,8 @@ pub enum Style {
     OneSecond,
     /// Cover near its limit, many cuts and confirms.
     NearLimit,
+    /// Recalls, and answers to them, about ten days after the settlement, sometimes at the top of 32 bits.
+    Recalls,
     /// A full working day, with few faults.
     Working,
 }
@@ -34,6 +36,7 @@ fn weights(style: Style) -> [u64; 11] {
         Style::Mixed | Style::Long => [8, 6, 24, 17, 8, 9, 5, 11, 4, 9, 3],
         Style::FullBook | Style::OneSecond => [10, 2, 60, 15, 4, 4, 2, 8, 2, 4, 2],
         Style::NearLimit => [25, 8, 10, 8, 4, 4, 2, 4, 12, 24, 3],
+        Style::Recalls => [3, 2, 26, 26, 19, 7, 6, 9, 1, 2, 1],
         Style::Working => [4, 2, 47, 34, 3, 2, 1, 6, 1, 3, 1],
     }
 }
@@ -45,6 +48,7 @@ pub fn style(random: &mut Random) -> Style {
         4..=7 => Style::Long,
         8..=9 => Style::Working,
         10..=39 => Style::NearLimit,
+        40..=59 => Style::Recalls,
         _ => Style::Mixed,
     }
 }
@@ -67,6 +71,7 @@ fn ticket_count(random: &mut Random, style: Style) -> usize {
         Style::Mixed => random.between(0, 40),
         Style::Long => random.between(100, 512),
         Style::NearLimit => random.between(5, 40),
+        Style::Recalls => random.between(15, 75),
         Style::FullBook | Style::OneSecond => random.between(300, 512),
         Style::Working => 512,
     };
@@ -96,6 +101,17 @@ fn setup(random: &mut Random, style: Style) -> Setup {
     }
 }
 
+fn first_time(random: &mut Random, style: Style) -> u32 {
+    match random.below(5) {
+        // About the last settlement of which a recall can be late.
+        0 | 1 if style == Style::Recalls => u32::MAX - LATE + 1 - random.below(4) as u32,
+        0 => u32::MAX - random.below(80) as u32,
+        1 => random.next() as u32,
+        2 => random.below(100) as u32,
+        _ => 0,
+    }
+}
+
 struct Maker<'a> {
     random: &'a mut Random,
     style: Style,
@@ -110,12 +126,7 @@ impl<'a> Maker<'a> {
         let setup = setup(random, style);
         let day = set_up(random, &setup);
         let roster = DayFile::read(&day.bytes()).map_or(Roster::empty(), |day| day.roster);
-        let first_time = match random.below(5) {
-            0 => u32::MAX - random.below(80) as u32,
-            1 => random.next() as u32,
-            2 => random.below(100) as u32,
-            _ => 0,
-        };
+        let first_time = first_time(random, style);
         Maker { random, style, first_time, day, book: Book::new(roster), buffer: [0; BUFFER_LEN] }
     }
 
@@ -128,6 +139,9 @@ impl<'a> Maker<'a> {
         let kind = self.kind(number);
         let time = self.time(number, kind);
         let mut ticket = TicketFields { time, ..self.fields(kind) };
+        if self.comes_ten_days_later(kind) {
+            ticket.time = self.time_ten_days_later(&ticket);
+        }
         let faulty_one_in = if self.style == Style::Working { 60 } else { 7 };
         while self.random.one_in(faulty_one_in) {
             self.add_fault(&mut ticket);
@@ -143,6 +157,7 @@ impl<'a> Maker<'a> {
         let starts_with_cover = match self.style {
             Style::Mixed => self.random.below(3),
             Style::NearLimit => 1,
+            Style::Recalls => 3,
             _ => 32,
         };
         if (number as u64) < starts_with_cover {
@@ -175,11 +190,11 @@ impl<'a> Maker<'a> {
 
     /// Whether no order or cover is as the kind needs it.
     fn is_out_of_place(&self, kind: u8) -> bool {
-        let none = |status| self.book.orders().iter().all(|order| order.status != status);
+        let none = |fits: fn(Status) -> bool| !self.book.orders().iter().any(|order| fits(order.status));
         match kind {
-            4 => none(Status::Waiting),
-            5 => none(Status::Settled(Recall::None)),
-            6 | 7 => none(Status::Settled(Recall::Asked)),
+            4 => none(is_waiting),
+            5 => none(is_unmarked),
+            6 | 7 => none(is_asked),
             8 => self.book.orders().is_empty(),
             9 => self.is_cut_open(),
             10 => !self.is_cut_open(),
@@ -202,6 +217,7 @@ impl<'a> Maker<'a> {
         }
         let step = match self.random.below(100) {
             0..=44 => 0,
+            _ if self.style == Style::Recalls => self.random.below(2) as u32,
             45..=69 => self.random.below(3) as u32,
             70..=84 if self.style != Style::Working => return self.time_after_an_order(),
             85..=89 if self.style != Style::Working => self.random.below(30) as u32,
@@ -225,11 +241,34 @@ impl<'a> Maker<'a> {
     /// About 20 seconds after an order that may still wait, unless the clock is past that.
     fn time_after_an_order(&mut self) -> u32 {
         let clock = self.book.clock();
-        let Some(number) = self.order_with(|status| status == Status::Waiting, 90) else {
+        let Some(number) = self.order_with(is_waiting, 90) else {
             return clock;
         };
         let wait = self.random.pick(&[WAIT - 1, WAIT, WAIT, WAIT, WAIT + 1]);
         clock.max(self.book.orders()[number].time.saturating_add(wait))
+    }
+
+    fn comes_ten_days_later(&mut self, kind: u8) -> bool {
+        let one_in = match self.style {
+            Style::Recalls if matches!(kind, 5..=7) => 4,
+            Style::Recalls => 40,
+            Style::Mixed | Style::Long | Style::NearLimit => 200,
+            Style::FullBook | Style::OneSecond | Style::Working => return false,
+        };
+        self.random.one_in(one_in)
+    }
+
+    /// About 864,000 seconds after the settlement of the ticket's order, or of any if it names none, unless the clock is past
+    /// that; after the order itself if it isn't settled.
+    fn time_ten_days_later(&mut self, ticket: &TicketFields) -> u32 {
+        let Some(number) = self.book.order_with(&ticket.tx_id).or_else(|| self.order_with(|_| true, 100)) else {
+            return ticket.time;
+        };
+        let order = &self.book.orders()[number];
+        let start = order.settled_at().unwrap_or(order.time);
+        let more = self.random.of_any_size(5_000_000) as u32;
+        let seconds = self.random.pick(&[LATE - 1, LATE - 1, LATE, LATE, LATE + 1, LATE + more]);
+        self.book.clock().max(start.saturating_add(seconds))
     }
 
     fn fields(&mut self, kind: u8) -> TicketFields {
@@ -238,9 +277,9 @@ impl<'a> Maker<'a> {
             2 => self.cover_out(),
             3 => self.order(),
             4 => self.answer(),
-            5 => self.about(kind, |status| status == Status::Settled(Recall::None), true),
+            5 => self.recall(),
             6 => self.return_order(),
-            7 => self.about(kind, |status| status == Status::Settled(Recall::Asked), false),
+            7 => self.about(kind, is_asked, false),
             8 => self.inquiry(),
             10 => self.confirm(),
             _ => TicketFields::new(kind, 0),
@@ -267,7 +306,7 @@ impl<'a> Maker<'a> {
     }
 
     fn has_modest_amounts(&self) -> bool {
-        self.fills_the_book() || self.style == Style::Working
+        self.fills_the_book() || matches!(self.style, Style::Recalls | Style::Working)
     }
 
     /// What a participant lacks of its opening cover.
@@ -345,14 +384,19 @@ impl<'a> Maker<'a> {
 
     fn answer(&mut self) -> TicketFields {
         let flag = if self.random.percent(70) { 1 } else { 2 };
-        TicketFields { flag, ..self.about(4, |status| status == Status::Waiting, false) }
+        TicketFields { flag, ..self.about(4, is_waiting, false) }
+    }
+
+    /// Now and then of an order that is recalled already.
+    fn recall(&mut self) -> TicketFields {
+        let is_second = self.style != Style::Working && self.random.one_in(8);
+        self.about(5, if is_second { is_recalled } else { is_unmarked }, true)
     }
 
     /// Now and then of an order that is returned already.
     fn return_order(&mut self) -> TicketFields {
         let is_second = self.style != Style::Working && self.random.one_in(12);
-        let fits = |status: Status| if is_second { is_returned(status) } else { status == Status::Settled(Recall::Asked) };
-        let ticket = self.about(6, fits, false);
+        let ticket = self.about(6, if is_second { is_returned } else { is_asked }, false);
         let amount = match self.book.order_with(&ticket.tx_id) {
             Some(number) => self.returned(number),
             None => self.random.between(1, 1000),
@@ -365,7 +409,7 @@ impl<'a> Maker<'a> {
     fn returned(&mut self, number: usize) -> u64 {
         let order = &self.book.orders()[number];
         let (amount, payee) = (order.amount, usize::from(order.payee));
-        let rest = if let Status::Returned(returned) = order.status { amount - returned } else { amount };
+        let rest = if let Status::Returned(_, returned) = order.status { amount - returned } else { amount };
         let available = self.book.covers()[payee].available;
         let part = self.random.between(1, amount);
         match self.random.below(24) {
@@ -380,15 +424,14 @@ impl<'a> Maker<'a> {
     }
 
     fn inquiry(&mut self) -> TicketFields {
-        let wanted = self.random.below(8);
-        let fits = |status: Status| match wanted {
-            0 | 1 => status == Status::Waiting,
-            2 => status == Status::Refused,
-            3 => status == Status::Expired,
-            4 => is_returned(status),
-            5 => status == Status::Settled(Recall::None),
-            6 => status == Status::Settled(Recall::Asked),
-            _ => status == Status::Settled(Recall::Declined),
+        let fits = match self.random.below(8) {
+            0 | 1 => is_waiting,
+            2 => |status| status == Status::Refused,
+            3 => |status| status == Status::Expired,
+            4 => is_returned,
+            5 => is_unmarked,
+            6 => is_asked,
+            _ => |status| matches!(status, Status::Settled(Recall::Declined, _)),
         };
         self.about(8, fits, true)
     }
@@ -519,9 +562,27 @@ impl<'a> Maker<'a> {
     }
 }
 
+fn is_waiting(status: Status) -> bool {
+    status == Status::Waiting
+}
+
+/// Settled and never recalled.
+fn is_unmarked(status: Status) -> bool {
+    matches!(status, Status::Settled(Recall::None, _))
+}
+
+fn is_asked(status: Status) -> bool {
+    matches!(status, Status::Settled(Recall::Asked, _))
+}
+
+/// Asked, declined or returned.
+fn is_recalled(status: Status) -> bool {
+    is_returned(status) || matches!(status, Status::Settled(Recall::Asked | Recall::Declined, _))
+}
+
 /// Returned, by whatever amount.
 fn is_returned(status: Status) -> bool {
-    matches!(status, Status::Returned(_))
+    matches!(status, Status::Returned(..))
 }
 
 fn first_flag(kind: u8) -> u8 {

@@ -10,7 +10,7 @@ use peer::handing::Input;
 use std::io;
 
 const DEFAULT_INPUTS: u64 = 20_000;
-/// So many tickets meet everything, with each of 78 seeds.
+/// So many tickets meet everything, with each of 200 seeds.
 const ENOUGH_INPUTS: u64 = 20_000;
 /// Cases that go through the program at once.
 const BATCH: u64 = 64;

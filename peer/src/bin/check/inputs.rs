@@ -76,6 +76,7 @@ fn style(turn: u64) -> Style {
         2 => Style::FullBook,
         3 => Style::Long,
         4..=15 => Style::NearLimit,
+        16..=31 => Style::Recalls,
         _ => Style::Mixed,
     }
 }

@@ -1,9 +1,9 @@
 //! Counts what the cases met: refusals, accepted kinds, lengths of tickets and buffers, what was kept, and books at the end.
 
 use crate::inputs::Case;
-use crate::tally::print_row;
+use crate::tally::{print_row, ANSWERS};
 use crate::verdict::Lacks;
-use peer::book::{Answer, Book, Order, Recall, Status};
+use peer::book::{Answer, Book, Order, Recall, Status, LATE};
 use peer::handing::{open, Input};
 use peer::report::{BUFFER_LEN, REPORT_LEN};
 use peer::ticket::TICKET_LEN;
@@ -32,6 +32,8 @@ const NAMES: &[&str] = &[
     "refusals 6 to 11: all bytes kept",
     "refusals 12 to 22: bytes behind the expiries' reports kept",
     "refusals 12 to 22 without reports: all bytes kept",
+    "refusal 26: bytes behind the expiries' reports kept",
+    "refusal 26 without reports: all bytes kept",
     "reports up to the last byte of a buffer",
     "clock at the end",
     "available at the end",
@@ -46,13 +48,18 @@ const NAMES: &[&str] = &[
     "order at the end: Settled-none",
     "order at the end: Settled-asked",
     "order at the end: Settled-declined",
+    "Returned at the end, settled between order and clock",
+    "Settled-none at the end, settled between order and clock",
+    "Settled-asked at the end, settled between order and clock",
+    "Settled-declined at the end, settled between order and clock",
+    "settlement 864,000 seconds or more before the end",
 ];
 
 pub struct InputsTally {
     pub cases: u64,
     pub inputs: u64,
     /// By refusal, 0 for accepted tickets.
-    answers: [u64; 23],
+    answers: [u64; ANSWERS],
     /// Accepted tickets by kind.
     kinds: [u64; 12],
     names: BTreeMap<&'static str, u64>,
@@ -61,7 +68,7 @@ pub struct InputsTally {
 impl InputsTally {
     pub fn new() -> Self {
         let names = NAMES.iter().map(|name| (*name, 0)).collect();
-        InputsTally { cases: 0, inputs: 0, answers: [0; 23], kinds: [0; 12], names }
+        InputsTally { cases: 0, inputs: 0, answers: [0; ANSWERS], kinds: [0; 12], names }
     }
 
     pub fn case(&mut self, case: &Case) {
@@ -124,6 +131,8 @@ impl InputsTally {
             (0, 0) => "accepted without reports: all bytes kept",
             (0, _) => "accepted: bytes behind the reports kept",
             (6..=11, _) => "refusals 6 to 11: all bytes kept",
+            (26, 0) => "refusal 26 without reports: all bytes kept",
+            (26, _) => "refusal 26: bytes behind the expiries' reports kept",
             (_, 0) => "refusals 12 to 22 without reports: all bytes kept",
             _ => "refusals 12 to 22: bytes behind the expiries' reports kept",
         });
@@ -138,7 +147,10 @@ impl InputsTally {
             self.count_if(cover.held != 0, "held at the end");
             self.count_if(cover.open_debit != 0, "open debit at the end");
         }
-        book.orders().iter().for_each(|order| self.order(order));
+        for order in book.orders() {
+            self.order(order);
+            self.settlement(order, book.clock());
+        }
     }
 
     fn order(&mut self, order: &Order) {
@@ -146,12 +158,28 @@ impl InputsTally {
             Status::Waiting => "order at the end: Waiting",
             Status::Refused => "order at the end: Refused",
             Status::Expired => "order at the end: Expired",
-            Status::Returned(_) => "order at the end: Returned",
-            Status::Settled(Recall::None) => "order at the end: Settled-none",
-            Status::Settled(Recall::Asked) => "order at the end: Settled-asked",
-            Status::Settled(Recall::Declined) => "order at the end: Settled-declined",
+            Status::Returned(..) => "order at the end: Returned",
+            Status::Settled(Recall::None, _) => "order at the end: Settled-none",
+            Status::Settled(Recall::Asked, _) => "order at the end: Settled-asked",
+            Status::Settled(Recall::Declined, _) => "order at the end: Settled-declined",
         });
         self.count_if(order.is_returned_in_part(), "order at the end: Returned in part");
+    }
+
+    /// The time of an order's settlement, which is printed with its status; it shows where it is no other time of the order.
+    fn settlement(&mut self, order: &Order, clock: u32) {
+        let Some(settled_at) = order.settled_at() else {
+            return;
+        };
+        self.count_if(clock - settled_at >= LATE, "settlement 864,000 seconds or more before the end");
+        let is_between = order.time < settled_at && settled_at < clock;
+        let name = match order.status {
+            Status::Settled(Recall::None, _) => "Settled-none at the end, settled between order and clock",
+            Status::Settled(Recall::Asked, _) => "Settled-asked at the end, settled between order and clock",
+            Status::Settled(Recall::Declined, _) => "Settled-declined at the end, settled between order and clock",
+            _ => "Returned at the end, settled between order and clock",
+        };
+        self.count_if(is_between, name);
     }
 
     fn count(&mut self, name: &'static str) {
@@ -168,7 +196,7 @@ impl InputsTally {
     pub fn print(&self) -> Lacks {
         let mut lacks = Lacks::default();
         println!("\ncases {}, tickets handed in one by one {}", self.cases, self.inputs);
-        for refusal in (0..23).filter(|refusal| *refusal == 0 || *refusal > 5) {
+        for refusal in [0].into_iter().chain(6..=22).chain([26]) {
             let name = if refusal == 0 { "accepted".to_string() } else { format!("refusal {refusal}") };
             print_row(&name, self.answers[refusal], &mut lacks);
         }

@@ -24,6 +24,7 @@ mod message_tree;
 mod messages;
 mod program;
 mod random;
+mod recall_tally;
 mod reduce;
 mod setup;
 mod tally;
@@ -64,8 +65,8 @@ if there are programs for these. What is never met fails the check from 10000 da
   --write-messages FILE  writes messages there, as the program reads them, and compares nothing";
 
 const DEFAULT_DAYS: u64 = 20_000;
-/// So many days meet everything. The rarest is a ticket with 544 reports: 24 of it in 20,000 days, and none in 4,000 with one seed
-/// in 76.
+/// So many days meet everything, with each of 100 seeds; in 4,000 days two of these lack one thing each. The rarest is a ticket
+/// with 544 reports: 26 of it in 20,000 days.
 const ENOUGH_DAYS: u64 = 10_000;
 /// Days that go through the program at once.
 const BATCH: u64 = 250;

@@ -1,6 +1,7 @@
 //! Counts what the days met: refusals, accepted kinds, report codes, steps and faults of files.
 
 use crate::damage::FAULTS;
+use crate::recall_tally;
 use crate::verdict::Lacks;
 use peer::book::{Answer, Book, Cover, Order, Recall, Status, WAIT};
 use peer::codes::{is_iban, unpadded, IBAN_LEN};
@@ -89,6 +90,13 @@ const STEPS: &[&str] = &[
     "ticket with 544 reports",
 ];
 
+fn steps() -> impl Iterator<Item = &'static str> {
+    STEPS.iter().chain(recall_tally::NAMES).copied()
+}
+
+/// One more than the last refusal of a ticket.
+pub const ANSWERS: usize = 27;
+
 /// The kinds of ticket that can meet each refusal from 7 on; 0 stands for all other bytes.
 fn kinds_with(refusal: usize) -> &'static [usize] {
     match refusal {
@@ -105,6 +113,7 @@ fn kinds_with(refusal: usize) -> &'static [usize] {
         20 => &[2, 3, 6],
         21 => &[9, 10],
         22 => &[1, 10],
+        26 => &[5],
         _ => &[],
     }
 }
@@ -115,11 +124,13 @@ pub struct Tally {
     /// By refusal, 0 for files that are read.
     files: [u64; 6],
     /// By refusal, 0 for accepted tickets, and by kind.
-    answers: [[u64; 12]; 23],
+    answers: [[u64; 12]; ANSWERS],
     /// By code.
     reports: [u64; 12],
     steps: BTreeMap<&'static str, u64>,
     faults: Vec<u64>,
+    /// The times of the day's recalls, accepted or late, by order; of several late ones the first.
+    recalls: BTreeMap<usize, u32>,
 }
 
 impl Tally {
@@ -128,10 +139,11 @@ impl Tally {
             days: 0,
             tickets: 0,
             files: [0; 6],
-            answers: [[0; 12]; 23],
+            answers: [[0; 12]; ANSWERS],
             reports: [0; 12],
-            steps: STEPS.iter().map(|name| (*name, 0)).collect(),
+            steps: steps().map(|name| (name, 0)).collect(),
             faults: vec![0; FAULTS.len()],
+            recalls: BTreeMap::new(),
         }
     }
 
@@ -150,6 +162,7 @@ impl Tally {
         let tickets = day.tickets();
         let mut book = Book::new(day.roster);
         let mut buffer = [0; BUFFER_LEN];
+        self.recalls.clear();
         for ticket in tickets {
             self.ticket(&mut book, ticket, &mut buffer);
         }
@@ -172,8 +185,10 @@ impl Tally {
             self.small_letters(unpadded(&bytes[IBAN_AT..IBAN_AT + IBAN_LEN]));
         }
         if let Some(ticket) = ticket.filter(|_| !(7..=11).contains(&refusal)) {
-            let seen = Seen { book, ticket: &ticket, answer, buffer, cover_before: cover, clock_before: clock };
+            let recalled_at = book.order_with(ticket.tx_id).and_then(|number| self.recalls.get(&number).copied());
+            let seen = Seen { book, ticket: &ticket, answer, buffer, cover_before: cover, clock_before: clock, recalled_at };
             self.waits(&seen);
+            self.recalls(&seen);
             match (refusal, ticket.kind) {
                 (0, _) => self.step(&seen),
                 (18..=20, Kind::Return) => self.refused_return(&seen, refusal),
@@ -182,6 +197,12 @@ impl Tally {
                 _ => (),
             }
         }
+    }
+
+    /// How often that was met.
+    #[cfg(test)]
+    pub fn steps(&self, name: &str) -> u64 {
+        self.steps[name]
     }
 
     fn count(&mut self, name: &'static str) {
@@ -207,6 +228,16 @@ impl Tally {
         let is_alone_at = |byte: Option<&u8>| count == 1 && byte.is_some_and(is_small);
         self.count_if(is_alone_at(rest.first()), "order with an IBAN but for a small letter behind the check digits");
         self.count_if(is_alone_at(rest.last()), "order with an IBAN but for a small letter at its end");
+    }
+
+    /// What is met by the time since a settlement or a recall.
+    fn recalls(&mut self, seen: &Seen) {
+        recall_tally::met(seen).for_each(|name| self.count(name));
+        if seen.ticket.kind == Kind::Recall && matches!(seen.answer.refusal_number(), 0 | 26) {
+            if let Some(number) = seen.book.order_with(seen.ticket.tx_id) {
+                self.recalls.entry(number).or_insert(seen.ticket.time);
+            }
+        }
     }
 
     /// What the ticket's time does, before its own step.
@@ -301,11 +332,11 @@ impl Tally {
                 Status::Refused => "inquiry: refused",
                 Status::Expired if seen.expired().contains(&(number as u16)) => "inquiry: expired by the inquiry",
                 Status::Expired => "inquiry: expired before",
-                Status::Returned(_) if order.is_returned_in_part() => "inquiry: returned in part",
-                Status::Returned(_) => "inquiry: returned in whole",
-                Status::Settled(Recall::None) => "inquiry: settled",
-                Status::Settled(Recall::Asked) => "inquiry: settled, recall asked",
-                Status::Settled(Recall::Declined) => "inquiry: settled, recall declined",
+                Status::Returned(..) if order.is_returned_in_part() => "inquiry: returned in part",
+                Status::Returned(..) => "inquiry: returned in whole",
+                Status::Settled(Recall::None, _) => "inquiry: settled",
+                Status::Settled(Recall::Asked, _) => "inquiry: settled, recall asked",
+                Status::Settled(Recall::Declined, _) => "inquiry: settled, recall declined",
             }),
         }
     }
@@ -328,14 +359,13 @@ impl Tally {
 
     /// A return refused by 18 to 20 leaves its order and the payee's cover as they are after the expiries.
     fn refused_return(&mut self, seen: &Seen, refusal: usize) {
-        let Some(number) = seen.book.order_with(seen.ticket.tx_id) else {
+        let Some(order) = seen.order() else {
             return;
         };
-        let order = &seen.book.orders()[number];
         let amount = seen.ticket.amount;
         let is_own = order.payer == order.payee;
         match (refusal, order.status) {
-            (18, Status::Returned(returned)) => {
+            (18, Status::Returned(_, returned)) => {
                 self.count_if(returned < order.amount, "second return of an order returned in part");
                 self.count_if(amount == order.amount - returned, "second return of just the rest");
             }
@@ -392,7 +422,7 @@ impl Tally {
             print_row(&format!("code {code}"), count, &mut lacks);
         }
         println!("\nsteps");
-        for name in STEPS {
+        for name in steps() {
             print_row(name, self.steps[name], &mut lacks);
         }
         println!("\nfiles with a fault or at an edge");
@@ -406,7 +436,7 @@ impl Tally {
     fn print_answers(&self, lacks: &mut Lacks) {
         let heads: Vec<String> = (1..12).map(|kind| format!("{:>9}", format!("kind {kind}"))).collect();
         println!("\n{:<11}{:>10}{}{:>9}", "tickets", "all", heads.concat(), "other");
-        for refusal in (0..23).filter(|refusal| *refusal == 0 || *refusal > 6) {
+        for refusal in (0..ANSWERS).filter(|refusal| !kinds_with(*refusal).is_empty()) {
             let name = if refusal == 0 { "accepted".to_string() } else { format!("refusal {refusal}") };
             let cell = |kind: usize| match (self.answers[refusal][kind], kinds_with(refusal).contains(&kind)) {
                 (0, false) => format!("{:>9}", "-"),
@@ -433,18 +463,25 @@ pub fn print_row(name: &str, count: u64, lacks: &mut Lacks) {
 }
 
 /// A ticket past refusals 7 to 11, with the book after it.
-struct Seen<'a> {
+pub struct Seen<'a> {
     book: &'a Book,
-    ticket: &'a Ticket<'a>,
-    answer: Answer,
+    pub ticket: &'a Ticket<'a>,
+    pub answer: Answer,
     buffer: &'a [u8; BUFFER_LEN],
     /// The sender's cover before the ticket.
     cover_before: Cover,
     clock_before: u32,
+    /// When its order was first recalled before, in time or late.
+    pub recalled_at: Option<u32>,
 }
 
 impl Seen<'_> {
-    fn is_bank(&self, participant: u8) -> bool {
+    /// The order that the ticket names.
+    pub fn order(&self) -> Option<&Order> {
+        self.book.order_with(self.ticket.tx_id).map(|number| &self.book.orders()[number])
+    }
+
+    pub fn is_bank(&self, participant: u8) -> bool {
         self.book.roster().participants()[usize::from(participant)].is_bank
     }
 

@@ -71,15 +71,42 @@ recall-spec =
       ← sender .sender-check .ensures,
     ))
     (λ c κs. search needs)
+    (λ c. search needs)
+    (λ c. search needs)
+    (λ c κs. search needs)
+    -- 26
+    (λ c.
+    let recalling = c .before .before .before in
+    let standing = recalling .before .before .before in
+    let party = standing .before .before .before in
+    let held = party .before .before .before .before in
+    let sender = held .before .before .before .before in
+    simp (
+      c .refused5 .ensures,
+      c .before .enum-told8 .given .1,
+      ← recalling .recall-check .ensures,
+      recalling .before .enum-told5 .given .1,
+      ← standing .unmarked-check .ensures,
+      standing .before .enum-told3 .given .1,
+      ← party .party-check .ensures,
+      party .before .before .i .given .1,
+      ← held .held-check .ensures,
+      held .before .before .p .given .1,
+      ← sender .sender-check .ensures,
+    ))
+    (λ c κs. search needs)
     -- none applies
     (λ c.
-    let standing = c .before .before .before in
+    let recalling = c .before .before .before in
+    let standing = recalling .before .before .before in
     let party = standing .before .before .before in
     let held = party .before .before .before .before in
     let sender = held .before .before .before .before in
     simp (
       c .recalled .ensures,
-      c .before .enum-told5 .given .1,
+      c .before .enum-told7 .given .1,
+      ← recalling .recall-check .ensures,
+      recalling .before .enum-told5 .given .1,
       ← standing .unmarked-check .ensures,
       standing .before .enum-told3 .given .1,
       ← party .party-check .ensures,

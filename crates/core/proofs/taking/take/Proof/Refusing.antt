@@ -1,4 +1,4 @@
--- A ticket that 12 to 22 refuse: its turn is done once orders have expired. Assumes nothing.
+-- A ticket that is refused from 12 on: its turn is done once orders have expired. Assumes nothing.
 use mathlib.Core.Path.{_≡_, refl, sym, _∙_, ap, subst}
 use borrow.Author.Tests.{eqb-false, not-true}
 use Rattle.rules.specs.declared.verdict.Verdict.{Verdict}
