@@ -16,7 +16,7 @@
 #include <stdint.h>
 
 /* The file VERSION has it too. */
-#define ZOLFIGAR_VERSION "1.5.0"
+#define ZOLFIGAR_VERSION "2.0.0"
 
 #ifdef __cplusplus
 extern "C" {
@@ -57,8 +57,8 @@ uint8_t zolfigar_txid_ok(const uint8_t *bytes, size_t length);
  *     uint8_t ticket[ZOLFIGAR_TICKET_LENGTH];
  *     uint8_t refusal = zolfigar_pacs008(text, text_length, 32401, ticket, sizeof ticket);
  *
- * An order is no promise that the book takes the ticket: whether its banks take part, its amount is covered and its TxId is new is
- * seen there.
+ * An order is no promise that the book takes the ticket: whether its banks take part, its amount is covered and its payer has no order
+ * with its TxId is seen there.
  *
  * The text and the ticket may not overlap; nobody writes the text, and nobody else reads or writes the ticket, before the call
  * returns; either pointer may be null where its length is 0. Nothing is kept or allocated. Some 2,000 bytes of stack are used, and
@@ -85,6 +85,10 @@ size_t zolfigar_day(const uint8_t *file, size_t file_length, uint8_t *text, size
  * order 2, amount 8), each after those of the ticket before, numbers with the highest byte first. A refusal is 0 of a ticket that
  * was carried out; else 7 to 22, or 26 of a recall that comes too late. A ticket is taken as long as there are 4 bytes for its
  * answer and 6,528 for its reports.
+ *
+ * Payer and TxId together name an order. A ticket of kinds 4 to 8 has the BIC of the order's payer in bytes 27 to 37, where an order
+ * has its payee's: 7 turns it back where that is no BIC, 16 where no order has both. 13 turns back an order whose sender has
+ * one with its TxId.
  *
  * The answer is how many tickets were taken, at most 512, and 0 only where the file has none; or one of the two above:
  *

@@ -3,9 +3,9 @@
 // An order is numbered below 256, which fits the two bytes of a report.
 #![allow(clippy::cast_possible_truncation)]
 
-use crate::codes::TxId;
+use crate::codes::{Bic, TxId};
 use crate::dayfile::{Roster, MOST_PARTICIPANTS};
-use crate::index::{hash, Index};
+use crate::index::{hash_of_pair, Index};
 use crate::refusal::Refusal;
 use crate::report::{Code, Writer, NO_ORDER};
 use crate::ticket::{Kind, Ticket};
@@ -135,8 +135,8 @@ impl Book {
         self.total
     }
 
-    pub fn order_with(&self, tx_id: &TxId) -> Option<usize> {
-        self.find(tx_id).ok()
+    pub fn order_with(&self, payer: &Bic, tx_id: &TxId) -> Option<usize> {
+        self.find(payer, tx_id).ok()
     }
 
     /// Takes a ticket of any bytes and length, with a report buffer of any bytes and length.
@@ -195,7 +195,7 @@ impl Book {
 
     /// Kinds 4 to 8.
     fn step_of_held_order(&mut self, sender: u8, ticket: &Ticket, reports: &mut Writer) -> Result<(), Refusal> {
-        let number = self.find(ticket.tx_id).map_err(|_| Refusal::TxIdNotHeld)?;
+        let number = self.find(ticket.payer(), ticket.tx_id).map_err(|_| Refusal::PairNotHeld)?;
         let order = &self.orders[number];
         let party = match ticket.kind {
             Kind::Recall | Kind::Inquiry => order.payer,
@@ -231,10 +231,10 @@ impl Book {
     }
 
     fn order(&mut self, payer: u8, ticket: &Ticket, reports: &mut Writer) -> Result<u8, Refusal> {
-        let Err(slot) = self.find(ticket.tx_id) else {
-            return Err(Refusal::TxIdHeld);
+        let Err(slot) = self.find(ticket.payer(), ticket.tx_id) else {
+            return Err(Refusal::PairHeld);
         };
-        let &route = self.roster.route_with(ticket.payee).ok_or(Refusal::NoRoute)?;
+        let &route = self.roster.route_with(ticket.named).ok_or(Refusal::NoRoute)?;
         let number = self.orders.len();
         if number == MOST_ORDERS {
             return Err(Refusal::BookFull);
@@ -379,9 +379,13 @@ impl Book {
         self.roster.participants()[usize::from(participant)].is_bank
     }
 
-    /// The number of the order with that TxId, or the index slot where it would go.
-    fn find(&self, tx_id: &TxId) -> Result<usize, usize> {
-        self.order_index.find(hash(tx_id), |number| self.orders[number].tx_id == *tx_id)
+    /// The number of the payer's order with that TxId, or the index slot where it would go.
+    fn find(&self, payer: &Bic, tx_id: &TxId) -> Result<usize, usize> {
+        let is_the_one = |number: usize| {
+            let order = &self.orders[number];
+            order.tx_id == *tx_id && self.roster.participants()[usize::from(order.payer)].bic == *payer
+        };
+        self.order_index.find(hash_of_pair(payer, tx_id), is_the_one)
     }
 
     /// Gives a Waiting order its next status, and tells its payer, payee and amount.

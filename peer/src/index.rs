@@ -1,4 +1,4 @@
-//! A table of fixed size that finds a BIC's or TxId's number by its hash.
+//! A table of fixed size that finds the number of a BIC, or of a BIC and a TxId, by a hash.
 
 // Of a hash any bits will do, and an entry is numbered below 65535.
 #![allow(clippy::cast_possible_truncation)]
@@ -35,10 +35,22 @@ impl<const SLOTS: usize> Index<SLOTS> {
 
 /// A hash of a code of fixed length, eight bytes at a time.
 pub fn hash<const LEN: usize>(code: &[u8; LEN]) -> u64 {
+    folded(mixed(0, code))
+}
+
+/// A hash of two codes of fixed length.
+pub fn hash_of_pair<const FIRST: usize, const SECOND: usize>(first: &[u8; FIRST], second: &[u8; SECOND]) -> u64 {
+    folded(mixed(mixed(0, first), second))
+}
+
+fn mixed<const LEN: usize>(start: u64, code: &[u8; LEN]) -> u64 {
     let (words, rest) = code.as_chunks();
     let mut last = [0; 8];
     last[..rest.len()].copy_from_slice(rest);
-    let mixed = words.iter().fold(mix(0, last), |mixed, word| mix(mixed, *word));
+    words.iter().fold(mix(start, last), |mixed, word| mix(mixed, *word))
+}
+
+fn folded(mixed: u64) -> u64 {
     mixed ^ (mixed >> 32)
 }
 

@@ -56,7 +56,8 @@ pub fn read(text: &[u8], time: u32) -> Result<[u8; TICKET_LEN], Flaw> {
     if !is_iban(&iban) {
         return Err(Flaw::new(Refusal::Iban, "IBAN wrong"));
     }
-    let order = TicketFields { amount, sender, payee, tx_id: padded(&tx_id), iban: padded(&iban), ..TicketFields::new(3, time) };
+    let order =
+        TicketFields { amount, sender, named: payee, tx_id: padded(&tx_id), iban: padded(&iban), ..TicketFields::new(3, time) };
     Ok(order.bytes())
 }
 

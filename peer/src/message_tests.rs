@@ -127,7 +127,7 @@ fn an_accepted_message_yields_its_order() {
     let order = TicketFields {
         amount: 400,
         sender: *b"AAAALV22XXX",
-        payee: *b"BBBBLV22XXX",
+        named: *b"BBBBLV22XXX",
         tx_id: padded(b"1"),
         iban: padded(IBAN.as_bytes()),
         ..TicketFields::new(3, 5)

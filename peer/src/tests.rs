@@ -10,6 +10,8 @@ use crate::report::{reports, Report, BUFFER_LEN};
 use crate::ticket::tx_id_of;
 use crate::writing::{padded, participant_row, route_row, Day, TicketFields};
 
+mod pairs;
+
 const A: &[u8; 11] = b"AAAALV22XXX";
 const B: &[u8; 11] = b"BBBBLV22XXX";
 const SYSTEM: &[u8; 11] = b"CCCCLV22XXX";
@@ -28,12 +30,12 @@ fn fields(kind: u8, time: u32, sender: &[u8; 11], amount: u64) -> TicketFields {
 }
 
 fn order_fields(time: u32, payer: &[u8; 11], payee: &[u8; 11], amount: u64, tx_id: &str) -> TicketFields {
-    TicketFields { payee: *payee, tx_id: padded(tx_id.as_bytes()), iban: padded(IBAN), ..fields(3, time, payer, amount) }
+    TicketFields { named: *payee, tx_id: padded(tx_id.as_bytes()), iban: padded(IBAN), ..fields(3, time, payer, amount) }
 }
 
-/// A ticket of kinds 4 to 8.
+/// A ticket of kinds 4 to 8, about an order that A pays.
 fn about_fields(kind: u8, flag: u8, time: u32, sender: &[u8; 11], tx_id: &str) -> TicketFields {
-    TicketFields { flag, tx_id: padded(tx_id.as_bytes()), ..fields(kind, time, sender, 0) }
+    TicketFields { flag, named: *A, tx_id: padded(tx_id.as_bytes()), ..fields(kind, time, sender, 0) }
 }
 
 /// A return of the order X.
@@ -862,7 +864,7 @@ fn order_of_refusals() {
     assert_eq!(trial.refusal(&ticket), 13);
     ticket.tx_id = padded(b"Y");
     assert_eq!(trial.refusal(&ticket), 14);
-    ticket.payee = *SYSTEM;
+    ticket.named = *SYSTEM;
     assert_eq!(trial.refusal(&ticket), 20);
     ticket.amount = 600;
     assert_eq!(trial.refusal(&ticket), 0);
@@ -892,8 +894,8 @@ fn fields_a_kind_leaves_out_are_zero() {
         let listed: &[usize] = match kind {
             1 | 2 | 10 => &[8, 16],
             3 => &[8, 16, 27, 38, 73],
-            6 => &[8, 16, 38],
-            4 | 5 | 7 | 8 => &[16, 38],
+            6 => &[8, 16, 27, 38],
+            4 | 5 | 7 | 8 => &[16, 27, 38],
             _ => &[],
         };
         let base = match kind {

@@ -34,7 +34,8 @@ pub struct Ticket<'a> {
     pub time: u32,
     pub amount: u64,
     pub sender: &'a Bic,
-    pub payee: &'a Bic,
+    /// The payee of an order; in kinds 4 to 8 the payer of the order that they are about.
+    pub named: &'a Bic,
     pub tx_id: &'a TxId,
 }
 
@@ -43,8 +44,9 @@ struct Form {
     flags: (u8, u8),
     amount: Amount,
     sender: bool,
-    payee_and_iban: bool,
+    named: bool,
     tx_id: bool,
+    iban: bool,
 }
 
 #[derive(Clone, Copy)]
@@ -54,14 +56,14 @@ enum Amount {
     From1To(u64),
 }
 
-const NOTHING: Form = Form { flags: (0, 0), amount: Amount::Unused, sender: false, payee_and_iban: false, tx_id: false };
+const NOTHING: Form = Form { flags: (0, 0), amount: Amount::Unused, sender: false, named: false, tx_id: false, iban: false };
 const COVER: Form = Form { sender: true, amount: Amount::From1To(MOST_COVER), ..NOTHING };
-const ORDER: Form = Form { payee_and_iban: true, ..RETURN };
+const ORDER: Form = Form { iban: true, ..RETURN };
 const ANSWER: Form = Form { flags: (1, 2), ..INQUIRY };
 const RECALL: Form = Form { flags: (1, 4), ..INQUIRY };
 const RETURN: Form = Form { amount: Amount::From1To(MOST_PAID), ..INQUIRY };
 const DECLINE: Form = Form { flags: (1, 7), ..INQUIRY };
-const INQUIRY: Form = Form { sender: true, tx_id: true, ..NOTHING };
+const INQUIRY: Form = Form { sender: true, named: true, tx_id: true, ..NOTHING };
 const CONFIRM: Form = Form { sender: true, amount: Amount::From0To(MOST_COVER), ..NOTHING };
 
 /// The kind with its form, by the bytes for kind and flag; None where the kind or the flag is wrong.
@@ -91,25 +93,34 @@ impl<'a> Ticket<'a> {
         let (kind, form) = kind_and_form(bytes[0], bytes[1]).ok_or(Refusal::Form)?;
         let amount = u64::from_be_bytes(*field(bytes, 8));
         let sender: &[u8; BIC_LEN] = field(bytes, 16);
-        let payee: &[u8; BIC_LEN] = field(bytes, 27);
+        let named: &[u8; BIC_LEN] = field(bytes, 27);
         let tx_id: &[u8; TX_ID_LEN] = field(bytes, TX_ID_AT);
         let iban: &[u8; IBAN_LEN] = field(bytes, IBAN_AT);
 
         let unused_are_zero = bytes[2] == 0 && bytes[3] == 0 && bytes[107] == 0;
         let fields_fit = bic_fits(sender, form.sender)
-            && bic_fits(payee, form.payee_and_iban)
+            && bic_fits(named, form.named)
             && tx_id_fits(tx_id, form.tx_id)
-            && (form.payee_and_iban || *iban == [0; IBAN_LEN])
+            && (form.iban || *iban == [0; IBAN_LEN])
             && (amount == 0 || !matches!(form.amount, Amount::Unused));
         if !(unused_are_zero && fields_fit) {
             return Err(Refusal::Form);
         }
-        if form.payee_and_iban && !iban_fits(iban) {
+        if form.iban && !iban_fits(iban) {
             return Err(Refusal::Iban);
         }
         check_amount(amount, form.amount)?;
         let time = u32::from_be_bytes(*field(bytes, 4));
-        Ok(Ticket { kind, time, amount, sender, payee, tx_id })
+        Ok(Ticket { kind, time, amount, sender, named, tx_id })
+    }
+
+    /// The payer of the order that the ticket brings or is about.
+    pub fn payer(&self) -> &'a Bic {
+        if self.kind == Kind::Order {
+            self.sender
+        } else {
+            self.named
+        }
     }
 }
 

@@ -15,7 +15,8 @@ pub struct TicketFields {
     pub time: u32,
     pub amount: u64,
     pub sender: Bic,
-    pub payee: Bic,
+    /// Bytes 27 to 37: an order's payee, or the payer of the order that kinds 4 to 8 are about.
+    pub named: Bic,
     pub tx_id: TxId,
     pub iban: Iban,
 }
@@ -23,7 +24,7 @@ pub struct TicketFields {
 impl TicketFields {
     /// A ticket with all other fields zero.
     pub fn new(kind: u8, time: u32) -> Self {
-        TicketFields { kind, flag: 0, time, amount: 0, sender: [0; 11], payee: [0; 11], tx_id: [0; 35], iban: [0; 34] }
+        TicketFields { kind, flag: 0, time, amount: 0, sender: [0; 11], named: [0; 11], tx_id: [0; 35], iban: [0; 34] }
     }
 
     pub fn bytes(&self) -> [u8; TICKET_LEN] {
@@ -33,7 +34,7 @@ impl TicketFields {
         bytes[4..8].copy_from_slice(&self.time.to_be_bytes());
         bytes[8..16].copy_from_slice(&self.amount.to_be_bytes());
         bytes[16..27].copy_from_slice(&self.sender);
-        bytes[27..38].copy_from_slice(&self.payee);
+        bytes[27..38].copy_from_slice(&self.named);
         bytes[38..73].copy_from_slice(&self.tx_id);
         bytes[73..107].copy_from_slice(&self.iban);
         bytes

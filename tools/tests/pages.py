@@ -78,7 +78,7 @@ class Full:
 
     def yes(self, payer, payee, amount, txid):
         reports = [f"R {to} 2 {self.settled} {amount}" for to in (payer, payee)]
-        self.add({"kind": 4, "flag": 1, "sender": self.bics[payee], "txid": txid}, reports, 0)
+        self.add({"kind": 4, "flag": 1, "sender": self.bics[payee], "payee": self.bics[payer], "txid": txid}, reports, 0)
         self.covers[payer][1] -= amount
         self.covers[payee][0] += amount
         self.settled += 1
@@ -106,7 +106,7 @@ def hostile():
             "txid": HOSTILE[:35].encode(),
             "iban": b"<svg onload=x>",
         },
-        {"kind": 8, "sender": b"javascript:", "txid": b"</title><script>fetch('http://x.y')"},
+        {"kind": 8, "sender": b"javascript:", "payee": b"<i>\"'&</i>", "txid": b"</title><script>fetch('http://x.y')"},
         {"kind": 4, "flag": 1, "sender": bics[1], "txid": b"]]>--><style>*{color:red}"},
     ]
     lines = [
@@ -183,7 +183,7 @@ def leads_of(*parts):
 
 DAYS = {"case D": example("case-d"), "busy": example("busy"), "big": big(), "full": Full().day()}
 DAYS |= {"hostile": hostile(), "tampered": tampered(), "refused": example("refused-3"), "long": long()}
-DAYS |= {"part": example("part-return"), "late": ("late", *scenes.late())}
+DAYS |= {"part": example("part-return"), "late": ("late", *scenes.late()), "numbered": ("numbered", *scenes.numbered())}
 PAGES = {name: html_of(day) for name, day in DAYS.items()}
 READ = {name: Parts(html) for name, html in PAGES.items()}
 

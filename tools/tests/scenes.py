@@ -8,7 +8,7 @@ from zolfigar import history, packing
 
 ROOT = os.path.dirname(os.path.dirname(os.path.dirname(os.path.realpath(__file__))))
 EXAMPLES = os.path.join(ROOT, "examples")
-RUNNING = ("case-d", "case-e", "busy", "turned-back", "small-letters", "part-return", "messages", "late-recall")
+RUNNING = ("case-d", "case-e", "busy", "turned-back", "small-letters", "part-return", "messages", "late-recall", "same-txid")
 MESSAGES = ("plain.xml", "free.xml")
 REFUSED = ("refused-1", "refused-2", "refused-3", "refused-4", "refused-5")
 
@@ -93,13 +93,13 @@ IBAN = "iban LV80BANK0000435195001"
 PAID = ("0 60000 0 0", "1 40000 0 0")  # closing positions: 400.00 of 1,000.00 went from participant 0 to 1
 
 
-def stepped(*steps, kind="bank", closed=PAID):
-    """A day file and its output: of a bank and another participant tickets, each with its refusal and its reports."""
+def stepped(*steps, kind="bank", closed=PAID, banks=BANKS):
+    """A day file and its output: of a bank and another participant tickets, each with its refusal and its reports; or of others."""
     told = []
     for number, (line, refusal, *reports) in enumerate(steps):
         rows = int(refusal == 0 and " order " in line)
         told += [f"T {number} {refusal} {len(reports)} {rows}", *(f"R {report}" for report in reports)]
-    file = packing.pack("stepped.day", BANKS.format(kind=kind) + "\n".join(line for line, *_ in steps))
+    file = packing.pack("stepped.day", banks.format(kind=kind) + "\n".join(line for line, *_ in steps))
     return file, "\n".join([*told, *(f"C {position}" for position in closed), ""])
 
 
@@ -134,6 +134,39 @@ def late():
 def late_day(text=None):
     file, printed = late()
     return history.read("late", file, printed if text is None else text)
+
+
+THREE = BANKS + "route CCCCLV22 to 2\n"
+THREE = THREE.replace("route", "participant CCCCLV22 bank\nroute", 1)
+NUMBERED = (
+    ("08:00:00 cover-in from AAAALV22 EUR 1000.00", 0),
+    ("08:00:00 cover-in from BBBBLV22 EUR 500.00", 0),
+    (f"08:00:05 order 1 from AAAALV22 to CCCCLV22 EUR 400.00 {IBAN}", 0, "2 1 0 40000"),
+    (f"08:00:06 order 1 from BBBBLV22 to CCCCLV22 EUR 100.00 {IBAN}", 0, "2 1 1 10000"),
+    (f"08:00:07 order 1 from AAAALV22 to BBBBLV22 EUR 7.00 {IBAN}", 13),
+    ("08:00:10 answer 1 of AAAALV22 yes from CCCCLV22", 0, "0 2 0 40000", "2 2 0 40000"),
+    ("08:00:11 answer 1 of BBBBLV22 no from CCCCLV22", 0, "1 3 1 10000"),
+    ("08:00:12 inquiry 1 from AAAALV22", 0, "0 2 0 40000"),
+    ("08:00:13 inquiry 1 from BBBBLV22", 0, "1 3 1 10000"),
+    ("08:00:14 inquiry 1 from CCCCLV22", 16),
+    ("08:00:15 inquiry 1 of BBBBLV22 from AAAALV22", 17),
+    ("08:00:16 answer 1 of ZZZZLV22 yes from CCCCLV22", 16),
+    ("08:01:00 recall 1 of AAAALV22 FRAD from AAAALV22", 0, "2 5 0 40000"),
+    ("08:02:00 return 1 of AAAALV22 from CCCCLV22 EUR 399.00", 0, "0 6 0 39900"),
+    (f"08:03:00 order 2 from AAAALV22 to AAAALV22 EUR 50.00 {IBAN}", 0, "0 1 2 5000"),
+    ("08:03:01 answer 2 of AAAALV22 yes from AAAALV22", 0, "0 2 2 5000", "0 2 2 5000"),
+)
+
+
+def numbered(*steps, closed=("0 99900 0 0", "1 50000 0 0", "2 100 0 0")):
+    """A day file and its output: two payers number their orders from 1. Order 0 is AAAALV22's 1, settled and returned less a charge;
+    order 1 is BBBBLV22's 1, refused; order 2 is AAAALV22's 2, to itself, settled."""
+    return stepped(*NUMBERED, *steps, closed=closed, banks=THREE)
+
+
+def numbered_day(text=None):
+    file, printed = numbered()
+    return history.read("numbered", file, printed if text is None else text)
 
 
 def changed(text, line, other):

@@ -176,11 +176,11 @@ def numbers_changed(day, text):
 
 
 def is_out_of_sight(kind, place, line, new):
-    """What can't be told without the book's rules: which of 12 to 22 it was, the rows of an order, the amount of an open debit,
-    and that an inquiry was told of a declined recall where it should have been told of a return."""
+    """What can't be told without the book's rules: which of 14, 15 and 18 to 22 it was, the rows of an order, the amount of an open
+    debit, and that an inquiry was told of a declined recall where it should have been told of a return."""
     old, changed = line.split(" "), new.split(" ")
     if old[0] == "T":
-        refused = place == 1 and all(12 <= int(words[2]) <= 22 for words in (old, changed))
+        refused = place == 1 and all(int(words[2]) in (14, 15, *range(18, 23)) for words in (old, changed))
         return refused or (place == 3 and kind == 3 and old[2] == "0")
     told = (old[2], changed[2]) == ("6", "7") and kind == 8
     return old[0] == "R" and ((place == 3 and old[2] == "10") or (place == 1 and told))
@@ -327,6 +327,161 @@ class Returns(unittest.TestCase):
         self.assertEqual(found, ["order 0 (TX1) is returned more than once: at tickets 4, 6"])
 
 
+OF_A, OF_B = "order 0 (1 of AAAALV22)", "order 1 (1 of BBBBLV22)"
+NOT_HELD = "no order has its payer and TxId"
+
+
+class Keys(unittest.TestCase):
+    """Two payers number their orders from 1: 12, 13, 16 and 17 go by payer and TxId together, and so does what is told of an order."""
+
+    def said(self, *changes):
+        text = scenes.numbered()[1]
+        for line, other in changes:
+            text = scenes.changed(text, line, other)
+        return audit.problems(scenes.numbered_day(text))
+
+    def alone(self, *steps):
+        """What is said of tickets behind those of the day, each with its refusal and its reports."""
+        return audit.problems(history.read("numbered", *scenes.numbered(*steps)))
+
+    def test_the_right_output(self):
+        self.assertEqual(self.said(), [])
+
+    def test_each_number(self):
+        """What is not noticed is what is out of sight, and all of it: of this day nothing but the rows of an order."""
+        tried = 0
+        for change, text in numbers_changed(scenes.numbered_day(), scenes.numbered()[1]):
+            tried += 1
+            self.assertEqual(not audit.problems(scenes.numbered_day(text)), is_out_of_sight(*change), change)
+        self.assertGreater(tried, 190)
+
+    def test_each_line_taken_out_or_doubled(self):
+        file, output = scenes.numbered()
+        lines = output.splitlines(keepends=True)
+        for at, line in enumerate(lines):
+            for text in (lines[:at] + lines[at + 1 :], lines[: at + 1] + lines[at:]):
+                self.assertTrue(audit.problems(history.read("changed", file, "".join(text))), line)
+
+    def test_13_by_the_txid_alone(self):
+        """The other order with that TxId is another payer's."""
+        order = f"08:03:01 order {{}} from {{}} to CCCCLV22 EUR 1.00 {scenes.IBAN}"
+        said = "ticket 16 was turned back by 13, and no order before has its payer and TxId"
+        self.assertEqual(self.alone((order.format(2, "BBBBLV22"), 13)), [said])
+        self.assertEqual(self.alone((order.format(1, "CCCCLV22"), 13)), [said])
+        self.assertEqual(self.alone((order.format(1, "BBBBLV22"), 13)), [])
+        self.assertEqual(self.alone((order.format(2, "AAAALV22"), 13)), [])
+
+    def test_13_that_is_missing(self):
+        """Of an order that is refused, of one that is returned, and behind another refusal that comes later."""
+        order = f"08:03:01 order 1 from {{}} to CCCCLV22 EUR 1.00 {scenes.IBAN}"
+        for payer, number, name in (("AAAALV22", 0, OF_A), ("BBBBLV22", 1, OF_B)):
+            why = f"{name} has its payer and TxId: 13 turns that back"
+            self.assertIn(f"ticket 16 was accepted, and {why}", self.alone((order.format(payer), 0, "2 1 3 100")))
+            for other in (14, 15, 20):
+                self.assertEqual(
+                    self.alone((order.format(payer), other)), [f"ticket 16 was turned back by {other}, and {why}"]
+                )
+            self.assertEqual(self.alone((order.format(payer), 13)), [], number)
+
+    def test_16_by_the_txid_alone(self):
+        """The pair isn't held, though the TxId is another payer's: neither 17, 18 nor yes."""
+        for ticket in (9, 11):
+            for other in (17, 18):
+                first = "comes first" if other == 17 else "turns that back"
+                due = [f"ticket {ticket} was turned back by {other}, and {NOT_HELD}: 16 {first}"]
+                self.assertEqual(self.said((f"T {ticket} 16 0 0", f"T {ticket} {other} 0 0")), due)
+            self.assertEqual(
+                self.said((f"T {ticket} 16 0 0", f"T {ticket} 0 0 0"))[0], f"ticket {ticket} was accepted, and {NOT_HELD}"
+            )
+
+    def test_16_that_is_not_due(self):
+        for ticket, name, lines in ((7, OF_A, "R 0 2 0 40000"), (8, OF_B, "R 1 3 1 10000")):
+            text = scenes.numbered()[1].replace(f"T {ticket} 0 1 0\n{lines}\n", f"T {ticket} 16 0 0\n")
+            due = [f"ticket {ticket} was turned back by 16, and {name} has its payer and TxId"]
+            self.assertEqual(audit.problems(scenes.numbered_day(text)), due)
+
+    def test_an_unknown_payer_is_no_unknown_sender(self):
+        due = [f"ticket 11 was turned back by 12, and {NOT_HELD}: 16 turns that back"]
+        self.assertEqual(self.said(("T 11 16 0 0", "T 11 12 0 0")), due)
+        due = ["ticket 16 was turned back by 12, and its sender is a participant"]
+        self.assertEqual(self.alone(("08:03:01 cover-in from AAAALV22 EUR 1.00", 12))[:1], due)
+        self.assertEqual(self.alone(("08:03:01 tick", 12)), ["ticket 16 was turned back by 12, and has no sender"])
+
+    def test_12_comes_first(self):
+        """Whatever payer and TxId are."""
+        sender = "its sender is no participant: 12"
+        for line in ("inquiry 1 of AAAALV22", "answer 1 of ZZZZLV22 yes", "recall 9 of BBBBLV22 TECH"):
+            self.assertEqual(self.alone((f"08:03:01 {line} from ZZZZLV22", 12)), [])
+            for other in (16, 17):
+                due = [f"ticket 16 was turned back by {other}, and {sender} comes first"]
+                self.assertEqual(self.alone((f"08:03:01 {line} from ZZZZLV22", other)), due)
+
+    def test_the_payer_held_against_the_sender(self):
+        """A recall and an inquiry about another's order: 17 where the pair is held, and not 16 or 7 to 12."""
+        why = f"its sender is not the payer of {OF_B}: 17 turns that back"
+        for other in (12, 16):
+            self.assertEqual(
+                self.said(("T 10 17 0 0", f"T 10 {other} 0 0")), [f"ticket 10 was turned back by {other}, and {why}"]
+            )
+        due = [f"ticket 16 was turned back by 17, and {NOT_HELD}: 16 comes first"]
+        self.assertEqual(self.alone(("08:03:01 recall 2 of BBBBLV22 TECH from AAAALV22", 17)), due)
+        self.assertEqual(self.alone(("08:03:01 recall 2 of BBBBLV22 TECH from AAAALV22", 16)), [])
+
+    def test_17_that_is_not_due(self):
+        for line, side, name in (
+            ("inquiry 1 of BBBBLV22 from BBBBLV22", "payer", OF_B),
+            ("answer 1 of AAAALV22 no from CCCCLV22", "payee", OF_A),
+            ("answer 2 of AAAALV22 yes from AAAALV22", "payee", "order 2 (2)"),
+        ):
+            due = [f"ticket 16 was turned back by 17, and its sender is the {side} of {name}"]
+            self.assertEqual(self.alone((f"08:03:01 {line}", 17)), due)
+
+    def test_refusals_that_a_kind_never_gets(self):
+        for line, refusal, why in (
+            ("cover-out from AAAALV22 EUR 1.00", 13, "is no order"),
+            ("inquiry 1 from AAAALV22", 13, "is no order"),
+            ("cut", 16, "names no order"),
+            (f"order 3 from BBBBLV22 to CCCCLV22 EUR 1.00 {scenes.IBAN}", 16, "names no order"),
+            ("confirm from AAAALV22 EUR 0.00", 17, "names no order"),
+        ):
+            self.assertEqual(
+                self.alone((f"08:03:01 {line}", refusal)), [f"ticket 16 was turned back by {refusal}, and {why}"]
+            )
+
+    def test_11_comes_first(self):
+        for refusal in (12, 13, 16, 17):
+            due = [f"ticket 16 was turned back by {refusal}, and its time is before the clock: 11 comes first"]
+            self.assertEqual(self.alone(("08:00:00 inquiry 1 from CCCCLV22", refusal)), due)
+
+    def test_an_inquiry_that_repeats_how_anothers_order_ended(self):
+        """AAAALV22 asks about its order and is told of BBBBLV22's, or the other way round."""
+        found = self.said(("T 7 0 1 0", "T 7 0 2 0\nR 0 3 1 10000"))
+        self.assertIn("ticket 7: a report 3 is about order 1, and the ticket is about another", found)
+        self.assertIn(f"ticket 7: a report 3 about {OF_B} goes to AAAALV22XXX, and must not", found)
+        text = scenes.numbered()[1].replace("T 8 0 1 0\nR 1 3 1 10000", "T 8 0 1 0\nR 1 2 0 40000")
+        found = audit.problems(scenes.numbered_day(text))
+        self.assertIn("ticket 8: a report 2 is about order 0, and the ticket is about another", found)
+        self.assertIn(f"{OF_A} stops waiting more than once: at tickets 5, 8", found)
+
+    def test_an_inquiry_that_repeats_an_expiry_of_anothers_order(self):
+        """Any ticket may bring a 4, so that it is a second end tells it."""
+        first = (*scenes.NUMBERED[:4], ("08:00:26 tick", 0, "0 4 0 40000", "2 4 0 40000", "1 4 1 10000", "2 4 1 10000"))
+        closed = ("0 100000 0 0", "1 50000 0 0", "2 0 0 0")
+        said = lambda *steps: audit.problems(
+            history.read("x", *scenes.stepped(*first, *steps, closed=closed, banks=scenes.THREE))
+        )
+        for bic, number, amount, other, name in (("AAAALV22", 0, 40000, 1, OF_B), ("BBBBLV22", 1, 10000, 0, OF_A)):
+            self.assertEqual(said((f"08:00:27 inquiry 1 from {bic}", 0, f"{number} 4 {number} {amount}")), [])
+            found = said((f"08:00:27 inquiry 1 from {bic}", 0, f"{other} 4 {other} {50000 - amount}"))
+            self.assertEqual(found, [f"{name} stops waiting more than once: at tickets 4, 5"])
+
+    def test_an_answer_that_settles_anothers_order(self):
+        """The payee says yes to AAAALV22's, and BBBBLV22's is settled."""
+        text = scenes.numbered()[1].replace("R 0 2 0 40000\nR 2 2 0 40000", "R 1 2 1 10000\nR 2 2 1 10000")
+        found = audit.problems(scenes.numbered_day(text))
+        self.assertIn("ticket 5: a report 2 is about order 1, and the ticket is about another", found)
+
+
 TOP = 2**32 - 1
 TX2 = f"order TX2 from AAAALV22 to BBBBLV22 EUR 50.00 {scenes.IBAN}"
 
@@ -440,8 +595,9 @@ class Recalls(unittest.TestCase):
         cases = {
             "TX1 FRAD from ZZZZLV22": (12, "its sender is no participant: 12 comes first"),
             "TX9 FRAD from ZZZZLV22": (12, "its sender is no participant: 12 comes first"),
-            "TX9 FRAD from AAAALV22": (16, "no order has its TxId: 16 comes first"),
-            "TX1 FRAD from BBBBLV22": (17, "its sender is not the payer of order 0 (TX1): 17 comes first"),
+            "TX9 FRAD from AAAALV22": (16, "no order has its payer and TxId: 16 comes first"),
+            "TX1 FRAD from BBBBLV22": (16, "no order has its payer and TxId: 16 comes first"),
+            "TX1 of AAAALV22 FRAD from BBBBLV22": (17, "its sender is not the payer of order 0 (TX1): 17 comes first"),
         }
         for words, (first, why) in cases.items():
             self.assertEqual(self.said((f"864024 recall {words}", first)), [])

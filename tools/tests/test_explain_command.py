@@ -114,6 +114,38 @@ class Command(unittest.TestCase):
         self.assertIn("Cover of CCCCLT2X", self.explain("busy.bin", "busy.out", "--member", "CCCCLT2X").stdout)
         self.assertIn("order 0 SALARY-1 returned", self.explain("busy.bin", "busy.out", "--order", "SALARY-1").stdout)
 
+    def test_an_order_of_one_of_several_payers(self):
+        """--of says which is meant; where one payer alone has the TxId it may be left out."""
+        file, output = scenes.numbered()
+        files.write(self.path("numbered.bin"), file)
+        files.write(self.path("numbered.out"), output.encode())
+        explain = lambda *words: self.explain("numbered.bin", "numbered.out", *words)
+        those = "explain: the TxId 1 is of AAAALV22, BBBBLV22"
+        of_a, of_b = "order 0 (1 of AAAALV22)", "order 1 (1 of BBBBLV22)"
+        for bic, own, other in (("AAAALV22", of_a, of_b), ("BBBBLV22", of_b, of_a), ("BBBBLV22XXX", of_b, of_a)):
+            ran = explain("--order", "1", "--of", bic)
+            self.assertEqual((ran.returncode, ran.stderr, own in ran.stdout, other in ran.stdout), (0, "", True, False))
+        for words in (("--order", "2"), ("--order", "2", "--of", "AAAALV22")):
+            self.assertIn("order 2 (2) reserved, for AAAALV22", explain(*words).stdout)
+        for words, said in {
+            ("--order", "1"): f"{those}: --of says which is meant\n",
+            ("--order", "1", "--of", "CCCCLV22"): f"{those}, and no order with it was accepted of CCCCLV22\n",
+            ("--order", "1", "--of", "\x1b"): f"{those}, and no order with it was accepted of \\x1b\n",
+            (
+                "--order",
+                "2",
+                "--of",
+                "BBBBLV22",
+            ): "explain: the TxId 2 is of AAAALV22, and no order with it was accepted of BBBBLV22\n",
+            ("--order", "3", "--of", "AAAALV22"): "explain: no order with the TxId 3 was accepted on this day\n",
+        }.items():
+            ran = explain(*words)
+            self.assertEqual((ran.returncode, ran.stdout, ran.stderr), (1, "", said))
+        for words in (("--of", "AAAALV22"), ("--member", "AAAALV22", "--of", "AAAALV22")):
+            ran = explain(*words)
+            said = "explain: error: --of is the payer of an order, and there is no --order"
+            self.assertEqual((ran.returncode, ran.stderr.splitlines()[-1]), (2, said))
+
     def test_clear_errors(self):
         cases = {
             ("--member", "ZZZZLV22"): "explain: ZZZZLV22 is no participant of this day: AAAALV22XXX, BBBBLV22XXX\n",

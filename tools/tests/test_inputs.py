@@ -1,6 +1,7 @@
 import os
 import unittest
 
+from tests.reader import READER
 from zolfigar import inputs, packing, text
 
 ROOT = os.path.dirname(os.path.dirname(os.path.dirname(os.path.abspath(__file__))))
@@ -40,6 +41,37 @@ class Inputs(unittest.TestCase):
         case = number(1) + number(0) + number(1) + b"%c" + number(108) + number(6528) + b"\0" + TICKET
         one = "day {}\nbytes\n5 cover-in from AAAALV22 cents 7\nbuffer 1 1\nlength 1\n"
         self.assertEqual(inputs.pack("x", one.format("a") + one.format("b")), case % b"a" + case % b"b")
+
+    def test_payers_left_out_are_of_the_same_case(self):
+        """Whatever the length of the tickets is, and behind the line too."""
+        answer = "2 answer T yes from CCCCLV22\n"
+        order = "1 order T from {} to CCCCLV22 EUR 1.00 iban LV80BANK0000435195001\n"
+        written = answer.replace("yes", "of {} yes")
+        case = "day {}\nbytes\nlength 38\n{}{}length 20\n{}"
+        for bic in ("AAAALV22", "BBBBLV22"):
+            filled = case.format(bic, answer, answer, order.format(bic))
+            self.assertEqual(inputs.pack("x", filled), inputs.pack("x", filled.replace(answer, written.format(bic))))
+        both = "".join(case.format(bic, answer, "", order.format(bic)) for bic in ("AAAALV22", "BBBBLV22"))
+        inputs.pack("x", both)
+        why = "orders of the day with this TxId are of AAAALV22, BBBBLV22"
+        told = ["x:4:29: expected of BIC, found the line's end: no order of the day has this TxId"]
+        told += [f"x:{line}:29: expected of BIC, found the line's end: {why}" for line in (9, 10)]
+        orders = "".join(order.format(bic) for bic in ("AAAALV22", "BBBBLV22"))
+        self.wrong(case.format("a", answer, "", "") + case.format("b", answer, answer, orders), *told)
+
+    def test_the_payer_of_a_message(self):
+        case = "day a\nbytes\n1 message plain.xml\n2 answer SALARY-41 {}yes from BBBBLV22\n"
+        filled, written = (
+            inputs.pack(os.path.join(ROOT, "examples", "x"), case.format(words), READER) for words in ("", "of AAAALV22 ")
+        )
+        self.assertEqual(filled, written)
+
+    def test_a_payer_is_not_missed_where_a_ticket_is_wrong(self):
+        answer = "2 answer T yes from CCCCLV22\n"
+        said = 'x:3:8: expected but, or the line\'s end, found "tock"'
+        self.wrong(f"day a\nbytes\n1 tick tock\n{answer}", said)
+        other = "x:7:29: expected of BIC, found the line's end: no order of the day has this TxId"
+        self.wrong(f"day a\nbytes\n1 tick tock\n{answer}day b\nbytes\n{answer}", said, other)
 
     def test_mistakes_have_their_places(self):
         self.wrong("1 tick\nday a\nbytes\n", 'x:1:1: expected a line `day NAME` before all others, found "1"')

@@ -21,6 +21,21 @@ class Fields(unittest.TestCase):
         due |= {"payee": (27, 37), "txid": (38, 72), "iban": (73, 106), "last": (107, 107)}
         self.assertEqual(places, due)
 
+    def test_kinds_4_to_8_have_the_payer_where_an_order_has_its_payee(self):
+        """02, slip 6."""
+        places = [(field.at, field.size, field.is_text) for field in layout.TICKET]
+        self.assertEqual([(field.at, field.size, field.is_text) for field in layout.ABOUT], places)
+        names = {one.name: other.name for one, other in zip(layout.TICKET, layout.ABOUT) if one.name != other.name}
+        self.assertEqual(names, {"payee": "payer"})
+
+    def test_the_key_of_an_order(self):
+        """Sender and TxId of an order's ticket, bytes 27 to 37 and TxId of one that names it."""
+        row = bytearray(range(108))
+        for kind in range(3, 9):
+            row[0] = kind
+            payer = bytes(range(16, 27)) if kind == 3 else bytes(range(27, 38))
+            self.assertEqual(layout.key_of(layout.ticket_in(bytes(row))), (payer, bytes(range(38, 73))))
+
     def test_a_row_reads_back(self):
         row = bytes(range(1, 109))
         self.assertEqual(layout.write(layout.TICKET, layout.read(layout.TICKET, row)), row)

@@ -3,7 +3,7 @@ import random
 import unittest
 
 from tests.test_packing import CASE_D, CASE_D_BYTES
-from zolfigar import many, text
+from zolfigar import layout, many, text
 
 ROOT = os.path.dirname(os.path.dirname(os.path.dirname(os.path.abspath(__file__))))
 PLAIN = (b"case D", b"a#b", b"empty", b"day", b"\xc3\xa4", b"x" * 256)
@@ -71,6 +71,14 @@ class Many(unittest.TestCase):
         self.wrong("# a\n1 tick\n1 tick\nday one\nbytes\n", 'x:2:1: expected a line `day NAME` before all others, found "1"')
         self.wrong("day hex:4\nbytes", 'x:1:5: expected hex: and two hex digits for each byte, found "hex:4"')
         self.wrong("day hex:41 b\nbytes", 'x:1:12: expected the line\'s end, found "b"')
+
+    def test_payers_left_out_are_of_the_same_day(self):
+        order = "1 order T from {} to CCCCLV22 EUR 1.00 iban LV80BANK0000435195001\n"
+        days = [f"day {bic}\n{order.format(bic)}2 answer T yes from CCCCLV22\n" for bic in ("AAAALV22", "BBBBLV22")]
+        tickets = [layout.sections(day).tickets for _, day in many.split(many.pack("x", "".join(days)))]
+        self.assertEqual([[row["payee"] for row in rows[1:]] for rows in tickets], [[b"AAAALV22XXX"], [b"BBBBLV22XXX"]])
+        said = "x:5:29: expected of BIC, found the line's end: no order of the day has this TxId"
+        self.wrong(days[0] + "day other\n2 answer T yes from CCCCLV22\n", said)
 
     def test_limits_of_the_program(self):
         self.assertEqual(len(many.pack("x", f"day {'n' * 256}\nbytes {'00' * 57101}")), 8 + 256 + 57101)

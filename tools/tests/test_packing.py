@@ -1,6 +1,7 @@
 import os
 import unittest
 
+from tests import scenes
 from tests.reader import READER
 from zolfigar import layout, packing, text
 
@@ -9,6 +10,7 @@ IBAN = "LV80BANK0000435195001"
 A_BIC = "six A-Z, one of A-Z or 2-9, one of A-Z but O or of 0-9, then three of A-Z or 0-9, or none and XXX is filled in"
 AMOUNT = "an amount like EUR 4.00 or cents 400"
 KINDS = "cover-in, cover-out, order, answer, recall, return, decline, inquiry, cut, confirm, tick or message"
+ABOUT = "kind, flag, spare, time, amount, sender, payer, txid, iban or last"
 PLACES = "header, participant, route, ticket, bytes"
 
 CASE_D = """
@@ -36,12 +38,10 @@ CASE_D_BYTES = bytes.fromhex(
     + "00" * 32
     + "4c56383042414e4b30303030343335313935303031"
     + "00" * (13 + 1)
-    + f"04 01 0000 00000018 0000000000000000 {B11}"
-    + "00" * 11
+    + f"04 01 0000 00000018 0000000000000000 {B11} {A11}"
     + TX1
     + "00" * (32 + 34 + 1)
-    + f"08 00 0000 0000001e 0000000000000000 {A11}"
-    + "00" * 11
+    + f"08 00 0000 0000001e 0000000000000000 {A11} {A11}"
     + TX1
     + "00" * (32 + 34 + 1)
 )
@@ -141,11 +141,35 @@ MALFORMED = (
         "an IBAN is two A-Z, two digits, 1 to 30 of A-Z or 0-9; `but iban ..` writes one that is wrong",
     ),
     ("1 order TX1 from AAAALV22 to BBBBLV22 EUR 4.00 but flag 1", 48, 'expected iban, found "but"'),
-    ("1 answer TX1 from AAAALV22", 27, "expected yes or no, found the line's end"),
-    ("1 answer TX1 maybe from AAAALV22", 14, 'expected yes or no, or from, found "maybe"'),
-    ("1 answer TX1 yes no from AAAALV22", 18, 'expected from, found "no": flag is given already'),
+    ("1 answer TX1 from AAAALV22", 27, "expected yes or no, or of, found the line's end"),
+    ("1 answer TX1 maybe from AAAALV22", 14, 'expected yes or no, of, or from, found "maybe"'),
+    ("1 answer TX1 yes no from AAAALV22", 18, 'expected of, or from, found "no": flag is given already'),
+    ("1 answer TX1 of", 16, "expected a BIC, found the line's end"),
+    (
+        "1 answer TX1 of aaaalv22 yes from AAAALV22",
+        17,
+        f'expected a BIC, found "aaaalv22"; a BIC is {A_BIC}; `but payer ..` writes one that is wrong',
+    ),
+    (
+        "1 answer TX1 of AAAALV22 of AAAALV22 yes from AAAALV22",
+        26,
+        'expected yes or no, or from, found "of": payer is given already',
+    ),
+    ("1 answer TX1 of AAAALV22 yes from AAAALV22 tock", 44, 'expected but, or the line\'s end, found "tock"'),
+    (
+        "1 inquiry of AAAALV22 from AAAALV22",
+        11,
+        'expected a TxId, found "of"; a TxId of these letters is written `but txid of`',
+    ),
+    ("1 order TX1 of AAAALV22", 13, f'expected from, to, {AMOUNT}, or iban, found "of"'),
+    ("1 confirm of AAAALV22", 11, f'expected from, or {AMOUNT}, found "of"'),
+    ("1 tick of AAAALV22", 8, 'expected but, or the line\'s end, found "of"'),
+    ("1 inquiry TX1 from AAAALV22 but payee empty", 33, f'expected {ABOUT}, found "payee"'),
+    ("1 tick but payer empty", 12, f'expected {ABOUT.replace("payer", "payee")}, found "payer"'),
+    ("1 inquiry TX1 from AAAALV22 but payer empty payer A", 45, "payer is given twice behind `but`"),
+    ("1 inquiry TX1 from AAAALV22 but payer AAAALV22XXXX", 39, 'expected at most 11 bytes, found "AAAALV22XXXX"'),
     ("1 answer yes from AAAALV22", 10, 'expected a TxId, found "yes"; a TxId of these letters is written `but txid yes`'),
-    ("1 recall TX1 CUST from AAAALV22", 14, 'expected TECH, FRAD, AC03 or AM09, or from, found "CUST"'),
+    ("1 recall TX1 CUST from AAAALV22", 14, 'expected TECH, FRAD, AC03 or AM09, of, or from, found "CUST"'),
     ("raw 00", 7, "expected 216 hex digits, found 2"),
     ("raw 0x00", 6, 'expected a hex digit, found "x"'),
     ("bytes 0 11", 11, "expected two hex digits for each byte, found 3 digits"),
@@ -201,6 +225,7 @@ class Packing(unittest.TestCase):
                 self.wrong(f"x.day:2:{column}: {message}", "# a comment", line)
 
     def test_each_kind(self):
+        about = {"txid": b"T", "payee": b"BBBBLV22XXX"}
         listed = {
             f"1 cover-in from {A} EUR 0.10": {"kind": 1, "amount": 10},
             f"1 cover-out cents 0 from {A}": {"kind": 2},
@@ -211,12 +236,12 @@ class Packing(unittest.TestCase):
                 "payee": b"BBBBLV22XXX",
                 "iban": IBAN.encode(),
             },
-            f"1 answer T no from {A}": {"kind": 4, "flag": 2, "txid": b"T"},
-            f"1 answer T from {A} yes": {"kind": 4, "flag": 1, "txid": b"T"},
-            f"1 recall T AM09 from {A}": {"kind": 5, "flag": 4, "txid": b"T"},
-            f"1 return T from {A} cents 7": {"kind": 6, "amount": 7, "txid": b"T"},
-            f"1 decline T ARDT from {A}": {"kind": 7, "flag": 7, "txid": b"T"},
-            f"1 inquiry T from {A}": {"kind": 8, "txid": b"T"},
+            f"1 answer T of {B} no from {A}": {"kind": 4, "flag": 2} | about,
+            f"1 answer T from {A} yes of {B}XXX": {"kind": 4, "flag": 1} | about,
+            f"1 recall T AM09 of {B} from {A}": {"kind": 5, "flag": 4} | about,
+            f"1 return T from {A} of {B} cents 7": {"kind": 6, "amount": 7} | about,
+            f"1 decline T of {B} ARDT from {A}": {"kind": 7, "flag": 7} | about,
+            f"1 inquiry T from {A} of {B}ABC": {"kind": 8} | about | {"payee": b"BBBBLV22ABC"},
             "1 cut": {"kind": 9, "sender": b""},
             f"1 confirm from {A} EUR 0.00": {"kind": 10},
             "1 tick": {"kind": 11, "sender": b""},
@@ -230,7 +255,7 @@ class Packing(unittest.TestCase):
         flags_of = {"answer": "yes no", "recall": "TECH FRAD AC03 AM09", "decline": "CUST LEGL AC04 AM04 NOAS NOOR ARDT"}
         for kind, flags in flags_of.items():
             for number, flag in enumerate(flags.split(), 1):
-                self.assertEqual(ticket(f"1 {kind} T {flag} from {A}")["flag"], number)
+                self.assertEqual(ticket(f"1 {kind} T of {B} {flag} from {A}")["flag"], number)
 
     def test_participants(self):
         row = {"bic": b"AAAALV22XXX", "kind": 0, "opening": 0, "wish": 0, "spare": 0}
@@ -294,16 +319,18 @@ class Packing(unittest.TestCase):
         self.assertEqual(
             ticket("1 order but txid empty sender AAAALV22XXX payee BBBBLV22XXX amount 100 iban " + IBAN), given
         )
-        self.assertEqual(ticket(f"1 answer from {B} but txid but flag 2"), ticket(f"1 answer X no from {B} but txid but"))
+        given = ticket(f"1 answer X of {A} no from {B} but txid but")
+        self.assertEqual(ticket(f"1 answer of {A} from {B} but txid but flag 2"), given)
+        self.assertEqual(ticket(f"1 answer of {B} from {B} but txid but flag 2 payer AAAALV22XXX"), given)
 
     def test_words_that_are_never_a_txid(self):
-        for word in ("from", "to", "EUR", "cents", "iban", "but"):
+        for word in ("of", "from", "to", "EUR", "cents", "iban", "but"):
             self.assertEqual(ticket(f"1 inquiry from {A} but txid {word}")["txid"], word.encode())
             with self.assertRaises(text.TextError):
                 ticket(f"1 inquiry {word} from {A}")
         self.assertEqual(ticket(f"1 recall yes TECH from {A}")["txid"], b"yes")
-        self.assertEqual(ticket(f"1 answer TECH yes from {A}")["txid"], b"TECH")
-        self.assertEqual(ticket(f"1 answer yes from {A} but txid yes")["txid"], b"yes")
+        self.assertEqual(ticket(f"1 answer TECH of {B} yes from {A}")["txid"], b"TECH")
+        self.assertEqual(ticket(f"1 answer yes of {B} from {A} but txid yes")["txid"], b"yes")
 
     def test_raw(self):
         row = bytes(range(108))
@@ -391,6 +418,119 @@ class Packing(unittest.TestCase):
             with self.assertRaises(text.TextError) as caught:
                 packing.decoded("x.day", data)
             self.assertEqual(str(caught.exception), f"x.day:{place}: not UTF-8: byte {byte}")
+
+
+ORDERS = {
+    "T": f"1 order T from {A} to {B} EUR 1.00 iban {IBAN}",
+    "T of B": f"1 order T from {B} to {A} EUR 1.00 iban {IBAN}",
+}
+NO_ORDER = "no order of the day has this TxId"
+SEVERAL = f"orders of the day with this TxId are of {A}, {B}"
+NO_BIC = "an order of the day with this TxId has a sender that is no BIC"
+
+
+class PayersLeftOut(unittest.TestCase):
+    """What is filled in where a line doesn't say whose order it is about: 02, slip 6."""
+
+    ABOUT_ORDERS = (f"2 answer T yes from {B}", f"2 return T from {B} EUR 1.00", f"2 decline T CUST from {B}")
+
+    def payers(self, *lines):
+        """The payers of the tickets of kinds 4 to 8."""
+        return [row["payee"].decode() for row in layout.sections(pack(*lines)).tickets if 4 <= row["kind"] <= 8]
+
+    def said(self, *lines):
+        with self.assertRaises(text.TextError) as caught:
+            pack(*lines)
+        return str(caught.exception).split("\n")
+
+    def test_the_payer_of_the_orders_of_the_day(self):
+        for line in self.ABOUT_ORDERS:
+            self.assertEqual(self.payers(ORDERS["T"], line), [f"{A}XXX"])
+            self.assertEqual(self.payers(line, ORDERS["T of B"]), [f"{B}XXX"])
+            self.assertEqual(self.payers(ORDERS["T"], ORDERS["T"], line, line), [f"{A}XXX"] * 2)
+
+    def test_the_sender_of_a_recall_and_of_an_inquiry(self):
+        """Whoever's orders the day has."""
+        for line in (f"2 recall T TECH from {B}", f"2 inquiry T from {B}"):
+            for orders in ("", ORDERS["T"], "\n".join(ORDERS.values())):
+                self.assertEqual(self.payers(orders, line), [f"{B}XXX"])
+            self.assertEqual(self.payers(line + " but sender CCCCLV22ABC"), ["CCCCLV22ABC"])
+            said = f'x.day:1:{len(line) + 2}: expected of BIC, found "but": the sender is no BIC'
+            for sender in ("empty", "BBBBLV22", "bbbblv22xxx", "hex:00"):
+                self.assertEqual(self.said(f"{line} but sender {sender}"), [said])
+
+    def test_a_raw_order(self):
+        raw = "raw " + pack(ORDERS["T of B"])[12:].hex()
+        self.assertEqual(self.payers(raw, self.ABOUT_ORDERS[0]), [f"{B}XXX"])
+        self.assertEqual(len(self.said(raw, ORDERS["T"], self.ABOUT_ORDERS[0])), 1)
+
+    def test_what_is_no_order_does_not_count(self):
+        """A ticket is an order by its packed kind, whatever its line's word is."""
+        for other in (
+            ORDERS["T of B"] + " but kind 12",
+            f"1 recall T TECH from {B}",
+            ORDERS["T of B"].replace("T", "T2", 1),
+        ):
+            self.assertEqual(self.payers(ORDERS["T"], other, self.ABOUT_ORDERS[0])[-1], f"{A}XXX")
+        made = f"1 tick but kind 3 sender {B}XXX txid hex:5400"
+        self.assertEqual(self.payers(made, self.ABOUT_ORDERS[0]), [f"{B}XXX"])
+        self.assertEqual(
+            self.payers(ORDERS["T"] + f" but sender {B}ABC txid U", f"2 answer yes from {B} but txid U"), [f"{B}ABC"]
+        )
+
+    def test_where_it_can_not_be_told(self):
+        no_bic = ORDERS["T"] + " but sender empty"
+        cases = (((), NO_ORDER), (tuple(ORDERS.values()), SEVERAL), ((no_bic,), NO_BIC), ((no_bic, ORDERS["T"]), NO_BIC))
+        for orders, why in cases:
+            for line in self.ABOUT_ORDERS:
+                place = f"x.day:{len(orders) + 1}:{len(line) + 1}"
+                self.assertEqual(self.said(*orders, line), [f"{place}: expected of BIC, found the line's end: {why}"])
+                place = f"x.day:{len(orders) + 1}:{len(line) + 2}"
+                self.assertEqual(self.said(*orders, f"{line} but last 1"), [f'{place}: expected of BIC, found "but": {why}'])
+                self.assertEqual(self.payers(*orders, f"{line} of CCCCLV22"), ["CCCCLV22XXX"])
+
+    def test_each_is_told(self):
+        said = self.said(self.ABOUT_ORDERS[0], "1 tick", *self.ABOUT_ORDERS[1:])
+        self.assertEqual([line.split(": ")[0] for line in said], ["x.day:1:29", "x.day:3:34", "x.day:4:31"])
+
+    def test_many_payers(self):
+        orders = [ORDERS["T"].replace(A, f"AAAALV2{n}") for n in range(2, 8)]
+        due = "orders of the day with this TxId are of AAAALV22, AAAALV23, AAAALV24, AAAALV25 and 2 more"
+        self.assertTrue(self.said(*orders, self.ABOUT_ORDERS[0])[0].endswith(f": {due}"))
+
+    def test_but_gives_it(self):
+        """Nothing is filled then, and nothing is missed."""
+        for line in (*self.ABOUT_ORDERS, f"2 recall T TECH from {A}", f"2 inquiry T from {A}"):
+            for words, payer in (
+                ("empty", b""),
+                ("AAAALV22", b"AAAALV22"),
+                ("hex:ff", b"\xff"),
+                ("aaaalv22xxx", b"aaaalv22xxx"),
+            ):
+                self.assertEqual(ticket(f"{line} but payer {words}")["payee"], payer)
+
+    def test_not_missed_where_a_ticket_is_wrong(self):
+        """The order may be the ticket that is wrong. A line before the tickets is told beside it."""
+        wrong = ORDERS["T"].replace("order", "oder")
+        self.assertEqual(self.said(wrong, self.ABOUT_ORDERS[0])[0].split(": ")[0], "x.day:1:3")
+        self.assertEqual(len(self.said(wrong, self.ABOUT_ORDERS[0])), 1)
+        self.assertEqual(len(self.said("header tickets x", self.ABOUT_ORDERS[0])), 2)
+
+    def test_a_message_is_an_order(self):
+        name = os.path.join(scenes.EXAMPLES, "x.day")
+        messages = [f"1 message {file}" for file in scenes.MESSAGES]
+        txids = ("SALARY-41", "RENT-7/11'A'")
+        answers = [f"2 answer {txid} yes from {B}" for txid in txids]
+        file = packing.pack(name, "\n".join([*answers, *messages]), READER)
+        rows = layout.sections(file).tickets
+        self.assertEqual([row["payee"] for row in rows[:2]], [row["sender"] for row in rows[2:]])
+        self.assertEqual([row["txid"].decode() for row in rows[2:]], list(txids))
+
+    def test_not_missed_where_a_message_is_wrong(self):
+        with self.assertRaises(text.TextError) as caught:
+            packing.pack(os.path.join(scenes.EXAMPLES, "x.day"), f"1 message none.xml\n{self.ABOUT_ORDERS[0]}", READER)
+        self.assertEqual(str(caught.exception).count("\n"), 0)
+        self.assertIn("none.xml", str(caught.exception))
 
 
 class AnyFile(unittest.TestCase):

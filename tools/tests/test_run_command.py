@@ -168,6 +168,22 @@ class Run(unittest.TestCase):
         files.write(self.path("packed.bin"), scenes.day_file("case-d"))
         self.assertEqual(self.run_day(self.path("packed.bin"), "--order", "TX1")[0], 0)
 
+    def test_an_order_of_one_of_several_payers(self):
+        file, output = scenes.numbered()
+        for name, data in (
+            ("outputs/numbered.bin", file),
+            ("outputs/numbered.out", output.encode()),
+            ("numbered.bin", file),
+        ):
+            files.write(self.path(name), data)
+        status, out, _ = self.run_day(self.path("numbered.bin"), "--order", "1", "--of", "BBBBLV22")
+        self.assertEqual((status, "order 1 (1 of BBBBLV22)" in out, "order 0" in out), (0, True, False))
+        status, _, err = self.run_day(self.path("numbered.bin"), "--order", "1")
+        self.assertEqual((status, err), (1, "run: the TxId 1 is of AAAALV22, BBBBLV22: --of says which is meant\n"))
+        with self.assertRaises(SystemExit) as ended:
+            self.run_day(self.path("numbered.bin"), "--of", "BBBBLV22")
+        self.assertEqual(ended.exception.code, 2)
+
     def two_days(self):
         """Two days of one name, in two folders."""
         for folder, name in (("a", "case-d"), ("b", "case-e")):

@@ -172,7 +172,7 @@ class LateRecalls(unittest.TestCase):
             self.assertEqual(self.told(self.recall(TOP), at=at), f"{WRONG}: {words}")
 
     def test_no_time_where_none_is_told(self):
-        """No order has the TxId, or none was settled by then: of a wrong output."""
+        """No order has payer and TxId, or none was settled by then: of a wrong output."""
         self.assertEqual(self.told(("864024 recall TX9 FRAD from AAAALV22", 26)), WRONG)
         steps = (f"5 order TX1 from AAAALV22 to BBBBLV22 EUR 400.00 {scenes.IBAN}", 0, "1 1 0 40000"), self.recall(900_000)
         later = ("900000 answer TX1 yes from BBBBLV22", 0, "0 2 0 40000")

@@ -114,11 +114,11 @@ Tickets
     1  00:00:05  order TX1 from AAAALV22 to BBBBLV22 EUR 4.00 iban LV80BANK0000435195001
                 carried out, 1 route row followed
                   to BBBBLV22: an order to answer (1), order 0 TX1, EUR 4.00
-    2  00:00:24  answer TX1 yes from BBBBLV22
+    2  00:00:24  answer TX1 of AAAALV22 yes from BBBBLV22
                 carried out
                   to AAAALV22: the order is settled (2), order 0 TX1, EUR 4.00
                   to BBBBLV22: the order is settled (2), order 0 TX1, EUR 4.00
-    3  00:00:30  inquiry TX1 from AAAALV22
+    3  00:00:30  inquiry TX1 of AAAALV22 from AAAALV22
                 carried out
                   to AAAALV22: the order is settled (2), order 0 TX1, EUR 4.00
 
@@ -167,13 +167,13 @@ PART_MOVED = """\
 
 
 LATE = """\
-    6 240:00:24  recall TX1 FRAD from AAAALV22
+    6 240:00:24  recall TX1 of AAAALV22 FRAD from AAAALV22
                 turned back, 26 XT86: the recall is too late: settled at 00:00:24, the last moment was 240:00:23
                   to AAAALV22: the order has expired (4), order 2 TX3, EUR 50.00
                   to BBBBLV22: the order has expired (4), order 2 TX3, EUR 50.00
-    7 240:00:25  recall TX1 TECH from AAAALV22
+    7 240:00:25  recall TX1 of AAAALV22 TECH from AAAALV22
                 turned back, 26 XT86: the recall is too late: settled at 00:00:24, the last moment was 240:00:23
-    8 240:00:26  inquiry TX1 from AAAALV22
+    8 240:00:26  inquiry TX1 of AAAALV22 from AAAALV22
                 carried out
                   to AAAALV22: the order is settled (2), order 0 TX1, EUR 400.00""".split(
     "\n"

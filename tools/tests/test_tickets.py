@@ -18,7 +18,9 @@ class Rows(unittest.TestCase):
 
     def test_a_row(self):
         row = self.row(10)
-        self.assertEqual([words_of(cell) for cell in row][:3], ["10", "08:01:20", "answer LATE yes from BBBBLV22 order 3"])
+        self.assertEqual(
+            [words_of(cell) for cell in row][:3], ["10", "08:01:20", "answer LATE of AAAALV22 yes from BBBBLV22 order 3"]
+        )
         self.assertTrue(words_of(row[3]).startswith("turned back, 18 XT75: "))
         told = "the order has expired (4), order 3 LATE, EUR 60.00"
         self.assertEqual([words_of(item) for item in row[4].iter("li")], [f"to AAAALV22: {told}", f"to BBBBLV22: {told}"])
@@ -40,7 +42,9 @@ class Rows(unittest.TestCase):
         """It says why it was turned back, and what the clock's move brought; the payee, who isn't told, finds it too."""
         view = View(scenes.late_day())
         row = tickets.ticket_row(view, view.day.events[6])
-        self.assertEqual([words_of(cell) for cell in row][:3], ["6", "240:00:24", "recall TX1 FRAD from AAAALV22 order 0"])
+        self.assertEqual(
+            [words_of(cell) for cell in row][:3], ["6", "240:00:24", "recall TX1 of AAAALV22 FRAD from AAAALV22 order 0"]
+        )
         why = "26 XT86: the recall is too late: settled at 00:00:24, the last moment was 240:00:23"
         self.assertEqual(words_of(row[3]), f"turned back, {why}")
         told = "the order has expired (4), order 2 TX3, EUR 50.00"

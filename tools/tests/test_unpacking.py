@@ -18,8 +18,8 @@ route BBBBLV22 to BBBBLV22
 # tickets
 00:00:00 cover-in from AAAALV22 EUR 10.00
 00:00:05 order    TX1 from AAAALV22 to BBBBLV22 EUR 4.00 iban LV80BANK0000435195001
-00:00:24 answer   TX1 yes from BBBBLV22
-00:00:30 inquiry  TX1 from AAAALV22
+00:00:24 answer   TX1 of AAAALV22 yes from BBBBLV22
+00:00:30 inquiry  TX1 of AAAALV22 from AAAALV22
 """
 
 BICS = b"AAAALV22XXX BBBBLV22XXX BBBBLV22ABC AAAALV22 aAAALV22XXX AAAALV22XX\xff \0AAALV22XXX but".split() + [b""]
@@ -82,11 +82,11 @@ WELL_FORMED_LINES = """
 08:00:00 cover-in from AAAALV22 EUR 10.00
 08:00:00 cover-out from AAAALV22ABC EUR 0.01
 08:00:05 order TX1 from AAAALV22 to BBBBLV22 EUR 4.00 iban LV80BANK0000435195001
-08:00:24 answer TX1 yes from BBBBLV22
-08:01:00 recall TX1 FRAD from AAAALV22
-08:02:00 return TX1 from BBBBLV22 EUR 4.00
-08:02:00 decline TX1 CUST from BBBBLV22
-08:00:30 inquiry TX1 from AAAALV22
+08:00:24 answer TX1 of AAAALV22 yes from BBBBLV22
+08:01:00 recall TX1 of AAAALV22 FRAD from AAAALV22
+08:02:00 return TX1 of AAAALV22 from BBBBLV22 EUR 4.00
+08:02:00 decline TX1 of AAAALV22ABC CUST from BBBBLV22
+08:00:30 inquiry TX1 of BBBBLV22 from AAAALV22
 18:00:00 cut
 86399 confirm from AAAALV22 EUR 0.50
 86400 tick
@@ -197,13 +197,22 @@ class Texts(unittest.TestCase):
             "00:00:01 order from AAAALV22 to BBBBLV22 EUR 1.00 iban LV80BANK0000435195001 but txid from",
             "00:00:01 order TX1 from AAAALV22 to BBBBLV22 EUR 1.00 iban LV80BANK0000435195001 but kind 12",
             "00:00:01 order TX1 to BBBBLV22 EUR 1.00 iban LV80BANK0000435195001 but kind 0 sender AAAALV22",
-            "00:00:01 answer TX1 from AAAALV22 but flag 3",
-            "00:00:01 answer yes from AAAALV22 but txid yes",
-            "00:00:01 answer empty yes from AAAALV22",
-            "00:00:01 answer hex:41 yes from AAAALV22",
+            "00:00:01 order from AAAALV22 to BBBBLV22 EUR 1.00 iban LV80BANK0000435195001 but txid of",
+            "00:00:01 answer TX1 of BBBBLV22 from AAAALV22 but flag 3",
+            "00:00:01 answer of BBBBLV22 yes from AAAALV22 but txid yes",
+            "00:00:01 answer of BBBBLV22 yes from AAAALV22 but txid of",
+            "00:00:01 answer empty of BBBBLV22 yes from AAAALV22",
+            "00:00:01 answer hex:41 of BBBBLV22 yes from AAAALV22",
+            "00:00:01 answer TX1 yes from AAAALV22 but payer empty",
+            "00:00:01 answer TX1 yes from AAAALV22 but payer BBBBLV22",
+            "00:00:01 return TX1 from AAAALV22 EUR 1.00 but payer bbbblv22xxx",
+            "00:00:01 decline TX1 CUST from AAAALV22 but payer hex:ff",
+            "00:00:01 inquiry TX1 from AAAALV22 but payer empty",
+            "00:00:01 recall TX1 TECH from AAAALV22 but payer hex:656d707479",
+            "00:00:01 cover-in from AAAALV22 EUR 1.00 but payee AAAALV22XXX",
             "00:00:01 tick but txid hex:656d707479",
             "00:00:01 tick but txid hex:6865783a3431",
-            "00:00:01 recall yes TECH from AAAALV22",
+            "00:00:01 recall yes of BBBBLV22 TECH from AAAALV22",
             "00:00:01 tick but kind 255",
             "00:00:01 tick but flag 1 amount 5 sender hex:ff payee AAAALV22XXX",
             "00:00:01 cut but spare 65535 last 255",
@@ -237,7 +246,7 @@ class Texts(unittest.TestCase):
     def test_ticket_words(self):
         rows = layout.sections(CASE_D_BYTES).tickets
         self.assertEqual(unpacking.ticket_words(rows[0]), "cover-in from AAAALV22 EUR 10.00")
-        self.assertEqual(unpacking.ticket_words(rows[2]), "answer TX1 yes from BBBBLV22")
+        self.assertEqual(unpacking.ticket_words(rows[2]), "answer TX1 of AAAALV22 yes from BBBBLV22")
         self.assertEqual(unpacking.ticket_words(layout.ticket_in(bytes(108))), "tick but kind 0")
         self.assertEqual(unpacking.ticket_words(layout.ticket_in(b"\xff" * 108))[:18], "raw ff ff ffff fff")
 

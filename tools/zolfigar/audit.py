@@ -1,16 +1,19 @@
-"""What doesn't add up in a day as it was seen: the clauses of 01 'Demand 3, word by word', what slip 2 of 02 says of returns
-and slip 5 of recalls that come too late, held against tickets, answers, reports and closing positions.
+"""What doesn't add up in a day as it was seen: the clauses of 01 'Demand 3, word by word', what slip 2 of 02 says of returns,
+slip 5 of recalls that come too late and slip 6 of the key of an order, held against tickets, answers, reports and closing
+positions.
 
-Of the book's rules two are recomputed: when a recall comes too late, and that nothing answers a recall which was not accepted.
-Else which refusal a ticket should have had, how many route rows it followed, how large an open debit is and what an inquiry
-should have told are not looked at. A problem is a sentence that names the ticket, the order or the participant."""
+Of the book's rules three are recomputed: whether a ticket's sender and order are there and fit (12, 13, 16, 17), when a recall
+comes too late (26), and that nothing answers a recall which was not accepted. Else which refusal a ticket should have had, how
+many route rows it followed, how large an open debit is and what an inquiry should have told are not looked at. A problem is a
+sentence that names the ticket, the order or the participant."""
 
 from collections.abc import Iterator
 
+from . import layout
 from .figures import counted, euro
 from .history import Day, Event, Order
 from .output import Parts, Report
-from .words import CUT_REPORTS, ENDINGS, LIMIT, NO_ORDER, RECALL_LIMIT
+from .words import CUT_REPORTS, ENDINGS, LIMIT, NO_ORDER, RECALL_LIMIT, REFUSALS
 
 
 def problems(day: Day) -> list[str]:
@@ -31,7 +34,7 @@ CAUSES = {1: (3,), 2: (4, 8), 3: (4, 8), 5: (5,), 6: (6, 8), 7: (7, 8), 8: (8,),
 
 
 def name_of(order: Order) -> str:
-    return f"order {order.number} ({order.txid})"
+    return f"order {order.number} ({order.name})"
 
 
 def each_report(day: Day) -> Iterator[tuple[Event, Report]]:
@@ -113,16 +116,24 @@ def named(day: Day, event: Event) -> Order | None:
     return None if event.order is None else day.orders[event.order]
 
 
+# Whose ticket a kind is.
+SIDES = {4: "payee", 5: "payer", 6: "payee", 7: "payee", 8: "payer"}
+
+
+def party(order: Order, side: str) -> int | None:
+    return order.payer if side == "payer" else order.payee
+
+
 def answered(day: Day) -> Iterator[str]:
     """An accepted recall and inquiry comes from the order's payer, an accepted answer, return and decline from its payee."""
     for event in day.events:
-        side = {5: "payer", 8: "payer", 4: "payee", 6: "payee", 7: "payee"}.get(event.ticket["kind"])
+        side = SIDES.get(event.ticket["kind"])
         if event.refusal or side is None:
             continue
         order = named(day, event)
         if order is None:
-            yield f"ticket {event.number} was accepted, and no order has its TxId"
-        elif event.sender != (order.payer if side == "payer" else order.payee):
+            yield f"ticket {event.number} was accepted, and {NOT_HELD}"
+        elif event.sender != party(order, side):
             yield f"ticket {event.number} was accepted, and its sender is not the {side} of {name_of(order)}"
 
 
@@ -220,44 +231,82 @@ def returns(day: Day) -> Iterator[str]:
                 yield f"{told} nothing of {name_of(order)}: 9 turns that back"
 
 
-def late_recall(order: Order | None, event: Event, clock: int) -> tuple[bool, str]:
-    """Whether a ticket is one that 26 turns back, given the order that it names and the clock before it; and why, or why not."""
-    settled = order.settled_before(event) if order else None
-    recall = next(iter(order.recalls), event) if order else event
-    is_late = False
-    if event.ticket["kind"] != 5:
-        why = "is no recall"
-    elif event.time < clock:
-        why = "its time is before the clock: 11 comes first"
-    elif event.sender is None:
-        why = "its sender is no participant: 12 comes first"
-    elif order is None:
-        why = "no order has its TxId: 16 comes first"
-    elif event.sender != order.payer:
-        why = f"its sender is not the payer of {name_of(order)}: 17 comes first"
-    elif settled is None:
-        why = f"{name_of(order)} is not settled: 18 comes first"
-    elif recall.number < event.number:
-        why = f"ticket {recall.number} recalled {name_of(order)}: 18 comes first"
-    else:
-        after = event.time - settled.time
-        is_late = after >= RECALL_LIMIT
-        why = f"recalls {name_of(order)} {after:,} seconds after its settlement: "
-        why += "26 turns that back" if is_late else "that is in time"
-    return is_late, why
+# The refusals that are recomputed; of an accepted ticket 12, 16 and 17 are `addressed` and `answered`.
+RECOMPUTED = (12, 13, 16, 17, 26)
+AS_LOOKED_AT = list(REFUSALS)
+NOT_HELD = "no order has its payer and TxId"
 
 
-def late_recalls(day: Day) -> Iterator[str]:
-    """26 turns back the recalls that come too late and nothing else. What 6 to 11 turn back is not looked at, nor what 7 to 10
-    should have."""
+def due_refusal(order: Order | None, event: Event, clock: int) -> tuple[int, str]:
+    """Of 11 to 13, 16 to 18 and 26 the first that a ticket is due, 0 if none, and why: given the order with the payer and TxId
+    that it makes or names, if there was one before, and the clock before it."""
+    kind = event.ticket["kind"]
+    if event.time < clock:
+        return 11, "its time is before the clock"
+    if event.sender is None and kind not in (9, 11):
+        return 12, "its sender is no participant"
+    if kind == 3 and order is not None:
+        return 13, f"{name_of(order)} has its payer and TxId"
+    return due_about_order(order, event) if kind in SIDES else (0, "")
+
+
+def due_about_order(order: Order | None, event: Event) -> tuple[int, str]:
+    """The same of kinds 4 to 8 from a participant: 16, 17 or 0; of a recall also 18 and 26."""
+    side = SIDES[event.ticket["kind"]]
+    if order is None:
+        return 16, NOT_HELD
+    if event.sender != party(order, side):
+        return 17, f"its sender is not the {side} of {name_of(order)}"
+    return due_of_recall(order, event) if event.ticket["kind"] == 5 else (0, "")
+
+
+def due_of_recall(order: Order, event: Event) -> tuple[int, str]:
+    """The same of a recall by the order's payer: 18, 26 or 0, and why not."""
+    settled, recall = order.settled_before(event), next(iter(order.recalls), event)
+    if settled is None:
+        return 18, f"{name_of(order)} is not settled"
+    if recall.number < event.number:
+        return 18, f"ticket {recall.number} recalled {name_of(order)}"
+    after = event.time - settled.time
+    told = f"recalls {name_of(order)} {after:,} seconds after its settlement"
+    return (26, told) if after >= RECALL_LIMIT else (0, f"{told}: that is in time")
+
+
+def not_due(order: Order | None, event: Event, in_time: str) -> str:
+    """Why a ticket to which none of these refusals is due should not have the one that it has."""
+    kind = event.ticket["kind"]
+    held = f"{name_of(order)} has its payer and TxId" if order and kind in SIDES else "names no order"
+    fits = f"its sender is the {SIDES[kind]} of {name_of(order)}" if order and kind in SIDES else "names no order"
+    why = {
+        12: "has no sender" if kind in (9, 11) else "its sender is a participant",
+        13: "no order before has its payer and TxId" if kind == 3 else "is no order",
+        16: held,
+        17: fits,
+        26: in_time or "is no recall",
+    }
+    return why[event.refusal]
+
+
+def recomputed(day: Day) -> Iterator[str]:
+    """12, 13, 16, 17 and 26 turn back the tickets that they must and no others. What 6 to 11 turn back is not looked at, nor what
+    7 to 10 should have."""
     clock = 0
-    for event in day.events:
-        if event.sets_clock():
-            is_late, why = late_recall(named(day, event), event, clock)
-            if is_late != (event.refusal == 26):
-                became = f"was turned back by {event.refusal}" if event.refusal else "was accepted"
-                yield f"ticket {event.number} {became}, and {why}"
-            clock = max(clock, event.time)
+    held: dict[tuple[bytes, bytes], Order] = {}
+    for event in (event for event in day.events if event.sets_clock()):
+        order = held.get(layout.key_of(event.ticket)) if 3 <= event.ticket["kind"] <= 8 else None
+        number, why = due_refusal(order, event, clock)
+        if event.refusal:
+            became = f"ticket {event.number} was turned back by {event.refusal}"
+            if number and number != event.refusal and {number, event.refusal} & set(RECOMPUTED):
+                is_first = event.refusal in RECOMPUTED and AS_LOOKED_AT.index(number) < AS_LOOKED_AT.index(event.refusal)
+                yield f"{became}, and {why}: {number} {'comes first' if is_first else 'turns that back'}"
+            elif not number and event.refusal in RECOMPUTED:
+                yield f"{became}, and {not_due(order, event, why)}"
+        elif number in (13, 26):
+            yield f"ticket {event.number} was accepted, and {why}: {number} turns that back"
+        if event.is_accepted(3) and event.order is not None:
+            held.setdefault(layout.key_of(event.ticket), day.orders[event.order])
+        clock = max(clock, event.time)
 
 
 def marked(day: Day) -> Iterator[str]:
@@ -314,7 +363,7 @@ CLAUSES = (
     repeated,
     alike,
     returns,
-    late_recalls,
+    recomputed,
     marked,
     never_below,
     positions,

@@ -20,6 +20,7 @@ USES = """examples:
   tools/explain day.bin day.out                      all of it, on the terminal
   tools/explain day.bin day.out --member AAAALV22    one participant
   tools/explain day.bin day.out --order TX1          one order
+  tools/explain day.bin day.out --order TX1 --of AAAALV22    the one of that payer, where several have the TxId
   tools/explain day.bin day.out --page day.html      one page for a browser
   tools/explain day.bin day.out --journal day.journal --date 2026-11-15
 
@@ -32,6 +33,7 @@ class Followed(argparse.Namespace):
     day: str
     member: str | None
     order: str | None
+    of: str | None
 
 
 class Words(Followed):
@@ -48,6 +50,14 @@ def followed(parser: argparse.ArgumentParser) -> None:
     shown = parser.add_mutually_exclusive_group()
     shown.add_argument("--member", type=command_line.given, metavar="BIC", help="follow one participant")
     shown.add_argument("--order", type=command_line.given, metavar="TXID", help="follow one order")
+    what = "the payer of that order, where orders of several payers have its TxId"
+    parser.add_argument("--of", type=command_line.given, metavar="BIC", help=what)
+
+
+def followed_well(parser: argparse.ArgumentParser, found: Followed) -> None:
+    """Ends with wrong usage where the words on what is followed don't go together."""
+    if found.of and not found.order:
+        parser.error("--of is the payer of an order, and there is no --order")
 
 
 def a_date(word: str) -> datetime.date:
@@ -77,6 +87,7 @@ def arguments(words: Sequence[str]) -> Words:
     parser.add_argument("--journal", type=command_line.given, metavar="FILE", help=what)
     dated(parser)
     found = parser.parse_args(words, Words())
+    followed_well(parser, found)
     if found.date and not found.journal:
         parser.error("--date is the journal's, and there is no --journal")
     return found
@@ -86,20 +97,33 @@ def coloured(stream: TextIO) -> bool:
     return stream.isatty() and "NO_COLOR" not in os.environ
 
 
+def with_branch(bic: str) -> str:
+    return bic + "XXX" if len(bic) == 8 else bic
+
+
 def wanted(day: Day, words: Followed) -> tuple[int | None, Order | None]:
     """The participant's number and the order that are to be followed."""
-    member = order = None
+    member = None
     if words.member:
-        bic = words.member + "XXX" if len(words.member) == 8 else words.member
-        member = next((p.number for p in day.participants if p.bic == bic), None)
+        member = next((p.number for p in day.participants if p.bic == with_branch(words.member)), None)
         if member is None:
             known = ", ".join(p.bic for p in day.participants)
             raise files.Failed(f"{files.shown(words.member)} is no participant of this day: {known or 'it has none'}")
-    if words.order:
-        order = next((o for o in day.orders if o.txid == words.order), None)
-        if order is None:
-            raise files.Failed(f"no order with the TxId {files.shown(words.order)} was accepted on this day")
-    return member, order
+    return member, wanted_order(day, words.order, words.of) if words.order else None
+
+
+def wanted_order(day: Day, txid: str, payer: str | None) -> Order:
+    """The order with the TxId, of the payer if one is given."""
+    with_txid = [order for order in day.orders if order.txid == txid]
+    if not with_txid:
+        raise files.Failed(f"no order with the TxId {files.shown(txid)} was accepted on this day")
+    found = [o for o in with_txid if payer is None or history.text_of(o.event.ticket["sender"]) == with_branch(payer)]
+    those = f"the TxId {files.shown(txid)} is of {', '.join(dict.fromkeys(o.payer_bic for o in with_txid))}"
+    if not found:
+        raise files.Failed(f"{those}, and no order with it was accepted of {files.shown(payer or '')}")
+    if payer is None and found[0].shares:
+        raise files.Failed(f"{those}: --of says which is meant")
+    return found[0]
 
 
 def show(day: Day, problems: Sequence[str], words: Followed) -> None:

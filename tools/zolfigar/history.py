@@ -3,6 +3,7 @@
 Nothing here is decided by a rule of the book: that a ticket was accepted, an order expired or cover was set aside is read
 off answers and reports, in the terms of 01 'Demand 3, word by word'."""
 
+from collections import defaultdict
 from collections.abc import Iterator, Sequence
 from dataclasses import dataclass, field
 from typing import NamedTuple
@@ -12,6 +13,7 @@ from .figures import counted
 from .layout import ParticipantRow, TicketRow
 from .output import Answer, Parts, Position, Report
 from .progress import over
+from .text import bic_word
 from .words import CUT_REPORTS, ENDINGS, REFUSALS
 
 
@@ -56,7 +58,8 @@ class Event(NamedTuple):
 @dataclass
 class Order:
     """An accepted order. `ended` is the event with its first ending, `code` that ending's; `returns` are the accepted returns
-    of it, of which there is one at most if all is right; `events` are all that touch it."""
+    of it, of which there is one at most if all is right; `events` are all that touch it; `shares` is whether an order of another
+    payer has its TxId."""
 
     number: int
     event: Event
@@ -68,10 +71,22 @@ class Order:
     code: int | None = None
     returns: list[Event] = field(default_factory=list)
     events: list[Event] = field(default_factory=list)
+    shares: bool = False
 
     @property
     def time(self) -> int:
         return self.event.time
+
+    @property
+    def payer_bic(self) -> str:
+        """The BIC of its payer as people write it: the sender's of its ticket; nobody where that is empty, of a wrong output."""
+        sender = self.event.ticket["sender"]
+        return bic_word(sender) or text_of(sender) or "nobody"
+
+    @property
+    def name(self) -> str:
+        """What people call it: its TxId, and whose it is where orders of several payers have that TxId."""
+        return f"{self.txid} of {self.payer_bic}" if self.shares else self.txid
 
     def settled_before(self, event: Event) -> Event | None:
         """The event that settled it, if that came before the event."""
@@ -182,14 +197,14 @@ class Reader:
     def __init__(self, participants: Sequence[Participant]) -> None:
         self.numbers = {p.bic: p.number for p in reversed(participants)}
         self.orders: list[Order] = []
-        self.by_txid: dict[bytes, int] = {}
+        self.by_key: dict[tuple[bytes, bytes], int] = {}  # the first order with each payer and TxId
         self.moves: list[Move] = []
         self.events: list[Event] = []
         self.last_cut: dict[int, int] = {}  # the code of the last report of a cut to each participant
 
     def take(self, number: int, ticket: TicketRow, answer: Answer) -> None:
         sender = self.numbers.get(text_of(ticket["sender"]))
-        named = self.by_txid.get(ticket["txid"]) if 3 <= ticket["kind"] <= 8 else None
+        named = self.by_key.get(layout.key_of(ticket)) if 3 <= ticket["kind"] <= 8 else None
         event = Event(number, ticket, answer.refusal, answer.rows, answer.reports, sender, named)
         if event.is_accepted(3):
             event = event._replace(order=len(self.orders))
@@ -256,10 +271,10 @@ class Reader:
 
     def ordered(self, event: Event) -> None:
         told = event.first(1)
-        txid, amount = event.ticket["txid"], event.ticket["amount"]
+        txid, amount = text_of(event.ticket["txid"]), event.ticket["amount"]
         number, payee = len(self.orders), told.to if told else None
-        self.orders.append(Order(number, event, text_of(txid), event.sender, payee, amount, events=[event]))
-        self.by_txid.setdefault(txid, number)
+        self.orders.append(Order(number, event, txid, event.sender, payee, amount, events=[event]))
+        self.by_key.setdefault(layout.key_of(event.ticket), number)
         self.move(event, event.sender, "reserved", amount, Parts(available=-amount, reserved=amount), number, payee)
 
     def settled(self, event: Event) -> None:
@@ -288,6 +303,15 @@ class Reader:
             self.move(event, event.sender, "confirmed credits", amount, Parts(held=-amount))
 
 
+def tell_apart(orders: Sequence[Order]) -> None:
+    """Marks the orders whose TxId an order of another payer has too."""
+    payers: defaultdict[bytes, set[bytes]] = defaultdict(set)
+    for payer, txid in (layout.key_of(order.event.ticket) for order in orders):
+        payers[txid].add(payer)
+    for order in orders:
+        order.shares = len(payers[order.event.ticket["txid"]]) > 1
+
+
 def read(name: str, file: bytes, text: str) -> Day:
     """The day of a file's bytes and the text that the program printed of it."""
     out = output.read(text)
@@ -299,6 +323,7 @@ def read(name: str, file: bytes, text: str) -> Day:
     reader = Reader(participants)
     for number, (ticket, answer) in enumerate(over(zip(found.tickets, out.answers), "tickets")):
         reader.take(number, ticket, answer)
+    tell_apart(reader.orders)
     day = Day(name, None, participants, reader.events, reader.orders, reader.moves, out.positions, problems)
     answered(day, len(found.tickets), len(out.answers))
     return day

@@ -74,10 +74,12 @@ class Case:
         alone.add(line)
         self.named.day.mistakes += alone.mistakes
         self.named.day.asked += alone.asked
+        self.named.day.tickets_known = self.named.day.tickets_known and alone.tickets_known
         self.inputs += [Input(row, self.length, self.buffer) for row in alone.rows["ticket"]]
 
     def packed(self) -> bytes:
         name, file = self.named.packed()
+        self.named.day.fill([given.row for given in self.inputs])
         given = (given.packed() for given in self.inputs)
         return b"".join((number(len(name)), number(len(file)), number(len(self.inputs)), name, file, *given))
 

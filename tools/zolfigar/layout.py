@@ -45,7 +45,7 @@ class RouteRow(TypedDict):
 
 
 class TicketRow(TypedDict):
-    """A ticket."""
+    """A ticket. Kinds 4 to 8 have the payer of the order that they name where an order has its payee."""
 
     kind: int
     flag: int
@@ -92,6 +92,8 @@ TICKET = (
     Field("iban", 73, 34, is_text=True),
     Field("last", 107, 1),
 )
+# A ticket of kinds 4 to 8: 02, slip 6.
+ABOUT = tuple(field._replace(name="payer") if field.name == "payee" else field for field in TICKET)
 
 
 # The largest counts of a header that 2 doesn't refuse.
@@ -132,6 +134,11 @@ def header_in(file: bytes) -> Header:
 
 def ticket_in(row: bytes) -> TicketRow:
     return cast(TicketRow, read(TICKET, row))
+
+
+def key_of(ticket: TicketRow) -> tuple[bytes, bytes]:
+    """The payer's BIC and the TxId of the order that a ticket of kinds 3 to 8 makes or names: 02, slip 6."""
+    return (ticket["sender"] if ticket["kind"] == 3 else ticket["payee"]), ticket["txid"]
 
 
 class Sections(NamedTuple):

@@ -8,8 +8,9 @@ from . import layout, message_lines, messages, text, words
 from .progress import over
 
 ORDER = ("header", "participant", "route", "ticket", "bytes")
-FIELD_WORDS = ("from", "to", "EUR", "cents", "iban", "but")
+FIELD_WORDS = ("of", "from", "to", "EUR", "cents", "iban", "but")
 KIND_NUMBERS = {word: number for number, word in words.KINDS.items()}
+MOST_PAYERS = 4  # that a message names
 AMOUNT_READERS = {"EUR": ("euros like 4.00", text.euros), "cents": ("cents like 400", text.cents)}
 
 
@@ -21,8 +22,15 @@ class Reference(NamedTuple):
     mistake: text.Mistake
 
 
+class LeftOut(NamedTuple):
+    """The payer that a line of a kind doesn't name; the place is where `of` would stand."""
+
+    kind: int
+    place: text.Cursor
+
+
 T = TypeVar("T")
-Given = int | bytes | Reference  # a field's value; a reference until all rows are read
+Given = int | bytes | Reference | LeftOut  # a field's value; one of the last two until all rows are read
 Row = dict[str, Given]
 Reader = Callable[[text.Cursor], Row]
 
@@ -36,7 +44,8 @@ class Item(NamedTuple):
 
 
 class Form(NamedTuple):
-    """A line's parts: the field that comes first, if any, its name and reader, then items by their words, in any order."""
+    """A line's parts: the field that comes first, if any, its name and reader, then items by their words, in any order. What isn't
+    needed may be left out."""
 
     fields: dict[str, layout.Field]
     first: str
@@ -125,11 +134,16 @@ ROUTE = bic_form(
     ("bic", "k", "kind"),
 )
 TICKET_ITEMS = {
+    "of": Item(("payer",), "of", valued("payer", "a BIC", partial(text.bic, field="payer"))),
     "from": Item(("sender",), "from", valued("sender", "a BIC", partial(text.bic, field="sender"))),
     "to": Item(("payee",), "to", valued("payee", "a BIC", partial(text.bic, field="payee"))),
     **{word: Item(("amount",), text.AN_AMOUNT, valued("amount", *how)) for word, how in AMOUNT_READERS.items()},
     "iban": Item(("iban",), "iban", valued("iban", "an IBAN", text.iban)),
 }
+
+
+def ticket_fields(kind: int) -> layout.Fields:
+    return layout.ABOUT if "payer" in words.LISTED[kind] else layout.TICKET
 
 
 def ticket_form(kind: int) -> Form:
@@ -138,9 +152,8 @@ def ticket_form(kind: int) -> Form:
     items = {word: Item(("flag",), phrase, fixed(flag=flag)) for flag, word in flags.items()}
     items |= {word: item for word, item in TICKET_ITEMS.items() if item.fields[0] in listed}
     first = "txid" if "txid" in listed else ""
-    return Form(
-        by_name(layout.TICKET), first, "a TxId", text.txid, items, listed, frozenset((*FIELD_WORDS, *flags.values()))
-    )
+    fields, needed = by_name(ticket_fields(kind)), tuple(field for field in listed if field != "payer")
+    return Form(fields, first, "a TxId", text.txid, items, needed, frozenset((*FIELD_WORDS, *flags.values())))
 
 
 TICKETS = {kind: ticket_form(kind) for kind in words.KINDS}
@@ -172,6 +185,7 @@ def read_row(cursor: text.Cursor, form: Form) -> Row:
     if missing:
         cursor.at = first if form.first in missing else last
         raise lacking(cursor, form, missing, row | overridden)
+    cursor.at = last
     return row | overridden
 
 
@@ -227,7 +241,45 @@ def read_ticket(cursor: text.Cursor) -> Row:
     time = cursor.take(text.A_TIME, text.time)
     what = "a kind of ticket: " + one_of([*KIND_NUMBERS, message_lines.WORD])
     kind = cursor.take(what, chosen(KIND_NUMBERS, what))
-    return {"time": time, "kind": kind, **read_row(cursor, TICKETS[kind])}
+    row: Row = {"time": time, "kind": kind, **read_row(cursor, TICKETS[kind])}
+    if "payer" in words.LISTED[kind]:
+        row["payee"] = row.pop("payer", LeftOut(kind, cursor))
+    return row
+
+
+def text_in(row: Row, name: str) -> bytes:
+    """A text field's value as it is packed."""
+    value = row.get(name, b"")
+    assert isinstance(value, bytes)
+    return value.rstrip(b"\0")
+
+
+def fill_payers(rows: Sequence[Row]) -> list[text.Mistake]:
+    """Puts in the payers that are left out. The mistakes are of those that can't be told."""
+    senders: dict[bytes, dict[bytes, None]] = {}  # of the orders with each TxId
+    for row in rows:
+        if row.get("kind") == KIND_NUMBERS["order"]:
+            senders.setdefault(text_in(row, "txid"), {})[text_in(row, "sender")] = None
+    mistakes = []
+    for row in rows:
+        if isinstance(left_out := row.get("payee"), LeftOut):
+            of_sender = words.KINDS[left_out.kind] in ("recall", "inquiry")
+            found = [text_in(row, "sender")] if of_sender else list(senders.get(text_in(row, "txid"), {}))
+            row["payee"] = found[0] if found else b""
+            if len(found) != 1 or not text.bic_word(found[0]):
+                why = "the sender is no BIC" if of_sender else why_unknown([text.bic_word(sender) for sender in found])
+                mistakes.append(left_out.place.expected("of BIC", f": {why}"))
+    return mistakes
+
+
+def why_unknown(payers: Sequence[str]) -> str:
+    """Why the payers of the orders with a TxId, empty where one is no BIC, don't tell which is meant."""
+    if not payers:
+        return "no order of the day has this TxId"
+    if not all(payers):
+        return "an order of the day with this TxId has a sender that is no BIC"
+    more = f" and {len(payers) - MOST_PAYERS} more" if len(payers) > MOST_PAYERS else ""
+    return f"orders of the day with this TxId are of {', '.join(payers[:MOST_PAYERS])}{more}"
 
 
 # The first word of a line and its place in the order; any other line is a ticket, and begins with its time.
@@ -251,6 +303,7 @@ class Day:
         self.begun: dict[str, int] = {}  # the number of the first line of each place
         self.last = (line, column)  # behind the last line read
         self.rows_known = True  # no line before the tickets is wrong
+        self.tickets_known = True  # nor a ticket's
         self.mistakes: list[text.Mistake] = []
 
     def add(self, line: text.Line) -> None:
@@ -259,6 +312,7 @@ class Day:
         except text.Mistake as mistake:
             self.mistakes.append(mistake)
             self.rows_known = self.rows_known and "ticket" in self.begun
+            self.tickets_known = self.tickets_known and BEGINNINGS.get(line.words[0].text, "ticket") != "ticket"
         self.last = (line.number, line.end())
 
     def line(self, cursor: text.Cursor) -> None:
@@ -303,6 +357,7 @@ class Day:
             self.wrong("expected a line of a day, found none; `bytes` alone is an empty file")
         if self.rows_known:
             self.refer()
+        self.fill(self.rows["ticket"])
         head = b"" if set(self.begun) <= {"bytes"} else self.header()
         if self.mistakes:
             return b""
@@ -324,6 +379,12 @@ class Day:
                     self.mistakes.append(reference.mistake)
                 else:
                     row["k"] = number
+
+    def fill(self, tickets: Sequence[Row]) -> None:
+        """Puts in the payers that are left out. Where a ticket or a message is wrong, those that can't be told are no mistakes."""
+        mistakes = fill_payers(tickets)
+        if self.tickets_known and all(tickets):
+            self.mistakes += mistakes
 
     def header(self) -> bytes:
         values = layout.header_of(*(len(rows) for rows in self.rows.values())) | self.given

@@ -30,6 +30,7 @@ USES = """examples:
   tools/run examples/busy.day
   tools/run examples/busy.day --member AAAALV22
   tools/run mine.day --order TX1
+  tools/run mine.day --order TX1 --of AAAALV22
   tools/run mine.day --expect due.out --into results --date 2026-11-15
 
 Beside what it prints, it writes the day file, the program's output, the page and the journal to target/run/, or to the
@@ -58,7 +59,9 @@ def arguments(words: Sequence[str]) -> Words:
     explain_command.dated(parser)
     parser.add_argument("--into", metavar="DIR", help="the folder that is written to; target/run if it isn't given")
     parser.add_argument("--expect", metavar="FILE", help="the output that the program has to print")
-    return parser.parse_args(words, Words())
+    found = parser.parse_args(words, Words())
+    explain_command.followed_well(parser, found)
+    return found
 
 
 def program(root: str, name: str, what: str) -> str:

@@ -78,10 +78,20 @@ def last_moment(event: Event, order: Order) -> str:
 def outcome(day: Day, event: Event) -> str:
     """What became of a ticket."""
     if event.refusal:
-        return f"turned back, {reason(event, order_of(day, event.order))}"
+        why = reason(event, order_of(day, event.order)), others_with(day, event)
+        return "turned back, " + ": ".join(filter(None, why))
     if event.rows:
         return f"carried out, {counted(event.rows, 'route row')} followed"
     return "carried out"
+
+
+def others_with(day: Day, event: Event) -> str:
+    """Of a ticket that 16 turns back, whose orders have its TxId; nothing where none has it, and of another ticket."""
+    if event.refusal != 16:
+        return ""
+    before = (order for order in day.orders if order.event.number < event.number)
+    payers = dict.fromkeys(order.payer_bic for order in before if order.event.ticket["txid"] == event.ticket["txid"])
+    return f"this TxId is of {', '.join(payers)}" if payers else ""
 
 
 def order_of(day: Day, number: int | None) -> Order | None:
@@ -90,8 +100,12 @@ def order_of(day: Day, number: int | None) -> Order | None:
 
 
 def order_name(day: Day, number: int | None) -> str:
+    """An order's number and name, in brackets where two figures or more words would stand behind each other."""
     order = order_of(day, number)
-    return f"order {number}" if order is None else f"order {number} {order.txid}"
+    if order is None:
+        return f"order {number}"
+    is_apart = not order.shares and not order.txid[:1].isdigit()
+    return f"order {number} {order.name}" if is_apart else f"order {number} ({order.name})"
 
 
 def of_order(amount: int, order: Order | None) -> str:

@@ -194,6 +194,17 @@ def filled(word: str) -> bytes | None:
     return word.ljust(11, "X").encode() if BIC.fullmatch(word) else None
 
 
+def ascii_of(value: bytes) -> str:
+    """The value as text, empty where it isn't ASCII."""
+    return value.decode() if value.isascii() else ""
+
+
+def bic_word(value: bytes) -> str:
+    """A BIC as it is written, empty where the value isn't one."""
+    word = ascii_of(value)
+    return word.removesuffix("XXX") if len(word) == 11 and filled(word) else ""
+
+
 def bic(word: str, field: str) -> bytes:
     value = filled(word)
     if value is None:

@@ -23,24 +23,13 @@ def time_word(seconds: int) -> str:
     return f"{seconds // 3600:02d}:{seconds // 60 % 60:02d}:{seconds % 60:02d}"
 
 
-def ascii_of(value: bytes) -> str:
-    """The value as text, empty where it isn't ASCII."""
-    return value.decode() if value.isascii() else ""
-
-
-def bic_word(value: bytes) -> str:
-    """A BIC as it is written, empty where the value isn't one."""
-    word = ascii_of(value)
-    return word.removesuffix("XXX") if len(word) == 11 and text.filled(word) else ""
-
-
 def iban_word(value: bytes) -> str:
-    word = ascii_of(value)
+    word = text.ascii_of(value)
     return word if text.IBAN.fullmatch(word) and text.remainder(word) == 1 else ""
 
 
 def txid_word(value: bytes, kind: int) -> str:
-    word = ascii_of(value)
+    word = text.ascii_of(value)
     return word if text.TXID.fullmatch(word) and word not in packing.TICKETS[kind].never_first else ""
 
 
@@ -49,7 +38,7 @@ def value_word(value: object) -> str:
     if isinstance(value, int):
         return str(value)
     assert isinstance(value, bytes)
-    word = ascii_of(value)
+    word = text.ascii_of(value)
     if text.PLAIN.fullmatch(word) and not word.startswith("hex:") and word != "empty":
         return word
     return f"hex:{value.hex()}" if value else "empty"
@@ -71,19 +60,20 @@ def joined(*parts: str) -> str:
 
 def ticket_parts(row: TicketRow, kind: int) -> tuple[str, int]:
     """A ticket as a line of a kind: the words behind the kind's, and how many overrides they have."""
+    fields: Mapping[str, object] = {**row, "payer": row["payee"]}
     written = {
         "txid": txid_word(row["txid"], kind),
+        "payer": joined("of", text.bic_word(row["payee"])),
         "flag": words.FLAGS.get(kind, {}).get(row["flag"], ""),
-        "sender": joined("from", bic_word(row["sender"])),
-        "payee": joined("to", bic_word(row["payee"])),
+        "sender": joined("from", text.bic_word(row["sender"])),
+        "payee": joined("to", text.bic_word(row["payee"])),
         "amount": euro_words(row["amount"]),
         "iban": joined("iban", iban_word(row["iban"])),
     }
     listed = words.LISTED[kind]
-    good = [name for name, word in written.items() if name in listed and word not in ("", "from", "to", "iban")]
-    fields: Mapping[str, object] = row
+    good = [name for name, word in written.items() if name in listed and word not in ("", "of", "from", "to", "iban")]
     given = {name: fields[name] for name in (*good, "time")} | {"kind": kind}
-    but, count = but_words(layout.TICKET, row, given, listed)
+    but, count = but_words(packing.ticket_fields(kind), fields, given, listed)
     return joined(*(written[name] for name in good), but), count
 
 
@@ -112,7 +102,7 @@ def ticket_line(row: TicketRow) -> Pair:
 
 
 def participant_line(row: ParticipantRow) -> Pair:
-    bic, kind = bic_word(row["bic"]), words.PARTICIPANT_KINDS.get(row["kind"], "")
+    bic, kind = text.bic_word(row["bic"]), words.PARTICIPANT_KINDS.get(row["kind"], "")
     given: dict[str, object] = {"bic": row["bic"]} if bic else {}
     given |= {"kind": row["kind"]} if kind else {}
     wish = ""
@@ -125,7 +115,7 @@ def participant_line(row: ParticipantRow) -> Pair:
 
 def route_line(row: RouteRow, named: Mapping[int, Mapping[int, str]]) -> Pair:
     """A route; a row that it leads to is named by its BIC if it is the first with it."""
-    bic, leads = bic_word(row["bic"]), {0: "to", 1: "via"}.get(row["kind"], "")
+    bic, leads = text.bic_word(row["bic"]), {0: "to", 1: "via"}.get(row["kind"], "")
     given: dict[str, object] = {"bic": row["bic"]} if bic else {}
     if leads:
         given |= {"kind": row["kind"], "k": row["k"]}
@@ -136,7 +126,7 @@ def route_line(row: RouteRow, named: Mapping[int, Mapping[int, str]]) -> Pair:
 
 def names_of(bics: Iterable[bytes]) -> dict[int, str]:
     """The BICs by which packing finds these rows, by the rows' numbers."""
-    found = {number: bic_word(bic) for bic, number in packing.first_with(bics).items()}
+    found = {number: text.bic_word(bic) for bic, number in packing.first_with(bics).items()}
     return {number: word for number, word in found.items() if word}
 
 

@@ -11,6 +11,7 @@ use Rattle.fields.specs.UpTo.{sumTo}
 use Rattle.fields.proofs.UpTo.{sum-same}
 use Rattle.report.specs.Ending.{endingsIn}
 use Rattle.report.specs.declared.Report.{Report}
+use Rattle.dayfile.specs.Roster.{participantOf}
 use Rattle.dayfile.specs.declared.roster.Roster.{Roster}
 use Rattle.rules.specs.Book.{orderOf, coverOf, isBank}
 use Rattle.rules.specs.Status.{isWaiting}
@@ -26,6 +27,7 @@ use Rattle.audit.specs.Orders.{
   orderAmount,
   orderTime,
   orderTxid,
+  orderPayer,
   isPaidBy,
   isForBank,
   endCode,
@@ -45,6 +47,7 @@ use Rattle.audit.specs.Claim.{AllCarry, codeOf, Claim}
 pub record OrderAgrees (ps : Roster) (h : History) (i : ℕ) (o : Order) : Type 0 where
   pub amount : orderAmount i h ≡ o .amount
   pub time : orderTime i h ≡ o .time
+  pub bic : orderPayer i h ≡ participantOf ps (o .payer) .bic
   pub txid : orderTxid i h ≡ unpadded (o .txid)
   pub bank : isForBank ps i h ≡ isBank ps (o .payee)
   pub payer : (p : ℕ) → p < ps .size → isPaidBy ps p i h ≡ eqb (o .payer) p

@@ -106,17 +106,17 @@ nextDay = record {
   shows = "a day that goes on from orders of every status";
   start = overNight;
   tickets =
-      (yesTicket 101 bicL tx3
-      ∷ inquiryTicket 102 bicA tx1
-      ∷ inquiryTicket 102 bicA tx2
-      ∷ inquiryTicket 102 bicB tx6
-      ∷ inquiryTicket 102 bicA tx7
+      (yesTicket 101 bicL bicA tx3
+      ∷ inquiryTicket 102 bicA bicA tx1
+      ∷ inquiryTicket 102 bicA bicA tx2
+      ∷ inquiryTicket 102 bicB bicB tx6
+      ∷ inquiryTicket 102 bicA bicA tx7
       ∷ confirmTicket 103 bicA 80
-      ∷ yesTicket 109 bicB tx4
+      ∷ yesTicket 109 bicB bicA tx4
       ∷ tickTicket 111
-      ∷ recallTicket 112 bicA 1 tx1
-      ∷ returnTicket 113 bicB 390 tx1
-      ∷ inquiryTicket 114 bicA tx1
+      ∷ recallTicket 112 bicA 1 bicA tx1
+      ∷ returnTicket 113 bicB 390 bicA tx1
+      ∷ inquiryTicket 114 bicA bicA tx1
       ∷ orderTicket 115 bicB bicA 10 tx8 ibanD
       ∷ []);
   sums = ((0 ∷ 0 ∷ 0 ∷ 80 ∷ 0 ∷ 200 ∷ 0 ∷ 390 ∷ [])
@@ -167,7 +167,7 @@ withDebit = bookAt 5 (bookOf opening .roster) (record { available = 30; reserved
 
 -- an inquiry of the first bank about the order, answered by one report to it
 abbrev toldAt : ℕ → ℕ → ℕ → Event
-toldAt time code amount = event (inquiryTicket time bicA tx1) 0 (report 0 code 0 amount ∷ [])
+toldAt time code amount = event (inquiryTicket time bicA bicA tx1) 0 (report 0 code 0 amount ∷ [])
 
 abbrev told : ℕ → ℕ → Event
 told = toldAt 30
@@ -203,7 +203,7 @@ ofOrdersBefore =
     freedCovers (Expired ∷ []) "expiry"
     ∷ since "a new order's ending told with the number of one before" settled
     (event (orderTicket 6 bicA bicB 500 tx2 ibanD) 0 (report 1 1 1 500 ∷ [])
-    ∷ event (yesTicket 7 bicB tx2) 0 (report 0 2 0 500 ∷ report 1 2 0 500 ∷ [])
+    ∷ event (yesTicket 7 bicB bicA tx2) 0 (report 0 2 0 500 ∷ report 1 2 0 500 ∷ [])
     ∷ [])
     (cover 100 0 0 ∷ cover 900 0 0 ∷ []) (Settled None 5 ∷ Settled None 7 ∷ []) "reserved, waiting, once, alike"
     ∷ since "an ending of the number behind those of the start" settled
@@ -231,13 +231,13 @@ ofEndingsBefore =
     ∷ since "an order that waits in the start, ended by an inquiry alone" waiting (toldAt 10 2 400 ∷ []) freedCovers
     (Settled None 10 ∷ []) "once"
     ∷ since "an order settled before, told in a refused inquiry" settled
-    (event (inquiryTicket 30 bicB tx1) 17 (report 0 2 0 400 ∷ []) ∷ [])
+    (event (inquiryTicket 30 bicB bicA tx1) 17 (report 0 2 0 400 ∷ []) ∷ [])
     settledCovers (Settled None 5 ∷ []) "once"
     ∷ since "an order settled before, told in an inquiry about another" settled
-    (orderedMore ∷ event (inquiryTicket 8 bicA tx2) 0 (report 0 2 0 400 ∷ []) ∷ [])
+    (orderedMore ∷ event (inquiryTicket 8 bicA bicA tx2) 0 (report 0 2 0 400 ∷ []) ∷ [])
     (cover 100 500 0 ∷ cover 400 0 0 ∷ []) (Settled None 5 ∷ Waiting ∷ []) "once"
     ∷ since "an order settled before, returned and nobody told" (startOf banks settledCovers (Settled Asked 5))
-    (event (returnTicket 9 bicB 400 tx1) 0 [] ∷ [])
+    (event (returnTicket 9 bicB 400 bicA tx1) 0 [] ∷ [])
     (cover 600 0 0 ∷ cover 0 0 0 ∷ []) (Returned 5 400 ∷ []) "told"
     ∷ []
 

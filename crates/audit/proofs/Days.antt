@@ -43,8 +43,8 @@ caseD = record {
   tickets =
       (coverInTicket 0 bicA 1000
       ∷ orderTicket 5 bicA bicB 400 tx1 ibanD
-      ∷ yesTicket 24 bicB tx1
-      ∷ inquiryTicket 30 bicA tx1
+      ∷ yesTicket 24 bicB bicA tx1
+      ∷ inquiryTicket 30 bicA bicA tx1
       ∷ []);
   sums = ((1000 ∷ 0 ∷ 0 ∷ 0 ∷ 0 ∷ 400 ∷ 0 ∷ 0 ∷ []) ∷ (0 ∷ 0 ∷ 0 ∷ 0 ∷ 400 ∷ 0 ∷ 0 ∷ 0 ∷ []) ∷ []);
   orders = ((400 ∷ 5 ∷ 1 ∷ 0 ∷ 2 ∷ 2 ∷ 2 ∷ []) ∷ []);
@@ -58,12 +58,32 @@ caseE = record {
   tickets =
       (coverInTicket 0 bicA 1000
       ∷ orderTicket 5 bicA bicB 400 tx1 ibanD
-      ∷ yesTicket 25 bicB tx1
-      ∷ inquiryTicket 30 bicA tx1
+      ∷ yesTicket 25 bicB bicA tx1
+      ∷ inquiryTicket 30 bicA bicA tx1
       ∷ []);
   sums = ((1000 ∷ 0 ∷ 0 ∷ 0 ∷ 0 ∷ 0 ∷ 0 ∷ 0 ∷ []) ∷ (0 ∷ 0 ∷ 0 ∷ 0 ∷ 0 ∷ 0 ∷ 0 ∷ 0 ∷ []) ∷ []);
   orders = ((400 ∷ 5 ∷ 1 ∷ 0 ∷ 4 ∷ 4 ∷ 4 ∷ []) ∷ []);
   covers = ((1000 ∷ 0 ∷ 0 ∷ []) ∷ (0 ∷ 0 ∷ 0 ∷ []) ∷ []);
+}
+
+-- 02, slip 6: two banks' orders with one TxId both end, and each inquiry repeats its own
+abbrev pub sharedTxid : Day
+sharedTxid = record {
+  shows = "orders of two payers with one TxId, a yes to one and a no to the other";
+  start = bookOf (fileBytes (bank bicA ∷ bank bicB ∷ []) (direct bicA 0 ∷ direct bicB 1 ∷ []) []);
+  tickets =
+      (coverInTicket 0 bicA 1000
+      ∷ coverInTicket 1 bicB 500
+      ∷ orderTicket 5 bicA bicB 400 tx1 ibanD
+      ∷ orderTicket 6 bicB bicA 300 tx1 ibanD
+      ∷ yesTicket 7 bicB bicA tx1
+      ∷ noTicket 8 bicA bicB tx1
+      ∷ inquiryTicket 9 bicA bicA tx1
+      ∷ inquiryTicket 10 bicB bicB tx1
+      ∷ []);
+  sums = ((1000 ∷ 0 ∷ 0 ∷ 0 ∷ 0 ∷ 400 ∷ 0 ∷ 0 ∷ []) ∷ (500 ∷ 0 ∷ 0 ∷ 0 ∷ 400 ∷ 0 ∷ 0 ∷ 0 ∷ []) ∷ []);
+  orders = ((400 ∷ 5 ∷ 1 ∷ 0 ∷ 2 ∷ 2 ∷ 2 ∷ []) ∷ (300 ∷ 6 ∷ 1 ∷ 0 ∷ 3 ∷ 3 ∷ []) ∷ []);
+  covers = ((600 ∷ 0 ∷ 0 ∷ []) ∷ (900 ∷ 0 ∷ 0 ∷ []) ∷ []);
 }
 
 -- two banks that wish an opening cover, one that doesn't, a linked system; two routes lead on to the second bank's
@@ -101,23 +121,23 @@ busyDay = record {
       ∷ orderTicket 8 bicB bicA 150 tx4 ibanD
       ∷ orderTicket 9 bicA bicE 60 tx5 ibanD
       ∷ cutTicket 3
-      ∷ yesTicket 10 bicB tx1
-      ∷ noTicket 11 bicA tx4
-      ∷ recallTicket 12 bicA 1 tx1
+      ∷ yesTicket 10 bicB bicA tx1
+      ∷ noTicket 11 bicA bicB tx4
+      ∷ recallTicket 12 bicA 1 bicA tx1
       ∷ (1 ∷ 2 ∷ 3 ∷ [])
-      ∷ returnTicket 13 bicB 401 tx1
-      ∷ returnTicket 14 bicB 400 tx1
+      ∷ returnTicket 13 bicB 401 bicA tx1
+      ∷ returnTicket 14 bicB 400 bicA tx1
       ∷ orderTicket 14 bicA bicB 70 tx6 ibanD
       ∷ tickWithFlag
-      ∷ inquiryTicket 26 bicA tx2
-      ∷ inquiryTicket 27 bicA tx3
-      ∷ yesTicket 29 bicB tx5
-      ∷ yesTicket 33 bicB tx6
-      ∷ recallTicket 34 bicA 1 tx6
-      ∷ declineTicket 35 bicB 1 tx6
-      ∷ inquiryTicket 36 bicA tx6
+      ∷ inquiryTicket 26 bicA bicA tx2
+      ∷ inquiryTicket 27 bicA bicA tx3
+      ∷ yesTicket 29 bicB bicA tx5
+      ∷ yesTicket 33 bicB bicA tx6
+      ∷ recallTicket 34 bicA 1 bicA tx6
+      ∷ declineTicket 35 bicB 1 bicA tx6
+      ∷ inquiryTicket 36 bicA bicA tx6
       ∷ coverOutTicket 40 bicB 20
-      ∷ yesTicket 100 bicL tx3
+      ∷ yesTicket 100 bicL bicA tx3
       ∷ cutTicket 101
       ∷ confirmTicket 102 bicA 379
       ∷ confirmTicket 103 bicA 380
@@ -156,6 +176,10 @@ caseD-right = (refl, refl, refl, claim-holds (seenOn caseD) (bookOn caseD) refl)
 pub caseE-right : IsRight caseE
 unfolding isBic isIban isTxid reading dayFile followed senderIn orderIn routeIn wayIn anyOpen total tick stepOf handed
 caseE-right = (refl, refl, refl, claim-holds (seenOn caseE) (bookOn caseE) refl)
+
+pub sharedTxid-right : IsRight sharedTxid
+unfolding isBic isIban isTxid reading dayFile followed senderIn orderIn routeIn wayIn anyOpen total tick stepOf handed
+sharedTxid-right = (refl, refl, refl, claim-holds (seenOn sharedTxid) (bookOn sharedTxid) refl)
 
 pub busyDay-right : IsRight busyDay
 unfolding isBic isIban isTxid reading dayFile followed senderIn orderIn routeIn wayIn anyOpen total tick stepOf handed

@@ -8,10 +8,11 @@ use native.Mathlib.Omega.{arith}
 use borrow.Author.Tests.{eq-eqb, ne-eqb, le-ltb}
 use lib.Dec.{eqb}
 use Rattle.fields.specs.Text.{unpadded}
-use Rattle.ticket.specs.TicketLayout.{timeOf, amountOf, txidOf}
+use Rattle.ticket.specs.TicketLayout.{timeOf, amountOf, senderOf, txidOf}
 use Rattle.report.specs.Ending.{endingsIn}
 use Rattle.report.specs.declared.Report.{Report}
 use Rattle.report.proofs.Ending.{endings-append}
+use Rattle.dayfile.specs.Roster.{participantOf}
 use Rattle.dayfile.specs.declared.roster.Roster.{Roster}
 use Rattle.rules.specs.Book.{orderOf, coverOf, isBank}
 use Rattle.rules.specs.Status.{isWaiting}
@@ -45,6 +46,7 @@ pub record OwnCover (ps : Roster) (h : History) (e : Event) (p : ℕ) (c c′ : 
 pub record Opened (ps : Roster) (e : Event) (o : Order) : Type 0 where
   pub amount : amountOf (e .ticket) ≡ o .amount
   pub time : timeOf (e .ticket) ≡ o .time
+  pub bic : senderOf (e .ticket) ≡ participantOf ps (o .payer) .bic
   pub txid : txidOf (e .ticket) ≡ unpadded (o .txid)
   pub bank : toBank ps (firstWith 1 (e .reports)) ≡ isBank ps (o .payee)
   pub payer : (p : ℕ) → p < ps .size → isSentBy ps p e ≡ eqb (o .payer) p
@@ -165,6 +167,7 @@ module _ (ps : Roster) (h : History) (b w b′ : Book) (t : List ℕ) (n : ℕ) 
       record {
         amount = rw this (opened .amount);
         time = rw this (opened .time);
+        bic = rw this (opened .bic);
         txid = rw this (opened .txid);
         bank = rw this (opened .bank);
         payer = λ p l. rw this (opened .payer p l);

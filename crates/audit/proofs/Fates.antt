@@ -11,6 +11,7 @@ use lib.ListN.{length}
 use Rattle.report.specs.Ending.{endingsIn}
 use Rattle.report.specs.declared.Report.{Report}
 use Rattle.fields.specs.Text.{unpadded}
+use Rattle.dayfile.specs.Roster.{participantOf}
 use Rattle.dayfile.specs.declared.roster.Roster.{Roster}
 use Rattle.rules.specs.Book.{isBank}
 use Rattle.rules.specs.Status.{isWaiting}
@@ -107,6 +108,7 @@ module _ (ps : Roster) (h : History) (i : ℕ) (o o′ : Order) (e : Event) (a :
       record {
         amount = of-before _ _ _ i e h other ∙ a .amount ∙ sym (s .amount);
         time = of-before _ _ _ i e h other ∙ a .time ∙ sym (s .time);
+        bic = of-before _ _ _ i e h other ∙ a .bic ∙ ap (λ (p : ℕ). participantOf ps p .bic) (sym (s .payer));
         txid = of-before _ _ _ i e h other ∙ a .txid ∙ ap unpadded (sym (s .txid));
         bank = of-before _ _ _ i e h other ∙ a .bank ∙ ap (isBank ps) (sym (s .payee));
         payer = λ p l. of-before _ _ _ i e h other ∙ a .payer p l ∙ ap (λ (q : ℕ). eqb q p) (sym (s .payer));

@@ -15,7 +15,7 @@ use lib.ListN.{length, getD-replicate}
 use Rattle.fields.specs.Text.{same}
 use Rattle.fields.specs.UpTo.{sumTo}
 use Rattle.fields.proofs.UpTo.{sum-same}
-use Rattle.ticket.specs.TicketLayout.{timeOf, txidOf}
+use Rattle.ticket.specs.TicketLayout.{timeOf, payerOf, txidOf}
 use Rattle.report.specs.Ending.{endingsIn}
 use Rattle.report.specs.declared.Report.{Report}
 use Rattle.dayfile.specs.FileLimits.{mostParticipants}
@@ -60,6 +60,7 @@ use Rattle.audit.specs.Orders.{
   letsExpire,
   setsClock,
   mustExpire,
+  orderTxid,
   asksAbout,
   ownEndings,
   endingTickets,
@@ -165,7 +166,14 @@ module _ (file : List ℕ) where
 
   same-asks : (i : ℕ) (e : Event) (es : List Event) → asksAbout i e (onFresh es) ≡ alone.asksAbout i e es
   same-asks i e es =
-      ap₂ (λ (n : ℕ) (s : List ℕ). isKind 8 e && ltb i n && same s (txidOf (e .ticket))) (same-count es) (same-of _ _ _ i es)
+      ap₂
+      (λ (n : ℕ) (p : List ℕ).
+      isKind 8 e && ltb i n && same p (payerOf (e .ticket)) && same (orderTxid i (onFresh es)) (txidOf (e .ticket)))
+      (same-count es) (same-of _ _ _ i es)
+      ∙ ap
+      (λ (s : List ℕ).
+      isKind 8 e && ltb i (alone.orderCount es) && same (alone.orderPayer i es) (payerOf (e .ticket)) && same s (txidOf (e .ticket)))
+      (same-of _ _ _ i es)
 
   same-tickets : (i : ℕ) (es : List Event) → endingTickets i (onFresh es) ≡ alone.endingTickets i es
   same-tickets i =

@@ -3,7 +3,7 @@
 use mathlib.Core.List.{List, [], _∷_}
 use Prim.Native.Nat.{ℕ}
 use Prim.Native.String.{String}
-use Rattle.ticket.specs.TicketWriting.{coverInTicket, orderTicket, yesTicket, recallTicket, returnTicket, tickTicket}
+use Rattle.ticket.specs.TicketWriting.{coverInTicket, orderTicket, yesTicket, noTicket, recallTicket, returnTicket, tickTicket}
 use Rattle.dayfile.specs.FileWriting.{fileBytes, bank, bankOpening, linked, direct}
 use Rattle.rules.specs.Book.{bookOf}
 use Rattle.rules.specs.declared.Status.{Status}
@@ -45,7 +45,18 @@ orderedMore = event (orderTicket 6 bicA bicB 500 tx2 ibanD) 0 (report 1 1 1 500 
 
 -- B says yes, and both are told
 abbrev pub settledAt : ℕ → Event
-settledAt time = event (yesTicket time bicB tx1) 0 (report 0 2 0 400 ∷ report 1 2 0 400 ∷ [])
+settledAt time = event (yesTicket time bicB bicA tx1) 0 (report 0 2 0 400 ∷ report 1 2 0 400 ∷ [])
+
+-- 02, slip 6: A's and B's orders with one TxId, B's of 300; A's is settled, and to B's A says no
+abbrev pub sharedEnded : List Event
+sharedEnded =
+    lodged
+    ∷ event (coverInTicket 1 bicB 500) 0 []
+    ∷ ordered
+    ∷ event (orderTicket 6 bicB bicA 300 tx1 ibanD) 0 (report 0 1 1 300 ∷ [])
+    ∷ settledAt 7
+    ∷ event (noTicket 8 bicA bicB tx1) 0 (report 1 3 1 300 ∷ [])
+    ∷ []
 
 -- the order is settled, A recalls it, and B returns 399 of its 400: told as so many
 abbrev pub lessACharge : ℕ → List Event
@@ -53,8 +64,8 @@ lessACharge told =
     lodged
     ∷ ordered
     ∷ settledAt 7
-    ∷ event (recallTicket 8 bicA 1 tx1) 0 (report 1 5 0 400 ∷ [])
-    ∷ event (returnTicket 9 bicB 399 tx1) 0 (report 0 6 0 told ∷ [])
+    ∷ event (recallTicket 8 bicA 1 bicA tx1) 0 (report 1 5 0 400 ∷ [])
+    ∷ event (returnTicket 9 bicB 399 bicA tx1) 0 (report 0 6 0 told ∷ [])
     ∷ []
 
 -- a tick that tells nothing, and one that lets order 0 expire

@@ -1,17 +1,20 @@
 -- The own step of an inquiry: it repeats how the order ended, if it did, and changes nothing. Assumes nothing.
-use mathlib.Core.Path.{_≡_, refl, sym, _∙_, ap}
-use mathlib.Core.Bool.{Bool, true, false, cond, and-false}
+use mathlib.Core.Path.{_≡_, refl, sym, _∙_, ap, ap₂}
+use mathlib.Core.Bool.{Bool, true, false, _&&_, cond, and-false}
 use mathlib.Core.List.{List, [], _∷_}
 use Prim.Native.Nat.{ℕ, _<_}
 use native.Mathlib.Omega.{arith}
 use borrow.Author.Tests.{eq-eqb, lt-ltb}
+use lib.Dec.{ltb}
 use Rattle.fields.specs.Text.{same, unpadded}
 use Rattle.fields.proofs.Same.{same-refl, same-true}
-use Rattle.ticket.specs.TicketLayout.{txidField}
+use Rattle.fields.proofs.Tests.{and-left, and-right}
+use Rattle.ticket.specs.TicketLayout.{payerOf, txidField}
 use Rattle.ticket.specs.declared.Fields.{Fields}
 use Rattle.ticket.specs.declared.kinds.Kind.the-variants as kind
 use Rattle.report.specs.Ending.{endingsIn}
 use Rattle.report.specs.declared.Report.{Report}
+use Rattle.dayfile.specs.Roster.{participantOf}
 use Rattle.dayfile.specs.declared.roster.Roster.{Roster}
 use Rattle.rules.specs.Status.{isWaiting}
 use Rattle.rules.specs.Cover.{transferred}
@@ -29,8 +32,8 @@ use Rattle.rules.specs.declared.Book.{Book}
 use Rattle.rules.proofs.CoverMoving.{for-none}
 use Rattle.rules.proofs.Accepting.{fieldsOf}
 use Rattle.rules.proofs.Accepting as accepting
-use Rattle.audit.specs.History.{History}
-use Rattle.audit.specs.Orders.{orderCount, orderTxid, asksAbout, endCode}
+use Rattle.audit.specs.History.{History, isKind}
+use Rattle.audit.specs.Orders.{orderCount, orderTxid, orderPayer, asksAbout, endCode}
 use Rattle.audit.proofs.Fates.{Fate, SameOrder}
 use Rattle.audit.proofs.Events.{OwnOrder, OwnStep}
 use Rattle.audit.proofs.ReportTelling.{NoCuts}
@@ -56,9 +59,16 @@ module _ {ps : Roster} {h : History} {w : Book} {t : List ℕ} {time n : ℕ} {r
   asks rs =
       let found = accepting.order-found w f t (k .passed .r16) refl in
       let held : j < orderCount h = rw (← k .midway .count) (found .below) in
+      let of-payer = same (participantOf (w .roster) (o .payer) .bic) (payerOf t) in
+      let of-txid = same (o .txid) (txidField t) in
+      let payer : orderPayer j h ≡ payerOf t = k .midway .bic j (found .below)
+      ∙ ap (λ (r : Roster). participantOf r (o .payer) .bic) (sym (k .midway .roster))
+      ∙ same-true _ (payerOf t) (and-left of-payer of-txid (found .passes)) in
       let txid : orderTxid j h ≡ unpadded (txidField t) = k .midway .txid j (found .below)
-      ∙ ap unpadded (same-true (o .txid) (txidField t) (found .passes)) in
-      rw (kind-is k, lt-ltb j (orderCount h) held, txid) (same-refl (unpadded (txidField t)))
+      ∙ ap unpadded (same-true (o .txid) (txidField t) (and-right of-payer of-txid (found .passes))) in
+      let inquires : (isKind 8 (takenEvent t rs₀ rs) && ltb j (orderCount h)) ≡ true = rw (kind-is k, lt-ltb j (orderCount h) held) in
+      ap₂ _&&_ (ap₂ _&&_ inquires (ap (λ (s : List ℕ). same s (payerOf t)) payer ∙ same-refl (payerOf t)))
+      (ap (λ (s : List ℕ). same s (unpadded (txidField t))) txid ∙ same-refl (unpadded (txidField t)))
 
   -- an order that is as it was
   abbrev alike : SameOrder o o

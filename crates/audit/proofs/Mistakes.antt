@@ -36,7 +36,7 @@ abbrev orderedLater : Event
 orderedLater = event (orderTicket 863_987 bicA bicB 100 tx2 ibanD) 0 (report 1 1 1 100 ∷ [])
 
 abbrev lateRecall : ℕ → List Report → Event
-lateRecall refusal reports = event (recallTicket 864_007 bicA 1 tx1) refusal reports
+lateRecall refusal reports = event (recallTicket 864_007 bicA 1 bicA tx1) refusal reports
 
 -- 01 'A reviewer will try'
 abbrev pub reviewers : List WrittenHistory
@@ -65,7 +65,7 @@ mistakes =
     ∷ row "timing out an order for a linked system" toLinked (lodged ∷ orderedLinked ∷ expiredAt 25 ∷ [])
     freedCovers (Expired ∷ []) "expiry"
     ∷ row "letting a refusal 18 stop the clock: the second order's time-out at 26 is not seen" banks
-    (lodged ∷ ordered ∷ orderedMore ∷ settledAt 7 ∷ event (yesTicket 26 bicB tx1) 18 [] ∷ [])
+    (lodged ∷ ordered ∷ orderedMore ∷ settledAt 7 ∷ event (yesTicket 26 bicB bicA tx1) 18 [] ∷ [])
     (cover 100 500 0 ∷ cover 400 0 0 ∷ []) (Settled None 7 ∷ Waiting ∷ []) "expiry"
     ∷ row "moving reserved cover at a cut" opening
     (lodged ∷ ordered ∷ event (cutTicket 6) 0 (report 0 11 65535 900 ∷ []) ∷ [])
@@ -75,8 +75,8 @@ mistakes =
     ∷ ordered
     ∷ orderedMore
     ∷ settledAt 7
-    ∷ event (recallTicket 8 bicA 1 tx1) 0 (report 1 5 0 400 ∷ [])
-    ∷ event (returnTicket 9 bicB 400 tx1) 0 (report 0 6 0 400 ∷ [])
+    ∷ event (recallTicket 8 bicA 1 bicA tx1) 0 (report 1 5 0 400 ∷ [])
+    ∷ event (returnTicket 9 bicB 400 bicA tx1) 0 (report 0 6 0 400 ∷ [])
     ∷ [])
     (cover 900 100 0 ∷ cover 0 0 0 ∷ []) (Returned 7 400 ∷ Waiting ∷ []) "reserved"
     -- 02, slip 5
@@ -100,10 +100,10 @@ unseen =
     (event (coverInTicket 0 bicA 1000) 15 [] ∷ event (tickTicket 1) 7 [] ∷ [])
     (cover 0 0 0 ∷ cover 0 0 0 ∷ []) [] ""
     ∷ row "2: report 2 is sent for a no" banks
-    (lodged ∷ ordered ∷ event (noTicket 6 bicB tx1) 0 (report 0 2 0 400 ∷ []) ∷ [])
+    (lodged ∷ ordered ∷ event (noTicket 6 bicB bicA tx1) 0 (report 0 2 0 400 ∷ []) ∷ [])
     freedCovers (Refused ∷ []) ""
     ∷ row "telling the payee of its own no" banks
-    (lodged ∷ ordered ∷ event (noTicket 6 bicB tx1) 0 (report 0 3 0 400 ∷ report 1 3 0 400 ∷ []) ∷ [])
+    (lodged ∷ ordered ∷ event (noTicket 6 bicB bicA tx1) 0 (report 0 3 0 400 ∷ report 1 3 0 400 ∷ []) ∷ [])
     freedCovers (Refused ∷ []) ""
     -- 02, slip 2
     ∷ row "a return of 399 of 400 told with the order's amount" banks (lessACharge 400)

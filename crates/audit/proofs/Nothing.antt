@@ -10,7 +10,7 @@ use lib.Dec.{leb, ltb, eqb}
 use lib.ListN.{length}
 use Rattle.fields.specs.Text.{same}
 use Rattle.fields.specs.UpTo.{sumTo}
-use Rattle.ticket.specs.TicketLayout.{timeOf, amountOf, txidOf}
+use Rattle.ticket.specs.TicketLayout.{timeOf, amountOf, senderOf, payerOf, txidOf}
 use Rattle.report.specs.Ending.{endingsIn}
 use Rattle.report.specs.declared.Report.{Report}
 use Rattle.dayfile.specs.DayFile.{dayFile}
@@ -75,6 +75,9 @@ orderTime = ofOrder 0 (λ e. timeOf (e .ticket))
 abbrev pub orderTxid : ℕ → List Event → List ℕ
 orderTxid = ofOrder [] (λ e. txidOf (e .ticket))
 
+abbrev pub orderPayer : ℕ → List Event → List ℕ
+orderPayer = ofOrder [] (λ e. senderOf (e .ticket))
+
 abbrev pub isPaidBy : Roster → ℕ → ℕ → List Event → Bool
 isPaidBy ps p = ofOrder false (isSentBy ps p)
 
@@ -102,7 +105,11 @@ mustExpire ps i e before =
     setsClock e && (waits i before && isForBank ps i before && leb timeLimit (timeOf (e .ticket) - orderTime i before))
 
 abbrev pub asksAbout : ℕ → Event → List Event → Bool
-asksAbout i e before = isKind 8 e && ltb i (orderCount before) && same (orderTxid i before) (txidOf (e .ticket))
+asksAbout i e before =
+    isKind 8 e
+    && ltb i (orderCount before)
+    && same (orderPayer i before) (payerOf (e .ticket))
+    && same (orderTxid i before) (txidOf (e .ticket))
 
 abbrev pub ownEndings : ℕ → Event → List Event → ℕ
 ownEndings i e before = length (endingsIn i (e .reports)) - cond (asksAbout i e before) 1 0

@@ -12,6 +12,7 @@ use Rattle.ticket.specs.declared.kinds.Kind.{Kind}
 use Rattle.ticket.specs.declared.kinds.Kind.the-variants as kind
 use Rattle.ticket.proofs.TicketTelling.{Tells}
 use Rattle.report.specs.declared.Report.{Report}
+use Rattle.dayfile.specs.Roster.{participantOf}
 use Rattle.dayfile.specs.declared.roster.Roster.{Roster}
 use Rattle.rules.specs.Book.{orderOf, isBank}
 use Rattle.rules.specs.Tick.{Step, atTime, tick}
@@ -94,6 +95,12 @@ module _ (ps : Roster) (h : History) (b : Book) (a : Agrees ps h b) (t : List �
           sound = swept .sound;
           roster = expires .roster ∙ a .roster;
           count = expires .count ∙ a .count;
+          bic =
+              λ i m.
+              let m′ : i < b .count = rw (← expires .count) m in
+              a .order i m′ .bic ∙ ap (λ (p : ℕ). participantOf ps p .bic)
+              (sym
+              (ap (λ (o : Order). o .payer) (expires .order i m′) ∙ payer-same (dueIn (atTime b (f .time)) i) (orderOf (b .orders) i)));
           txid =
               λ i m.
               let m′ : i < b .count = rw (← expires .count) m in
@@ -103,6 +110,10 @@ module _ (ps : Roster) (h : History) (b : Book) (a : Agrees ps h b) (t : List �
           debit = λ p m. rw (expires .cover p (rw (a .roster) m) .debit) (a .cover p m .debit);
         }
       where
+        payer-same : (d : Bool) (o : Order) → expiredIf d o .payer ≡ o .payer
+        payer-same true o = refl
+        payer-same false o = refl
+
         same : (d : Bool) (o : Order) → expiredIf d o .txid ≡ o .txid
         same true o = refl
         same false o = refl

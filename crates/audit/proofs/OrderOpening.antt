@@ -26,7 +26,7 @@ use Rattle.audit.specs.History.{History}
 use Rattle.audit.specs.Orders.{toBank, asksAbout}
 use Rattle.audit.proofs.Events.{Opened, Growth}
 use Rattle.audit.proofs.ReportTelling.{first-after}
-use Rattle.audit.proofs.Own.{AcceptedTicket, takenEvent, OwnStepOf, order-left, kind-is, amount-is, sent, sender-below}
+use Rattle.audit.proofs.Own.{AcceptedTicket, takenEvent, OwnStepOf, order-left, kind-is, amount-is, sent, sender-bic, sender-below}
 use Rattle.audit.proofs.About.{two-covers}
 
 module _ {ps : Roster} {h : History} {w : Book} {t : List ℕ} {time n : ℕ} {rs₀ : List Report}
@@ -57,6 +57,7 @@ module _ {ps : Roster} {h : History} {w : Book} {t : List ℕ} {time n : ℕ} {r
       record {
         amount = amount-is k;
         time = sym (k .tells .time) ∙ sym (k .clock);
+        bic = sender-bic k refl;
         txid = refl;
         bank =
             ap (toBank ps) (first-after 1 rs₀ rs (k .code) refl)

@@ -44,11 +44,12 @@ use Rattle.rules.proofs.CoverMoving.{
 use Rattle.fields.proofs.Compared.{same-or-not}
 use Rattle.rules.proofs.Refusing.{NoRefusal}
 use Rattle.rules.proofs.Accepting as accepting
+use Rattle.fields.proofs.Same.{same-true}
 use Rattle.rules.proofs.Senders.{who-sends}
 use Rattle.rules.proofs.Expiring.{AllCode}
 use Rattle.audit.specs.History.{Event, History, _▹_}
 use Rattle.audit.specs.Sums.{lastCut, goesOut, comesIn}
-use Rattle.audit.specs.Orders.{isOrder, orderCount, orderTxid, asksAbout, endCode}
+use Rattle.audit.specs.Orders.{isOrder, orderCount, orderTxid, orderPayer, asksAbout, endCode}
 use Rattle.audit.proofs.Fates.{Fate}
 use Rattle.audit.proofs.Events.{OwnOrder, OwnCover, Growth, OwnStep}
 use Rattle.audit.proofs.ReportTelling.{NoCuts, cut-after}
@@ -58,6 +59,7 @@ pub record Midway (ps : Roster) (h : History) (w : Book) : Type 0 where
   pub sound : Sound w
   pub roster : w .roster ≡ ps
   pub count : w .count ≡ orderCount h
+  pub bic : (i : ℕ) → i < w .count → orderPayer i h ≡ participantOf ps (orderOf (w .orders) i .payer) .bic
   pub txid : (i : ℕ) → i < w .count → orderTxid i h ≡ unpadded (orderOf (w .orders) i .txid)
   pub held : (p : ℕ) → p < ps .size → (coverOf (w .covers) p .held ≡ 0) ⊎ (lastCut p h ≡ 11)
   pub debit : (p : ℕ) → p < ps .size → (coverOf (w .covers) p .debit ≡ 0) ⊎ (lastCut p h ≡ 10)
@@ -123,6 +125,11 @@ module _ {ps : Roster} {h : History} {w : Book} {t : List ℕ} {f : Fields} {rs�
       ∙ who-sends (w .roster) (k .midway .sound .roster) (senderOf t) (accepting.senderNumber w f t)
       (accepting.sender-found w f t (k .passed .r12) named) p
       (rw (k .midway .roster) l)
+
+  pub sender-bic : namesSender (termsOf (f .kind) .subject) ≡ true → senderOf t ≡ participantOf ps (accepting.senderNumber w f t) .bic
+  sender-bic named =
+      sym (same-true _ _ (accepting.sender-found w f t (k .passed .r12) named .passes))
+      ∙ ap (λ (r : Roster). participantOf r (accepting.senderNumber w f t) .bic) (k .midway .roster)
 
   pub sender-below : namesSender (termsOf (f .kind) .subject) ≡ true → accepting.senderNumber w f t < w .roster .size
   sender-below named = accepting.sender-found w f t (k .passed .r12) named .below

@@ -67,6 +67,7 @@ module _ (b : Book) (s : Sound b) where
       record {
         amount = rw there;
         time = rw there;
+        bic = rw there;
         txid = rw there;
         bank = rw (there, lt-ltb (o .payee) (b .roster .size) (s .orders .payee i l));
         payer = λ p k. rw there;

@@ -4,7 +4,7 @@
 -- its own ticket.
 -- Assumes nothing.
 use mathlib.Core.Path.{refl}
-use mathlib.Core.List.{List, [], _∷_}
+use mathlib.Core.List.{List, [], _∷_, _++_}
 use Rattle.codes.specs.Bic.{isBic}
 use Rattle.ticket.specs.TicketWriting.{
   coverOutTicket,
@@ -32,6 +32,7 @@ use Rattle.audit.proofs.HistoryParts.{
   orderedLinked,
   orderedMore,
   settledAt,
+  sharedEnded,
   lessACharge,
   quiet,
   expiredAt,
@@ -43,7 +44,7 @@ use Rattle.audit.proofs.HistoryParts.{
 abbrev pub ofCover : List WrittenHistory
 ofCover =
     row "cover moved and not told" banks
-    (lodged ∷ ordered ∷ event (yesTicket 24 bicB tx1) 0 [] ∷ [])
+    (lodged ∷ ordered ∷ event (yesTicket 24 bicB bicA tx1) 0 [] ∷ [])
     settledCovers (Settled None 24 ∷ []) "told, cover, reserved, waiting"
     ∷ row "told and not moved" banks (lodged ∷ ordered ∷ settledAt 24 ∷ []) atFirst (Settled None 24 ∷ []) "cover, reserved"
     ∷ row "a confirm counted as a debit after a report 11" opening
@@ -68,23 +69,23 @@ ofParties =
     (lodged
     ∷ ordered
     ∷ settledAt 7
-    ∷ event (recallTicket 8 bicA 1 tx1) 0 (report 1 5 0 400 ∷ [])
-    ∷ event (returnTicket 9 bicB 400 tx1) 0 []
+    ∷ event (recallTicket 8 bicA 1 bicA tx1) 0 (report 1 5 0 400 ∷ [])
+    ∷ event (returnTicket 9 bicB 400 bicA tx1) 0 []
     ∷ [])
     (cover 600 0 0 ∷ cover 0 0 0 ∷ []) (Returned 7 400 ∷ []) "told"
     ∷ row "a return told to one who is no participant" banks
     (lodged
     ∷ ordered
     ∷ settledAt 7
-    ∷ event (recallTicket 8 bicA 1 tx1) 0 (report 1 5 0 400 ∷ [])
-    ∷ event (returnTicket 9 bicB 400 tx1) 0 (report 2 6 0 400 ∷ [])
+    ∷ event (recallTicket 8 bicA 1 bicA tx1) 0 (report 1 5 0 400 ∷ [])
+    ∷ event (returnTicket 9 bicB 400 bicA tx1) 0 (report 2 6 0 400 ∷ [])
     ∷ [])
     (cover 600 0 0 ∷ cover 0 0 0 ∷ []) (Returned 7 400 ∷ []) "told"
     ∷ row "an order that tells nobody, and never expires" banks
     (lodged ∷ event (orderTicket 5 bicA bicB 400 tx1 ibanD) 0 [] ∷ quiet 4294967295 ∷ [])
     atFirst (Waiting ∷ []) "told"
     ∷ row "a yes that tells nobody and does nothing" banks
-    (lodged ∷ ordered ∷ event (yesTicket 24 bicB tx1) 0 [] ∷ [])
+    (lodged ∷ ordered ∷ event (yesTicket 24 bicB bicA tx1) 0 [] ∷ [])
     atFirst (Waiting ∷ []) "told"
     ∷ []
 
@@ -127,28 +128,31 @@ ofEndings =
     (lodged ∷ ordered ∷ settledAt 24 ∷ event (tickTicket 30) 0 (report 0 2 0 400 ∷ []) ∷ [])
     settledCovers (Settled None 24 ∷ []) "once"
     ∷ row "a second ending in a refused inquiry" banks
-    (lodged ∷ ordered ∷ settledAt 24 ∷ event (inquiryTicket 30 bicB tx1) 17 (report 0 2 0 400 ∷ []) ∷ [])
+    (lodged ∷ ordered ∷ settledAt 24 ∷ event (inquiryTicket 30 bicB bicA tx1) 17 (report 0 2 0 400 ∷ []) ∷ [])
     settledCovers (Settled None 24 ∷ []) "once"
     ∷ row "an inquiry that repeats another order's ending" banks
-    (lodged ∷ ordered ∷ orderedMore ∷ settledAt 7 ∷ event (inquiryTicket 8 bicA tx2) 0 (report 0 2 0 400 ∷ []) ∷ [])
+    (lodged ∷ ordered ∷ orderedMore ∷ settledAt 7 ∷ event (inquiryTicket 8 bicA bicA tx2) 0 (report 0 2 0 400 ∷ []) ∷ [])
     (cover 100 500 0 ∷ cover 400 0 0 ∷ []) (Settled None 7 ∷ Waiting ∷ []) "once"
+    ∷ row "an inquiry about A's order that repeats how B's with the same TxId ended" banks
+    (sharedEnded ++ (event (inquiryTicket 9 bicA bicA tx1) 0 (report 0 3 1 300 ∷ []) ∷ []))
+    (cover 600 0 0 ∷ cover 900 0 0 ∷ []) (Settled None 7 ∷ Refused ∷ []) "once"
     ∷ row "an inquiry that tells 2 before the yes, the order waiting on" banks
-    (lodged ∷ ordered ∷ event (inquiryTicket 6 bicA tx1) 0 (report 0 2 0 400 ∷ []) ∷ [])
+    (lodged ∷ ordered ∷ event (inquiryTicket 6 bicA bicA tx1) 0 (report 0 2 0 400 ∷ []) ∷ [])
     atFirst (Waiting ∷ []) "reserved, waiting, once"
     ∷ row "an inquiry that tells 2 before the yes, the order ended by it" banks
-    (lodged ∷ ordered ∷ event (inquiryTicket 6 bicA tx1) 0 (report 0 2 0 400 ∷ []) ∷ [])
+    (lodged ∷ ordered ∷ event (inquiryTicket 6 bicA bicA tx1) 0 (report 0 2 0 400 ∷ []) ∷ [])
     freedCovers (Settled None 6 ∷ []) "once"
     ∷ row "a settled order told 'expired' to one of the two" banks
-    (lodged ∷ ordered ∷ event (yesTicket 24 bicB tx1) 0 (report 0 2 0 400 ∷ report 1 4 0 400 ∷ []) ∷ [])
+    (lodged ∷ ordered ∷ event (yesTicket 24 bicB bicA tx1) 0 (report 0 2 0 400 ∷ report 1 4 0 400 ∷ []) ∷ [])
     settledCovers (Settled None 24 ∷ []) "alike"
     ∷ row "an inquiry that repeats another code" banks
-    (lodged ∷ ordered ∷ settledAt 24 ∷ event (inquiryTicket 30 bicA tx1) 0 (report 0 4 0 400 ∷ []) ∷ [])
+    (lodged ∷ ordered ∷ settledAt 24 ∷ event (inquiryTicket 30 bicA bicA tx1) 0 (report 0 4 0 400 ∷ []) ∷ [])
     settledCovers (Settled None 24 ∷ []) "alike"
     ∷ row "an amount in report 2 that isn't the order's, and is moved" banks
-    (lodged ∷ ordered ∷ event (yesTicket 24 bicB tx1) 0 (report 0 2 0 401 ∷ report 1 2 0 401 ∷ []) ∷ [])
+    (lodged ∷ ordered ∷ event (yesTicket 24 bicB bicA tx1) 0 (report 0 2 0 401 ∷ report 1 2 0 401 ∷ []) ∷ [])
     (cover 599 0 0 ∷ cover 401 0 0 ∷ []) (Settled None 24 ∷ []) "alike"
     ∷ row "an amount in report 2 that isn't the order's, and isn't moved" banks
-    (lodged ∷ ordered ∷ event (yesTicket 24 bicB tx1) 0 (report 0 2 0 401 ∷ report 1 2 0 401 ∷ []) ∷ [])
+    (lodged ∷ ordered ∷ event (yesTicket 24 bicB bicA tx1) 0 (report 0 2 0 401 ∷ report 1 2 0 401 ∷ []) ∷ [])
     settledCovers (Settled None 24 ∷ []) "cover, alike"
     ∷ []
 
@@ -176,7 +180,7 @@ endings-false = all-false ofEndings refl
 abbrev pub seenEarlier : List WrittenHistory
 seenEarlier =
     row "an inquiry that tells 2 before the yes, when the yes has come" banks
-    (lodged ∷ ordered ∷ event (inquiryTicket 6 bicA tx1) 0 (report 0 2 0 400 ∷ []) ∷ settledAt 24 ∷ [])
+    (lodged ∷ ordered ∷ event (inquiryTicket 6 bicA bicA tx1) 0 (report 0 2 0 400 ∷ []) ∷ settledAt 24 ∷ [])
     settledCovers (Settled None 24 ∷ []) ""
     ∷ []
 

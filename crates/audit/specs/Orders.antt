@@ -20,9 +20,10 @@ use lib.Dec.{leb, ltb, eqb}
 use lib.ListN.{length}
 use Rattle.fields.specs.Text.{same, unpadded}
 use Rattle.fields.specs.UpTo.{sumTo}
-use Rattle.ticket.specs.TicketLayout.{timeOf, amountOf, txidOf}
+use Rattle.ticket.specs.TicketLayout.{timeOf, amountOf, senderOf, payerOf, txidOf}
 use Rattle.report.specs.Ending.{endingsIn}
 use Rattle.report.specs.declared.Report.{Report}
+use Rattle.dayfile.specs.Roster.{participantOf}
 use Rattle.dayfile.specs.declared.roster.Roster.{Roster}
 use Rattle.rules.specs.Book.{orderOf}
 use Rattle.rules.specs.Status.{isWaiting}
@@ -31,7 +32,7 @@ use Rattle.rules.specs.declared.Status.{Status}
 use Rattle.rules.specs.declared.Status.the-variants.{Waiting, Refused, Expired, Returned, Settled}
 use Rattle.rules.specs.declared.Order.{Order}
 use Rattle.rules.specs.declared.Book.{Book}
-use Rattle.audit.specs.History.{Event, History, from, _▹_, sumOver, isKind, isYes, isSentBy, isBankOf}
+use Rattle.audit.specs.History.{Event, History, from, _▹_, participants, sumOver, isKind, isYes, isSentBy, isBankOf}
 use Rattle.audit.specs.Sums.{firstWith}
 
 -- an order is an accepted ticket of kind 3
@@ -51,7 +52,8 @@ abbrev pub ofOrder : {A : Type 0} → A → (Order → A) → (Event → A) → 
 ofOrder none row f i (from b) = cond (ltb i (b .count)) (row (orderOf (b .orders) i)) none
 ofOrder none row f i (e ▹ before) = cond (opens i e before) (f e) (ofOrder none row f i before)
 
--- its amount, time and TxId are its ticket's; 02, slip 8: an order row counts as that order's ticket
+-- its amount, time and TxId are its ticket's, and its payer's BIC is that of the sender; 02, slip 8: an order row counts as that order's
+-- ticket
 abbrev pub orderAmount : ℕ → History → ℕ
 orderAmount = ofOrder 0 (λ o. o .amount) (λ e. amountOf (e .ticket))
 
@@ -60,6 +62,9 @@ orderTime = ofOrder 0 (λ o. o .time) (λ e. timeOf (e .ticket))
 
 abbrev pub orderTxid : ℕ → History → List ℕ
 orderTxid = ofOrder [] (λ o. unpadded (o .txid)) (λ e. txidOf (e .ticket))
+
+abbrev pub orderPayer : ℕ → History → List ℕ
+orderPayer i h = ofOrder [] (λ o. participantOf (participants h) (o .payer) .bic) (λ e. senderOf (e .ticket)) i h
 
 -- with that ticket's sender as payer
 abbrev pub isPaidBy : Roster → ℕ → ℕ → History → Bool
@@ -126,9 +131,13 @@ abbrev pub mustExpire : Roster → ℕ → Event → History → Bool
 mustExpire ps i e before =
     setsClock e && (waits i before && isForBank ps i before && leb timeLimit (timeOf (e .ticket) - orderTime i before))
 
--- an accepted inquiry asks about the order with its TxId
+-- an accepted inquiry asks about the order with its TxId. 02, slip 6: the key of an order is payer and TxId together
 abbrev pub asksAbout : ℕ → Event → History → Bool
-asksAbout i e before = isKind 8 e && ltb i (orderCount before) && same (orderTxid i before) (txidOf (e .ticket))
+asksAbout i e before =
+    isKind 8 e
+    && ltb i (orderCount before)
+    && same (orderPayer i before) (payerOf (e .ticket))
+    && same (orderTxid i before) (txidOf (e .ticket))
 
 -- an accepted inquiry's last ending of the order that it asks about, if there is one, is a repeat: how many there are but for it
 abbrev pub ownEndings : ℕ → Event → History → ℕ

@@ -36,9 +36,9 @@ fn seen(t: &[u8]) -> Sight {
     let bics = chains::bic_chains(&none, 0);
     let bic_heads = bics.heads;
     let bic_links = bics.links;
-    let txids = chains::txid_chains(&none, 0);
-    let txid_heads = txids.heads;
-    let txid_links = txids.links;
+    let keys = chains::key_chains(&none, 0);
+    let key_heads = keys.heads;
+    let key_links = keys.links;
     sight::see(
         0,
         t,
@@ -46,8 +46,8 @@ fn seen(t: &[u8]) -> Sight {
         &bic_links,
         &none,
         0,
-        &txid_heads,
-        &txid_links,
+        &key_heads,
+        &key_links,
         &none,
         0,
         &bic_heads,

@@ -8,6 +8,7 @@ use rules::checks::Confirming;
 use rules::checks::Cutting;
 use rules::checks::Funds;
 use rules::checks::Held;
+use rules::checks::Key;
 use rules::checks::Limit;
 use rules::checks::Party;
 use rules::checks::Payee;
@@ -16,7 +17,6 @@ use rules::checks::Sender;
 use rules::checks::Space;
 use rules::checks::Standing;
 use rules::checks::Sum;
-use rules::checks::Txid;
 use rules::decision::Move;
 ghost use Prim.Native.Nat.{_≤_, _-_};
 ghost use mathlib.Core.Path.{_≡_};
@@ -57,13 +57,13 @@ pub fn sender_check(sender: Found) -> Sender
     }
 }
 
-// 13. Order: TxId already held.
-pub fn new_check(order: Found) -> Txid
+// 13. Order: payer and TxId already held.
+pub fn new_check(order: Found) -> Key
     ensures { λ r. ⌜ r ≡ newCheck order ⌝ }
 {
     match order {
-        Found::At(_) => Txid::AlreadyHeld,
-        Found::Nothing => Txid::New,
+        Found::At(_) => Key::AlreadyHeld,
+        Found::Nothing => Key::New,
     }
 }
 
@@ -88,7 +88,7 @@ pub fn space_check(count: usize) -> Space
     Space::Left
 }
 
-// 16. Kinds 4 to 8: TxId not held.
+// 16. Kinds 4 to 8: payer and TxId not held.
 pub fn held_check(order: Found) -> Held
     ensures { λ r. ⌜ r ≡ heldCheck order ⌝ }
 {

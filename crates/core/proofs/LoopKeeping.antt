@@ -13,56 +13,56 @@ use Rattle.report.specs.declared.answer.Answer.{Answer}
 use Rattle.rules.specs.Step.{stepOf}
 use Rattle.rules.specs.Taken.{answerOf}
 use Rattle.rules.specs.declared.Book.{Book}
+use Rattle.dayfile.specs.declared.roster.Roster.{Roster}
 use Rattle.course.specs.Running.{roomLeft}
 use Rattle.course.specs.Expiry.{Passed}
 use Rattle.course.proofs.Running.{Going}
 use Rattle.course.proofs.Summing.{allOf}
-use Rattle.index.specs.Words.{txidWords}
 use Rattle.index.specs.RowChains.{rowBucket}
-use Rattle.turns.proofs.Index.{TxidIndex}
+use Rattle.turns.proofs.Index.{KeyIndex}
 use Rattle.turns.proofs.Done.{Done, going-on}
+use Rattle.core.proofs.Searching.{wordsIn}
 
-pub record LoopKept (b₀ : Book) (tickets answers₀ reports₀ : List ℕ) (b : Book) (txids heads links : List ℕ) (all m k n : ℕ)
+pub record LoopKept (b₀ : Book) (tickets answers₀ reports₀ : List ℕ) (b : Book) (keys heads links : List ℕ) (all m k n : ℕ)
     (bytes text : List ℕ) : Type 0 where
   pub going : Going b₀ tickets answers₀ reports₀ b k n bytes text
   pub roster : b .roster ≡ b₀ .roster
   -- no order before m waits for a bank
   pub passed : Passed m b
   pub few : m ≤ b .count
-  pub index : TxidIndex txidWords rowBucket b txids heads links
+  pub index : KeyIndex (wordsIn (b .roster)) rowBucket b keys heads links
   -- all cover together
   pub sum : all ≡ allOf (b .covers)
 
-pub done-as : {b : Book} {t : List ℕ} {n₀ : ℕ} {text₀ : List ℕ} {b′ : Book} {r k n : ℕ} {text : List ℕ} {m : ℕ}
-    {txids heads links : List ℕ} {all : ℕ}
-    {k′ n′ : ℕ} {text′ txids′ heads′ links′ : List ℕ} → Done txidWords rowBucket b t n₀ text₀ b′ r k n text m txids heads links all
-    → text′ ≡ text → txids′ ≡ txids → heads′ ≡ heads → links′ ≡ links → n′ ≡ n → k′ ≡ k
-    → Done txidWords rowBucket b t n₀ text₀ b′ r k′ n′ text′ m txids′ heads′ links′ all
-done-as {b} {t} {n₀} {text₀} {b′} {r} {k} {n} {text} {m} {txids} {heads} {links} {all} {k′} {n′} {text′} {txids′} {heads′} {links′} d
-    is-text is-txids is-heads
-    is-links is-n is-k =
-    subst (λ (x : ℕ). Done txidWords rowBucket b t n₀ text₀ b′ r x n′ text′ m txids′ heads′ links′ all) (sym is-k)
-    (subst (λ (x : ℕ). Done txidWords rowBucket b t n₀ text₀ b′ r k x text′ m txids′ heads′ links′ all) (sym is-n)
-    (subst (λ (x : List ℕ). Done txidWords rowBucket b t n₀ text₀ b′ r k n x m txids′ heads′ links′ all) (sym is-text)
-    (subst (λ (x : List ℕ). Done txidWords rowBucket b t n₀ text₀ b′ r k n text m x heads′ links′ all) (sym is-txids)
-    (subst (λ (x : List ℕ). Done txidWords rowBucket b t n₀ text₀ b′ r k n text m txids x links′ all) (sym is-heads)
-    (subst (λ (x : List ℕ). Done txidWords rowBucket b t n₀ text₀ b′ r k n text m txids heads x all) (sym is-links) d)))))
+pub done-as : {wordsOf : ℕ × List ℕ → List ℕ} {b : Book} {t : List ℕ} {n₀ : ℕ} {text₀ : List ℕ} {b′ : Book} {r k n : ℕ}
+    {text : List ℕ} {m : ℕ} {keys heads links : List ℕ} {all : ℕ}
+    {k′ n′ : ℕ} {text′ keys′ heads′ links′ : List ℕ} → Done wordsOf rowBucket b t n₀ text₀ b′ r k n text m keys heads links all
+    → text′ ≡ text → keys′ ≡ keys → heads′ ≡ heads → links′ ≡ links → n′ ≡ n → k′ ≡ k
+    → Done wordsOf rowBucket b t n₀ text₀ b′ r k′ n′ text′ m keys′ heads′ links′ all
+done-as {wordsOf} {b} {t} {n₀} {text₀} {b′} {r} {k} {n} {text} {m} {keys} {heads} {links} {all} {k′} {n′} {text′} {keys′} {heads′}
+    {links′} d is-text is-keys is-heads is-links is-n is-k =
+    subst (λ (x : ℕ). Done wordsOf rowBucket b t n₀ text₀ b′ r x n′ text′ m keys′ heads′ links′ all) (sym is-k)
+    (subst (λ (x : ℕ). Done wordsOf rowBucket b t n₀ text₀ b′ r k x text′ m keys′ heads′ links′ all) (sym is-n)
+    (subst (λ (x : List ℕ). Done wordsOf rowBucket b t n₀ text₀ b′ r k n x m keys′ heads′ links′ all) (sym is-text)
+    (subst (λ (x : List ℕ). Done wordsOf rowBucket b t n₀ text₀ b′ r k n text m x heads′ links′ all) (sym is-keys)
+    (subst (λ (x : List ℕ). Done wordsOf rowBucket b t n₀ text₀ b′ r k n text m keys x links′ all) (sym is-heads)
+    (subst (λ (x : List ℕ). Done wordsOf rowBucket b t n₀ text₀ b′ r k n text m keys heads x all) (sym is-links) d)))))
 
-pub kept-on : {b₀ : Book} {tickets answers₀ reports₀ : List ℕ} {b : Book} {txids₀ heads₀ links₀ : List ℕ} {all₀ m₀ taken n₀ : ℕ}
-    {bytes text₀ t : List ℕ} {b′ : Book} {r k n : ℕ} {text : List ℕ} {m : ℕ} {txids heads links : List ℕ} {all : ℕ}
+pub kept-on : {b₀ : Book} {tickets answers₀ reports₀ : List ℕ} {b : Book} {keys₀ heads₀ links₀ : List ℕ} {all₀ m₀ taken n₀ : ℕ}
+    {bytes text₀ t : List ℕ} {b′ : Book} {r k n : ℕ} {text : List ℕ} {m : ℕ} {keys heads links : List ℕ} {all : ℕ}
     {a : Answer} {bytes′ : List ℕ}
-    → LoopKept b₀ tickets answers₀ reports₀ b txids₀ heads₀ links₀ all₀ m₀ taken n₀ bytes text₀
+    → LoopKept b₀ tickets answers₀ reports₀ b keys₀ heads₀ links₀ all₀ m₀ taken n₀ bytes text₀
     → roomLeft (length tickets - 108 * taken) (length answers₀ - 4 * taken) (length reports₀ - 12 * n₀) ≡ true
     → t ≡ take 108 (drop (108 * taken) tickets)
-    → Done txidWords rowBucket b t n₀ text₀ b′ r k n text m txids heads links all
+    → Done (wordsIn (b .roster)) rowBucket b t n₀ text₀ b′ r k n text m keys heads links all
     → a ≡ answerOf (stepOf b t) → bytes′ ≡ sets bytes (4 * taken) (answerBytes a)
-    → LoopKept b₀ tickets answers₀ reports₀ b′ txids heads links all m (taken + 1) n bytes′ text
-kept-on h more is d answer bytes =
+    → LoopKept b₀ tickets answers₀ reports₀ b′ keys heads links all m (taken + 1) n bytes′ text
+kept-on {b′ = b′} {keys = keys} {heads} {links} h more is d answer bytes =
     record {
       going = going-on (h .going) more is d answer bytes;
       roster = d .roster ∙ h .roster;
       passed = d .passed;
       few = d .few;
-      index = d .index;
+      index = subst (λ (r : Roster). KeyIndex (wordsIn r) rowBucket b′ keys heads links) (sym (d .roster)) (d .index);
       sum = d .sum;
     }

@@ -47,10 +47,10 @@ module _ (b : Book) (t : List ℕ) where
   e = entryOf (b .clock) t
 
   abbrev seen : Seen
-  seen = seenAs e (senderIn (b .roster) t) (orderIn (b .orders) (b .count) t) (routeIn (b .roster) t)
+  seen = seenAs e (senderIn (b .roster) t) (orderIn (b .roster) (b .orders) (b .count) t) (routeIn (b .roster) t)
 
   pub sight-read : {y : Seen}
-      → sightOf (b .clock) t (senderIn (b .roster) t) (orderIn (b .orders) (b .count) t) (routeIn (b .roster) t) ≡ Read y
+      → sightOf (b .clock) t (senderIn (b .roster) t) (orderIn (b .roster) (b .orders) (b .count) t) (routeIn (b .roster) t) ≡ Read y
       → Sighted b t y
   sight-read {y} = go (eqb (e .refusal) 0) refl
     where
@@ -65,7 +65,7 @@ module _ (b : Book) (t : List ℕ) where
       go false q r = let none : _≡_ {A = ℕ} 0 1 = ap isRead r in absurd (omega arith)
 
   pub sight-refused : {n : ℕ}
-      → sightOf (b .clock) t (senderIn (b .roster) t) (orderIn (b .orders) (b .count) t) (routeIn (b .roster) t) ≡ Refused n
+      → sightOf (b .clock) t (senderIn (b .roster) t) (orderIn (b .roster) (b .orders) (b .count) t) (routeIn (b .roster) t) ≡ Refused n
       → (e .refusal ≡ n) × (eqb n 0 ≡ false)
   sight-refused {n} = go (eqb (e .refusal) 0) refl
     where

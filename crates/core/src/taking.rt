@@ -1,15 +1,15 @@
 // Tickets one after the other, each in a turn: it is seen, orders expire, it is judged, and what was judged is carried out. Seeing and
 // judging are one call each. The expiries and the carrying out stand here: they change orders and covers, and neither an array of structs
-// nor two fields of one struct can be lent to one call to be changed. What is found is found before the expiries, which change no TxId
+// nor two fields of one struct can be lent to one call to be changed. What is found is found before the expiries, which change no key
 // and no roster (`sender-same`, `order-same`, `route-same` in `Facts.antt` of `turns`). A ticket that is refused from 12 on ends its turn
 // where it is judged (`late-done`), which takes 3 ns less than carrying out nothing. A verdict is carried out in parts that do nothing
 // where it says nothing; only the order is a match, as opening, changing and cutting write different things.
 //
-// The index of TxIds is in locals, lent to the searches and not passed. A TxId gets its row and its link where an order is new, and only
-// there: other verdicts leave every order's TxId (`KeepsName`). All cover together is a local too, changed by what each move changes
-// (`total_moved`), so refusal 22 adds up nothing; it is kept over all 32 places (`allOf`), so that a move of nobody needs no case of its
-// own, and in a sound book that is the sum over the participants (`all-total`). Held and open debit anywhere are looked for at a cut
-// only, since that looks at every participant.
+// The index of keys, payer and TxId, is in locals, lent to the searches and not passed. A key gets its row and its link where an order
+// is new, and only there: other verdicts leave every order's key (`KeepsKey`). All cover together is a local too, changed by what each
+// move changes (`total_moved`), so refusal 22 adds up nothing; it is kept over all 32 places (`allOf`), so that a move of nobody needs
+// no case of its own, and in a sound book that is the sum over the participants (`all-total`). Held and open debit anywhere are looked
+// for at a cut only, since that looks at every participant.
 use super::Batch;
 use super::room;
 use index::chains;
@@ -86,8 +86,9 @@ pub fn take<'a>(
     let size = roster.size;
     let route_rows = roster.rows;
     let orders = b.orders;
-    let mut txids = index::txids_of(orders, b.count);
-    let made = chains::txid_chains(&txids, b.count);
+    let participants = roster.participants;
+    let mut keys = index::keys_of(participants, orders, b.count);
+    let made = chains::key_chains(&keys, b.count);
     let mut heads = made.heads;
     let mut links = made.links;
     // all cover together
@@ -115,7 +116,7 @@ pub fn take<'a>(
             size,
             &heads,
             &links,
-            &txids,
+            &keys,
             b.count,
             route_heads,
             route_links,
@@ -242,11 +243,12 @@ pub fn take<'a>(
                 let k = b.count;
                 let mut txid = [0u8; 35];
                 fields::copy(&t[layout::TXID..layout::IBAN], &mut txid);
-                index::put_txid(
+                index::put_key(
                     &mut heads,
                     &mut links,
-                    &mut txids,
+                    &mut keys,
                     k,
+                    &t[layout::SENDER..layout::PAYEE],
                     &t[layout::TXID..layout::IBAN],
                 );
                 followed = dayfile::rows_followed(way);

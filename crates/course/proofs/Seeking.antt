@@ -1,4 +1,4 @@
--- What the code finds is what is sought, field by field; expiries leave every order's TxId. Assumes nothing.
+-- What the code finds is what is sought, field by field; expiries leave every order's key. Assumes nothing.
 use mathlib.Core.Path.{_≡_, refl, _∙_, ap}
 use mathlib.Core.Bool.{Bool, true, false, cond}
 use mathlib.Core.List.{List}
@@ -16,7 +16,7 @@ use Rattle.dayfile.specs.Route.{followedFrom}
 use Rattle.dayfile.specs.declared.roster.Roster.{Roster}
 use Rattle.dayfile.specs.declared.route.Followed.{Followed}
 use Rattle.dayfile.specs.declared.route.Followed.the-variants as followed
-use Rattle.rules.specs.Book.{noOrder, orderOf, coverOf, isBank}
+use Rattle.rules.specs.Book.{noOrder, orderOf, keyOf, coverOf, isBank}
 use Rattle.rules.specs.Cover.{totalOf, total}
 use Rattle.rules.specs.Find.{routeIn, wayIn, isOpen, anyOpen}
 use Rattle.rules.specs.Tick.{due, sweepTo}
@@ -46,28 +46,28 @@ pub total-sum : (b : Book) → totalOf (b .roster .size) (b .covers) ≡ total b
 unfolding total
 total-sum b = refl
 
--- an expiry leaves the order's TxId
-expired-txid : (b : Book) (i : ℕ) → expiryIn b i .order .txid ≡ orderOf (b .orders) i .txid
-expired-txid b i = go (due (b .clock) o (isBank (b .roster) (o .payee)))
+-- an expiry leaves the order's key
+expired-key : (b : Book) (i : ℕ) → keyOf (expiryIn b i .order) ≡ keyOf (orderOf (b .orders) i)
+expired-key b i = go (due (b .clock) o (isBank (b .roster) (o .payee)))
   where
     o : Order
     o = orderOf (b .orders) i
 
-    go : (d : Bool) → cond d (expires i o) (stays o) .order .txid ≡ o .txid
+    go : (d : Bool) → keyOf (cond d (expires i o) (stays o) .order) ≡ keyOf o
     go true = refl
     go false = refl
 
 -- and so do all
-pub swept-txid : (b : Book) → Sound b → (m : ℕ) → m ≤ b .count → (i : ℕ)
-    → orderOf (sweepTo b m .book .orders) i .txid ≡ orderOf (b .orders) i .txid
-swept-txid b s zero h i = refl
-swept-txid b s (suc m) h i =
-    ap (λ (w : Book). orderOf (w .orders) i .txid) (sweep-book (sweepTo b m) m)
+pub swept-key : (b : Book) → Sound b → (m : ℕ) → m ≤ b .count → (i : ℕ)
+    → keyOf (orderOf (sweepTo b m .book .orders) i) ≡ keyOf (orderOf (b .orders) i)
+swept-key b s zero h i = refl
+swept-key b s (suc m) h i =
+    ap (λ (w : Book). keyOf (orderOf (w .orders) i)) (sweep-book (sweepTo b m) m)
     ∙ ⊎-elim
-    (λ (e : i ≡ m). rw e (ap (λ (o : Order). o .txid) (getD-set-same (c .orders) m (expiryIn c m .order) noOrder long) ∙ expired-txid c m))
-    (λ (k : i ≡ m → ⊥). ap (λ (o : Order). o .txid) (getD-set-other (c .orders) m i (expiryIn c m .order) noOrder k))
+    (λ (e : i ≡ m). rw e (ap keyOf (getD-set-same (c .orders) m (expiryIn c m .order) noOrder long) ∙ expired-key c m))
+    (λ (k : i ≡ m → ⊥). ap keyOf (getD-set-other (c .orders) m i (expiryIn c m .order) noOrder k))
     (same-or-not i m)
-    ∙ swept-txid b s m (omega arith) i
+    ∙ swept-key b s m (omega arith) i
   where
     c : Book
     c = sweepTo b m .book

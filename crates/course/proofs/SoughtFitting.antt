@@ -137,7 +137,7 @@ module _ (b : Book) (s : Sound b) where
   pub sought-order-below : (e : Entry) (t : List ℕ) → numberOf (soughtOrder b e t) < mostOrders
   unfolding orderIn
   sought-order-below e t =
-      if-below (seeksOrder (termsOf (e .kind) .subject)) (orderIn (b .orders) (b .count) t) mostOrders (omega arith)
+      if-below (seeksOrder (termsOf (e .kind) .subject)) (orderIn (b .roster) (b .orders) (b .count) t) mostOrders (omega arith)
       (number-below _ (b .count) mostOrders (s .orders .count) (omega arith))
 
   way-below : (bic : List ℕ) → reached (followedBic (b .roster) bic) < mostParticipants
@@ -227,7 +227,7 @@ module _ (b : Book) (s : Sound b) where
 
     -- the order that the ticket is about
     abbrev o : Order
-    o = orderOf (b .orders) (numberOf (orderIn (b .orders) (b .count) t))
+    o = orderOf (b .orders) (numberOf (orderIn (b .roster) (b .orders) (b .count) t))
 
     sender-room : (k : Kind) (how : Move) → namesSender (termsOf k .subject) ≡ true → NoRefusal (finding b (f k) t) → n ≤ mostTotal
         → Enough how n (coverOf (b .covers) (who k)) → Room how n (coverOf (b .covers) (who k))

@@ -1,7 +1,7 @@
 -- What is sought in the book for a ticket: of the finding, only what its kind looks at. Participants only where a sender is named, orders
 -- only for kinds 3 to 8, routes only for an order, held and open debit anywhere only for a cut. Refusals and steps are the same on it as
 -- on `finding` (`sought-refuses`, `sought-decides`).
---     seeksOrder    the kind looks at the order with its TxId
+--     seeksOrder    the kind looks at the order with the payer and the TxId that it names
 --     seeksOpen     it looks for held and open debit anywhere
 --     sought        the finding; what the kind does not look at is nothing, number 0 or false
 -- Assumes nothing.
@@ -42,7 +42,7 @@ abbrev pub soughtSender : Book → Entry → List ℕ → Found
 soughtSender b e t = if (namesSender (termsOf (e .kind) .subject)) (senderIn (b .roster) t)
 
 abbrev pub soughtOrder : Book → Entry → List ℕ → Found
-soughtOrder b e t = if (seeksOrder (termsOf (e .kind) .subject)) (orderIn (b .orders) (b .count) t)
+soughtOrder b e t = if (seeksOrder (termsOf (e .kind) .subject)) (orderIn (b .roster) (b .orders) (b .count) t)
 
 abbrev pub sought : Book → Entry → List ℕ → Finding
 sought b e t =

@@ -14,7 +14,7 @@ use Rattle.fields.specs.Number.{part}
 use Rattle.fields.specs.Text.{same}
 use Rattle.fields.proofs.Same.{same-true, same-refl}
 use Rattle.fields.proofs.Stores.{length-part}
-use Rattle.index.specs.Words.{Bytes, word, bicWords, txidWords}
+use Rattle.index.specs.Words.{Bytes, word, bicWords, txidWords, keyWords}
 use Rattle.fields.proofs.Tests.{never}
 
 -- what a function is told of a slice of bytes
@@ -83,8 +83,15 @@ same-bics a b long-a long-b bytes-a bytes-b =
     let behind = word-by-word a b 11 long-a long-b bytes-a bytes-b in
     sym (behind 8 0 (lit≤ tt) _ (behind 3 8 (lit≤ tt) _ (no-more a b 11 long-a long-b bytes-a bytes-b)))
 
-pub same-txids : (a b : List ℕ) → length a ≡ 35 → length b ≡ 35 → Bytes a → Bytes b → same (txidWords a) (txidWords b) ≡ same a b
+same-txids : (a b : List ℕ) → length a ≡ 35 → length b ≡ 35 → Bytes a → Bytes b → same (txidWords a) (txidWords b) ≡ same a b
 same-txids a b long-a long-b bytes-a bytes-b =
     let behind = word-by-word a b 35 long-a long-b bytes-a bytes-b in
     let end = behind 3 32 (lit≤ tt) _ (no-more a b 35 long-a long-b bytes-a bytes-b) in
     sym (behind 8 0 (lit≤ tt) _ (behind 8 8 (lit≤ tt) _ (behind 8 16 (lit≤ tt) _ (behind 8 24 (lit≤ tt) _ end))))
+
+-- payer and TxId together
+pub same-keys : (a b s t : List ℕ) → length a ≡ 11 → length b ≡ 11 → length s ≡ 35 → length t ≡ 35 → Bytes a → Bytes b → Bytes s → Bytes t
+    → same (keyWords a s) (keyWords b t) ≡ (same a b && same s t)
+same-keys a b s t long-a long-b long-s long-t bytes-a bytes-b bytes-s bytes-t =
+    same-split 2 (keyWords a s) (keyWords b t) refl
+    ∙ ap₂ _&&_ (same-bics a b long-a long-b bytes-a bytes-b) (same-txids s t long-s long-t bytes-s bytes-t)

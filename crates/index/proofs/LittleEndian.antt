@@ -12,7 +12,7 @@ use Rattle.fields.specs.Text.{same}
 use Rattle.fields.proofs.Stores.{part-join, part-one}
 use Rattle.index.specs.Words.{word}
 
--- two to five elements at a place
+-- two to seven elements at a place
 module _ (at : ℕ) (s : List ℕ) where
   pub part-two : at + 2 ≤ length s → part 2 at s ≡ getD s at 0 ∷ getD s (at + 1) 0 ∷ []
   part-two h = part-join 1 1 at s ∙ ap₂ _++_ (part-one at s (omega arith)) (part-one (at + 1) s (omega arith))
@@ -23,9 +23,20 @@ module _ (at : ℕ) (s : List ℕ) where
   part-four : at + 4 ≤ length s → part 4 at s ≡ getD s at 0 ∷ getD s (at + 1) 0 ∷ getD s (at + 2) 0 ∷ getD s (at + 3) 0 ∷ []
   part-four h = part-join 3 1 at s ∙ ap₂ _++_ (part-three (omega arith)) (part-one (at + 3) s (omega arith))
 
-  pub part-five : at + 5 ≤ length s
+  part-five : at + 5 ≤ length s
       → part 5 at s ≡ getD s at 0 ∷ getD s (at + 1) 0 ∷ getD s (at + 2) 0 ∷ getD s (at + 3) 0 ∷ getD s (at + 4) 0 ∷ []
   part-five h = part-join 4 1 at s ∙ ap₂ _++_ (part-four (omega arith)) (part-one (at + 4) s (omega arith))
+
+  part-six : at + 6 ≤ length s
+      → part 6 at s
+      ≡ getD s at 0 ∷ getD s (at + 1) 0 ∷ getD s (at + 2) 0 ∷ getD s (at + 3) 0 ∷ getD s (at + 4) 0 ∷ getD s (at + 5) 0 ∷ []
+  part-six h = part-join 5 1 at s ∙ ap₂ _++_ (part-five (omega arith)) (part-one (at + 5) s (omega arith))
+
+  pub part-seven : at + 7 ≤ length s
+      → part 7 at s
+      ≡ getD s at 0 ∷ getD s (at + 1) 0 ∷ getD s (at + 2) 0 ∷ getD s (at + 3) 0 ∷ getD s (at + 4) 0 ∷ getD s (at + 5) 0
+      ∷ getD s (at + 6) 0 ∷ []
+  part-seven h = part-join 6 1 at s ∙ ap₂ _++_ (part-six (omega arith)) (part-one (at + 6) s (omega arith))
 
   -- a word of three bytes, of four, and of eight as two of four
   pub word-three : at + 3 ≤ length s → word (part 3 at s) ≡ getD s at 0 + getD s (at + 1) 0 * 256 + getD s (at + 2) 0 * 65536
@@ -49,27 +60,36 @@ module _ (at : ℕ) (s : List ℕ) where
       sym (ap (λ (p : List ℕ). same p (a ∷ b ∷ [])) (part-two h)
       ∙ ap (λ (z : Bool). eqb (getD s at 0) a && z) (and-true (eqb (getD s (at + 1) 0) b)))
 
-  pub five-held : at + 5 ≤ length s → (a b c d e : ℕ)
+  pub seven-held : at + 7 ≤ length s → (a b c d e f g : ℕ)
       → (eqb (getD s at 0) a
-      && (eqb (getD s (at + 1) 0) b && (eqb (getD s (at + 2) 0) c && (eqb (getD s (at + 3) 0) d && eqb (getD s (at + 4) 0) e))))
-      ≡ same (part 5 at s) (a ∷ b ∷ c ∷ d ∷ e ∷ [])
-  five-held h a b c d e =
-      sym (ap (λ (p : List ℕ). same p (a ∷ b ∷ c ∷ d ∷ e ∷ [])) (part-five h)
+      && (eqb (getD s (at + 1) 0) b
+      && (eqb (getD s (at + 2) 0) c
+      && (eqb (getD s (at + 3) 0) d
+      && (eqb (getD s (at + 4) 0) e && (eqb (getD s (at + 5) 0) f && eqb (getD s (at + 6) 0) g))))))
+      ≡ same (part 7 at s) (a ∷ b ∷ c ∷ d ∷ e ∷ f ∷ g ∷ [])
+  seven-held h a b c d e f g =
+      sym (ap (λ (p : List ℕ). same p (a ∷ b ∷ c ∷ d ∷ e ∷ f ∷ g ∷ [])) (part-seven h)
       ∙ ap (λ (z : Bool). eqb (getD s at 0) a
-      && (eqb (getD s (at + 1) 0) b && (eqb (getD s (at + 2) 0) c && (eqb (getD s (at + 3) 0) d && z))))
-      (and-true (eqb (getD s (at + 4) 0) e)))
+      && (eqb (getD s (at + 1) 0) b
+      && (eqb (getD s (at + 2) 0) c
+      && (eqb (getD s (at + 3) 0) d && (eqb (getD s (at + 4) 0) e && (eqb (getD s (at + 5) 0) f && z))))))
+      (and-true (eqb (getD s (at + 6) 0) g)))
 
-  -- five stores, one behind the other
-  pub five-stores : (a b c d e : ℕ)
-      → set (set (set (set (set s at a) (at + 1) b) (at + 2) c) (at + 3) d) (at + 4) e ≡ sets s at (a ∷ b ∷ c ∷ d ∷ e ∷ [])
-  five-stores a b c d e =
+  -- seven stores, one behind the other
+  pub seven-stores : (a b c d e f g : ℕ)
+      → set (set (set (set (set (set (set s at a) (at + 1) b) (at + 2) c) (at + 3) d) (at + 4) e) (at + 5) f) (at + 6) g
+      ≡ sets s at (a ∷ b ∷ c ∷ d ∷ e ∷ f ∷ g ∷ [])
+  seven-stores a b c d e f g =
       let one : at + 1 ≡ suc at = omega arith in
       let two : at + 2 ≡ suc (suc at) = omega arith in
       let three : at + 3 ≡ suc (suc (suc at)) = omega arith in
       let four : at + 4 ≡ suc (suc (suc (suc at))) = omega arith in
-      rw (one, two, three, four)
+      let five : at + 5 ≡ suc (suc (suc (suc (suc at)))) = omega arith in
+      let six : at + 6 ≡ suc (suc (suc (suc (suc (suc at))))) = omega arith in
+      rw (one, two, three, four, five, six)
 
--- five words that are each known
-pub five-words : {a b c d e v w x y z : ℕ} → a ≡ v → b ≡ w → c ≡ x → d ≡ y → e ≡ z
-    → (a ∷ b ∷ c ∷ d ∷ e ∷ []) ≡ (v ∷ w ∷ x ∷ y ∷ z ∷ [])
-five-words p q r s t = ap₂ _∷_ p (ap₂ _∷_ q (ap₂ _∷_ r (ap₂ _∷_ s (ap (λ (n : ℕ). n ∷ []) t))))
+-- seven words that are each known
+pub seven-words : {a b c d e f g t u v w x y z : ℕ} → a ≡ t → b ≡ u → c ≡ v → d ≡ w → e ≡ x → f ≡ y → g ≡ z
+    → (a ∷ b ∷ c ∷ d ∷ e ∷ f ∷ g ∷ []) ≡ (t ∷ u ∷ v ∷ w ∷ x ∷ y ∷ z ∷ [])
+seven-words h i j k l m n =
+    ap₂ _∷_ h (ap₂ _∷_ i (ap₂ _∷_ j (ap₂ _∷_ k (ap₂ _∷_ l (ap₂ _∷_ m (ap (λ (x : ℕ). x ∷ []) n))))))

@@ -3,6 +3,7 @@
 --     word         bytes read as one number, the first counting ones (little-endian)
 --     bicWords     a BIC's words: its first eight bytes, and its last three
 --     txidWords    a padded TxId's words: four times eight bytes, and the last three
+--     keyWords     the words of an order's key: its payer's BIC, and its TxId
 -- Assumes nothing.
 use Prim.Native.Nat.{ℕ, _+_, _*_, _<_}
 use mathlib.Core.List.{List, [], _∷_}
@@ -22,3 +23,7 @@ bicWords s = word (part 8 0 s) ∷ word (part 3 8 s) ∷ []
 
 abbrev pub txidWords : List ℕ → List ℕ
 txidWords s = word (part 8 0 s) ∷ word (part 8 8 s) ∷ word (part 8 16 s) ∷ word (part 8 24 s) ∷ word (part 3 32 s) ∷ []
+
+-- 02, slip 6: the key of an order is payer and TxId together
+abbrev pub keyWords : List ℕ → List ℕ → List ℕ
+keyWords bic txid = word (part 8 0 bic) ∷ word (part 3 8 bic) ∷ txidWords txid

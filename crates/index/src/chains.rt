@@ -24,14 +24,16 @@ pub fn bic_bucket(a: u64, b: u64) -> usize
     (num::wrapping_add_u64(a, b) % 509) as usize
 }
 
-// The bucket of a TxId's words.
-pub fn txid_bucket(a: u64, b: u64, c: u64, d: u64, e: u64) -> usize
-    ensures { λ r. ⌜ (r ≡ rowBucket (a ∷ b ∷ c ∷ d ∷ e ∷ [])) × (r < rowBuckets) ⌝ }
+// The bucket of a key's words. The payer's are in it, so that members who number alike do not share chains.
+pub fn key_bucket(a: u64, b: u64, c: u64, d: u64, e: u64, f: u64, g: u64) -> usize
+    ensures { λ r. ⌜ (r ≡ rowBucket (a ∷ b ∷ c ∷ d ∷ e ∷ f ∷ g ∷ [])) × (r < rowBuckets) ⌝ }
 {
     let two = num::wrapping_add_u64(a, b);
     let three = num::wrapping_add_u64(two, c);
     let four = num::wrapping_add_u64(three, d);
-    (num::wrapping_add_u64(four, e) % 509) as usize
+    let five = num::wrapping_add_u64(four, e);
+    let six = num::wrapping_add_u64(five, f);
+    (num::wrapping_add_u64(six, g) % 509) as usize
 }
 
 // Row i becomes the head of its bucket.
@@ -68,26 +70,28 @@ pub fn bic_chains(rows: &[u64], n: usize) -> Chains
     Chains { heads, links }
 }
 
-// The chains of n TxIds.
-pub fn txid_chains(rows: &[u64], n: usize) -> Chains
-    requires { ⌜ (n ≤ 256) × (5 * n ≤ length (now rows)) ⌝ }
+// The chains of n keys.
+pub fn key_chains(rows: &[u64], n: usize) -> Chains
+    requires { ⌜ (n ≤ 256) × (7 * n ≤ length (now rows)) ⌝ }
     ensures { λ r.
         ⌜
         (length (r .heads) ≡ rowBuckets) × (length (r .links) ≡ 256)
-        × Chained rowBuckets (λ i. rowBucket (part 5 (5 * i) (now (rows .entry)))) n (r .heads) (r .links)
+        × Chained rowBuckets (λ i. rowBucket (part 7 (7 * i) (now (rows .entry)))) n (r .heads) (r .links)
         ⌝ }
 {
     let mut heads = [0u16; 509];
     let mut links = [0u16; 256];
     let mut i = 0;
     while i < n {
-        let at = 5 * i;
-        let bucket = txid_bucket(
+        let at = 7 * i;
+        let bucket = key_bucket(
             rows[at],
             rows[at + 1],
             rows[at + 2],
             rows[at + 3],
             rows[at + 4],
+            rows[at + 5],
+            rows[at + 6],
         );
         enchain(&mut heads, &mut links, i, bucket);
         i += 1;
@@ -119,8 +123,8 @@ pub fn find_two(
     Found::Nothing
 }
 
-// The row with five words, which is in the bucket if it is anywhere.
-pub fn find_five(
+// The row with seven words, which is in the bucket if it is anywhere.
+pub fn find_seven(
     heads: &[u16],
     links: &[u16],
     rows: &[u64],
@@ -131,14 +135,16 @@ pub fn find_five(
     c: u64,
     d: u64,
     e: u64,
+    f: u64,
+    g: u64,
 ) -> Found
-    requires { ⌜ RowSearchable 5 n bucket (now heads) (now links) (now rows) (a ∷ b ∷ c ∷ d ∷ e ∷ []) ⌝ }
-    ensures { λ r. ⌜ r ≡ firstRow 5 n (a ∷ b ∷ c ∷ d ∷ e ∷ []) (now (rows .entry)) ⌝ }
+    requires { ⌜ RowSearchable 7 n bucket (now heads) (now links) (now rows) (a ∷ b ∷ c ∷ d ∷ e ∷ f ∷ g ∷ []) ⌝ }
+    ensures { λ r. ⌜ r ≡ firstRow 7 n (a ∷ b ∷ c ∷ d ∷ e ∷ f ∷ g ∷ []) (now (rows .entry)) ⌝ }
 {
     let mut at = wide(heads[bucket]);
     while 0 < at {
         let i = at - 1;
-        if row::holds_five(rows, 5 * i, a, b, c, d, e) {
+        if row::holds_seven(rows, 7 * i, a, b, c, d, e, f, g) {
             return Found::At(i);
         }
         at = wide(links[i]);

@@ -1,9 +1,10 @@
-// The participants' and the route rows' BICs and the orders' TxIds, each as rows of words one after the other with chains through them:
-// what a search is lent. Rows and links behind those in use are left open: no search looks at them. A search reads the field's words
-// once, goes along one chain and compares words, which are the same where the bytes are (`same-bics`, `same-txids`). Its answer is
-// `firstRow`, as no two rows hold the same. Rows that share a bucket cost a comparison each: a sender may make 256 TxIds share one, and
-// what is answered is the same. Participants, routes and orders each have a function that makes rows: the loops have one shape over three
-// types, and cite one law (`Made` in `Filling.antt`). Chains are made of rows, so participants and routes share theirs.
+// The participants' and the route rows' BICs and the orders' keys, payer's BIC and TxId, each as rows of words one after the other with
+// chains through them: what a search is lent. A key stays two slices; nothing joins their bytes. Rows and links behind those in use are
+// left open: no search looks at them. A search reads the words once, goes along one chain and compares words, which are the same where
+// the bytes are (`same-bics`, `same-keys`). Its answer is `firstRow`, as no two rows hold the same. Rows that share a bucket cost a
+// comparison each: a sender may make 256 TxIds share one, and what is answered is the same. Participants, routes and orders each have a
+// function that makes rows: the loops have one shape over three types, and cite one law (`Made` in `RowsFilling.antt`). Chains are made
+// of rows, so participants and routes share theirs.
 pub mod chains;
 pub mod row;
 pub mod words;
@@ -20,8 +21,8 @@ ghost use Rattle.fields.specs.Rows.{firstRow, Indexed};
 ghost use Rattle.dayfile.specs.Roster.{participantIn, rowOf};
 ghost use Rattle.rules.specs.Book.{orderOf};
 ghost use Rattle.index.specs.RowChains.{rowBuckets, rowBucket};
-ghost use Rattle.index.specs.LentRows.{BicRows, TxidRows};
-ghost use Rattle.index.specs.Words.{bicWords, txidWords};
+ghost use Rattle.index.specs.LentRows.{BicRows, KeyRows};
+ghost use Rattle.index.specs.Words.{bicWords, keyWords};
 
 pub fn bics_of(participants: [Participant; 32], size: usize) -> [u64; 64]
     requires { ⌜ (size ≤ 32) × ((p : ℕ) → p < size → length (participantIn participants p .bic) ≡ 11) ⌝ }
@@ -53,19 +54,30 @@ pub fn route_bics_of(routes: [Route; 64], count: usize) -> [u64; 128]
     bics
 }
 
-pub fn txids_of(orders: [Order; 256], count: usize) -> [u64; 1280]
-    requires { ⌜ (count ≤ 256) × ((i : ℕ) → i < count → length (orderOf orders i .txid) ≡ 35) ⌝ }
-    ensures { λ r. ⌜ (length r ≡ 1280) × Indexed 5 (λ i. txidWords (orderOf orders i .txid)) count r ⌝ }
+pub fn keys_of(participants: [Participant; 32], orders: [Order; 256], count: usize) -> [u64; 1792]
+    requires { ⌜
+        (count ≤ 256) × ((i : ℕ) → i < count → orderOf orders i .payer < 32)
+        × ((i : ℕ) → i < count → length (participantIn participants (orderOf orders i .payer) .bic) ≡ 11)
+        × ((i : ℕ) → i < count → length (orderOf orders i .txid) ≡ 35)
+        ⌝ }
+    ensures { λ r.
+        ⌜
+        (length r ≡ 1792)
+        × Indexed 7 (λ i. keyWords (participantIn participants (orderOf orders i .payer) .bic) (orderOf orders i .txid)) count r
+        ⌝ }
 {
-    let mut txids = [0u64; 1280];
+    let mut keys = [0u64; 1792];
     let mut i = 0;
     while i < count {
         let order = orders[i];
+        let payer = order.payer;
+        let participant = participants[payer];
+        let bic = participant.bic;
         let txid = order.txid;
-        row::put_txid(&mut txids, i, &txid);
+        row::put_key(&mut keys, i, &bic, &txid);
         i += 1;
     }
-    txids
+    keys
 }
 
 // The row of n with a BIC.
@@ -78,48 +90,71 @@ pub fn find_bic(heads: &[u16], links: &[u16], rows: &[u64], n: usize, bic: &[u8]
     chains::find_two(heads, links, rows, n, chains::bic_bucket(a, b), a, b)
 }
 
-// The row of n with a TxId.
-pub fn find_txid(heads: &[u16], links: &[u16], rows: &[u64], n: usize, txid: &[u8]) -> Found
-    requires { ⌜ TxidRows n (now rows) (now heads) (now links) × (length (now txid) ≡ 35) ⌝ }
-    ensures { λ r. ⌜ r ≡ firstRow 5 n (txidWords (now (txid .entry))) (now (rows .entry)) ⌝ }
+// The row of n with a payer's BIC and a TxId.
+pub fn find_key(
+    heads: &[u16],
+    links: &[u16],
+    rows: &[u64],
+    n: usize,
+    bic: &[u8],
+    txid: &[u8],
+) -> Found
+    requires { ⌜
+        KeyRows n (now rows) (now heads) (now links) × (length (now bic) ≡ 11) × (length (now txid) ≡ 35)
+        ⌝ }
+    ensures { λ r. ⌜ r ≡ firstRow 7 n (keyWords (now (bic .entry)) (now (txid .entry))) (now (rows .entry)) ⌝ }
 {
-    let a = words::word_at(txid, 0);
-    let b = words::word_at(txid, 8);
-    let c = words::word_at(txid, 16);
-    let d = words::word_at(txid, 24);
-    let e = words::word24_at(txid, 32);
-    chains::find_five(
+    let a = words::word_at(bic, 0);
+    let b = words::word24_at(bic, 8);
+    let c = words::word_at(txid, 0);
+    let d = words::word_at(txid, 8);
+    let e = words::word_at(txid, 16);
+    let f = words::word_at(txid, 24);
+    let g = words::word24_at(txid, 32);
+    chains::find_seven(
         heads,
         links,
         rows,
         n,
-        chains::txid_bucket(a, b, c, d, e),
+        chains::key_bucket(a, b, c, d, e, f, g),
         a,
         b,
         c,
         d,
         e,
+        f,
+        g,
     )
 }
 
-// The TxId of a new order i, in its bucket's chain.
-pub fn put_txid(heads: &mut [u16], links: &mut [u16], rows: &mut [u64], i: usize, txid: &[u8])
+// The key of a new order i, in its bucket's chain.
+pub fn put_key(
+    heads: &mut [u16],
+    links: &mut [u16],
+    rows: &mut [u64],
+    i: usize,
+    bic: &[u8],
+    txid: &[u8],
+)
     requires { ⌜
-        (length (now heads) ≡ rowBuckets) × (i < length (now links)) × (i < 65535) × (5 * i + 5 ≤ length (now rows))
-        × (length (now txid) ≡ 35)
+        (length (now heads) ≡ rowBuckets) × (i < length (now links)) × (i < 65535) × (7 * i + 7 ≤ length (now rows))
+        × (length (now bic) ≡ 11) × (length (now txid) ≡ 35)
         ⌝ }
     ensures { λ _.
         ⌜
-        (now (heads .exit) ≡ set (now (heads .entry)) (rowBucket (txidWords (now (txid .entry)))) (i + 1))
-        × (now (links .exit) ≡ set (now (links .entry)) i (getD (now (heads .entry)) (rowBucket (txidWords (now (txid .entry)))) 0))
-        × (now (rows .exit) ≡ sets (now (rows .entry)) (5 * i) (txidWords (now (txid .entry))))
+        (now (heads .exit) ≡ set (now (heads .entry)) (rowBucket (keyWords (now (bic .entry)) (now (txid .entry)))) (i + 1))
+        × (now (links .exit)
+        ≡ set (now (links .entry)) i (getD (now (heads .entry)) (rowBucket (keyWords (now (bic .entry)) (now (txid .entry)))) 0))
+        × (now (rows .exit) ≡ sets (now (rows .entry)) (7 * i) (keyWords (now (bic .entry)) (now (txid .entry))))
         ⌝ }
 {
-    let a = words::word_at(txid, 0);
-    let b = words::word_at(txid, 8);
-    let c = words::word_at(txid, 16);
-    let d = words::word_at(txid, 24);
-    let e = words::word24_at(txid, 32);
-    chains::enchain(heads, links, i, chains::txid_bucket(a, b, c, d, e));
-    row::put_five(rows, 5 * i, a, b, c, d, e);
+    let a = words::word_at(bic, 0);
+    let b = words::word24_at(bic, 8);
+    let c = words::word_at(txid, 0);
+    let d = words::word_at(txid, 8);
+    let e = words::word_at(txid, 16);
+    let f = words::word_at(txid, 24);
+    let g = words::word24_at(txid, 32);
+    chains::enchain(heads, links, i, chains::key_bucket(a, b, c, d, e, f, g));
+    row::put_seven(rows, 7 * i, a, b, c, d, e, f, g);
 }

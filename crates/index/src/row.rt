@@ -1,4 +1,4 @@
-// Rows of words, one after the other, two to a BIC and five to a TxId: writing one, and whether one holds a field's words.
+// Rows of words, one after the other, two to a BIC and seven to an order's key: writing one, and whether one holds a field's words.
 use crate::words;
 ghost use mathlib.Core.Path.{_≡_};
 ghost use mathlib.Core.List.{[], _∷_};
@@ -7,7 +7,7 @@ ghost use lib.ListN.{length};
 ghost use lib.Seq.{sets};
 ghost use Rattle.fields.specs.Number.{part};
 ghost use Rattle.fields.specs.Text.{same};
-ghost use Rattle.index.specs.Words.{bicWords, txidWords};
+ghost use Rattle.index.specs.Words.{bicWords, keyWords};
 
 fn put_two(rows: &mut [u64], at: usize, a: u64, b: u64)
     requires { ⌜ at + 2 ≤ length (now rows) ⌝ }
@@ -17,15 +17,27 @@ fn put_two(rows: &mut [u64], at: usize, a: u64, b: u64)
     rows[at + 1] = b;
 }
 
-pub fn put_five(rows: &mut [u64], at: usize, a: u64, b: u64, c: u64, d: u64, e: u64)
-    requires { ⌜ at + 5 ≤ length (now rows) ⌝ }
-    ensures { λ _. ⌜ now (rows .exit) ≡ sets (now (rows .entry)) at (a ∷ b ∷ c ∷ d ∷ e ∷ []) ⌝ }
+pub fn put_seven(
+    rows: &mut [u64],
+    at: usize,
+    a: u64,
+    b: u64,
+    c: u64,
+    d: u64,
+    e: u64,
+    f: u64,
+    g: u64,
+)
+    requires { ⌜ at + 7 ≤ length (now rows) ⌝ }
+    ensures { λ _. ⌜ now (rows .exit) ≡ sets (now (rows .entry)) at (a ∷ b ∷ c ∷ d ∷ e ∷ f ∷ g ∷ []) ⌝ }
 {
     rows[at] = a;
     rows[at + 1] = b;
     rows[at + 2] = c;
     rows[at + 3] = d;
     rows[at + 4] = e;
+    rows[at + 5] = f;
+    rows[at + 6] = g;
 }
 
 // Row i becomes that of a BIC.
@@ -41,14 +53,16 @@ pub fn put_bic(rows: &mut [u64], i: usize, bic: &[u8])
     );
 }
 
-// Row i becomes that of a TxId.
-pub fn put_txid(rows: &mut [u64], i: usize, txid: &[u8])
-    requires { ⌜ (5 * i + 5 ≤ length (now rows)) × (length (now txid) ≡ 35) ⌝ }
-    ensures { λ _. ⌜ now (rows .exit) ≡ sets (now (rows .entry)) (5 * i) (txidWords (now (txid .entry))) ⌝ }
+// Row i becomes that of a payer's BIC and a TxId.
+pub fn put_key(rows: &mut [u64], i: usize, bic: &[u8], txid: &[u8])
+    requires { ⌜ (7 * i + 7 ≤ length (now rows)) × (length (now bic) ≡ 11) × (length (now txid) ≡ 35) ⌝ }
+    ensures { λ _. ⌜ now (rows .exit) ≡ sets (now (rows .entry)) (7 * i) (keyWords (now (bic .entry)) (now (txid .entry))) ⌝ }
 {
-    put_five(
+    put_seven(
         rows,
-        5 * i,
+        7 * i,
+        words::word_at(bic, 0),
+        words::word24_at(bic, 8),
         words::word_at(txid, 0),
         words::word_at(txid, 8),
         words::word_at(txid, 16),
@@ -64,11 +78,23 @@ pub fn holds_two(rows: &[u64], at: usize, a: u64, b: u64) -> bool
     (rows[at] == a) & (rows[at + 1] == b)
 }
 
-pub fn holds_five(rows: &[u64], at: usize, a: u64, b: u64, c: u64, d: u64, e: u64) -> bool
-    requires { ⌜ at + 5 ≤ length (now rows) ⌝ }
-    ensures { λ r. ⌜ r ≡ same (part 5 at (now (rows .entry))) (a ∷ b ∷ c ∷ d ∷ e ∷ []) ⌝ }
+pub fn holds_seven(
+    rows: &[u64],
+    at: usize,
+    a: u64,
+    b: u64,
+    c: u64,
+    d: u64,
+    e: u64,
+    f: u64,
+    g: u64,
+) -> bool
+    requires { ⌜ at + 7 ≤ length (now rows) ⌝ }
+    ensures { λ r. ⌜ r ≡ same (part 7 at (now (rows .entry))) (a ∷ b ∷ c ∷ d ∷ e ∷ f ∷ g ∷ []) ⌝ }
 {
     (rows[at] == a)
         & ((rows[at + 1] == b)
-            & ((rows[at + 2] == c) & ((rows[at + 3] == d) & (rows[at + 4] == e))))
+            & ((rows[at + 2] == c)
+                & ((rows[at + 3] == d)
+                    & ((rows[at + 4] == e) & ((rows[at + 5] == f) & (rows[at + 6] == g))))))
 }

@@ -7,6 +7,7 @@ use rules::checks::Confirming;
 use rules::checks::Cutting;
 use rules::checks::Funds;
 use rules::checks::Held;
+use rules::checks::Key;
 use rules::checks::Limit;
 use rules::checks::Party;
 use rules::checks::Payee;
@@ -15,7 +16,6 @@ use rules::checks::Sender;
 use rules::checks::Space;
 use rules::checks::Standing;
 use rules::checks::Sum;
-use rules::checks::Txid;
 use rules::decision::Move;
 use rules::verdict::About;
 use rules::verdict::Verdict;
@@ -78,7 +78,7 @@ pub fn order(
     let Sender::Is(p) = checks::sender_check(sender) else {
         return granting::refused(12);
     };
-    let Txid::New = checks::new_check(order) else {
+    let Key::New = checks::new_check(order) else {
         return granting::refused(13);
     };
     let Payee::Reached(payee) = checks::payee_check(route, way) else {

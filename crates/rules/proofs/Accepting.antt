@@ -8,7 +8,7 @@ use lib.Dec.{leb, ltb, eqb}
 use Rattle.fields.specs.Text.{same}
 use Rattle.fields.specs.Search.{isFound, numberOf}
 use Rattle.fields.proofs.Finding.{FoundAt, found-at, not-found}
-use Rattle.ticket.specs.TicketLayout.{senderOf, payeeOf, txidField}
+use Rattle.ticket.specs.TicketLayout.{senderOf, payeeOf, payerOf, txidField}
 use Rattle.ticket.specs.declared.Fields.{Fields}
 use Rattle.ticket.specs.declared.kinds.Kind.{Kind}
 use Rattle.dayfile.specs.Roster.{participantOf}
@@ -17,7 +17,7 @@ use Rattle.dayfile.specs.Guarantee.{Guaranteed}
 use Rattle.dayfile.proofs.Arriving.{bic-arrives}
 use Rattle.rules.specs.Book.{mostOrders, orderOf, coverOf}
 use Rattle.rules.specs.Cover.{total, mostTotal}
-use Rattle.rules.specs.Find.{senderIn, orderIn, routeIn, wayIn, finding}
+use Rattle.rules.specs.Find.{senderIn, hasKey, orderIn, routeIn, wayIn, finding}
 use Rattle.rules.specs.Terms.{termsOf, namesSender, opensOrder, namesOrder, partyOf, meets, draws}
 use Rattle.rules.specs.Refusal.{
   bringsCover,
@@ -49,12 +49,15 @@ module _ (b : Book) (f : Fields) (t : List ℕ) where
   abbrev terms : Terms
   terms = termsOf (f .kind)
 
-  -- the participant that sends it, and the order with its TxId
+  -- the participant that sends it, and the order with the payer and the TxId that it names
   abbrev pub senderNumber : ℕ
   senderNumber = numberOf (senderIn (b .roster) t)
 
   abbrev pub orderNumber : ℕ
-  orderNumber = numberOf (orderIn (b .orders) (b .count) t)
+  orderNumber = numberOf (orderIn (b .roster) (b .orders) (b .count) t)
+
+  abbrev pub isNamed : ℕ → Bool
+  isNamed i = hasKey (b .roster) (payerOf t) (txidField t) (orderOf (b .orders) i)
 
   abbrev pub theOrder : Order
   theOrder = orderOf (b .orders) orderNumber
@@ -68,12 +71,11 @@ module _ (b : Book) (f : Fields) (t : List ℕ) where
       (not-false _ (second (namesSender (terms .subject)) (not (isFound (senderIn (b .roster) t))) e named))
 
   -- 13 passed
-  pub txid-free : refusal13 (finding b f t) ≡ false → opensOrder (terms .subject) ≡ true
-      → (i : ℕ) → i < b .count → same (orderOf (b .orders) i .txid) (txidField t) ≡ false
+  pub key-free : refusal13 (finding b f t) ≡ false → opensOrder (terms .subject) ≡ true → (i : ℕ) → i < b .count → isNamed i ≡ false
   unfolding orderIn
-  txid-free e opens =
-      not-found (λ i. same (orderOf (b .orders) i .txid) (txidField t)) (b .count)
-      (second (opensOrder (terms .subject)) (isFound (orderIn (b .orders) (b .count) t)) e opens)
+  key-free e opens =
+      not-found isNamed (b .count)
+      (second (opensOrder (terms .subject)) (isFound (orderIn (b .roster) (b .orders) (b .count) t)) e opens)
 
   -- 14 passed
   pub payee-known : Guaranteed (b .roster) → refusal14 (finding b f t) ≡ false → opensOrder (terms .subject) ≡ true
@@ -90,11 +92,11 @@ module _ (b : Book) (f : Fields) (t : List ℕ) where
 
   -- 16 passed
   pub order-found : refusal16 (finding b f t) ≡ false → namesOrder (terms .subject) ≡ true
-      → FoundAt (λ i. same (orderOf (b .orders) i .txid) (txidField t)) (b .count) orderNumber
+      → FoundAt isNamed (b .count) orderNumber
   unfolding orderIn
   order-found e named =
-      found-at (λ i. same (orderOf (b .orders) i .txid) (txidField t)) (b .count)
-      (not-false _ (second (namesOrder (terms .subject)) (not (isFound (orderIn (b .orders) (b .count) t))) e named))
+      found-at isNamed (b .count)
+      (not-false _ (second (namesOrder (terms .subject)) (not (isFound (orderIn (b .roster) (b .orders) (b .count) t))) e named))
 
   -- 17 passed
   pub right-party : refusal17 (finding b f t) ≡ false → namesOrder (terms .subject) ≡ true → senderNumber ≡ partyOf (terms .party) theOrder

@@ -1,6 +1,6 @@
 -- Soundness rules something out: a book whose reserved cover is a cent off is not sound, nor is one in which nothing was returned of a
--- returned order, or a cent more than its amount, or in which an order was settled a second before it came, or a second after the clock.
--- Assumes nothing.
+-- returned order, or a cent more than its amount, or in which an order was settled a second before it came, or a second after the clock,
+-- or in which two orders share payer and TxId. Assumes nothing.
 use mathlib.Core.Path.{_≡_}
 use mathlib.Core.List.{[], _∷_}
 use Prim.Native.Nat.{ℕ}
@@ -10,14 +10,15 @@ use Rattle.dayfile.specs.DayFile.{dayFile}
 use Rattle.dayfile.specs.FileWriting.{fileBytes, bank}
 use lib.ListN.{set}
 use Rattle.fields.specs.Text.{padded}
-use Rattle.rules.specs.Book.{withCovers, bookOf}
+use Rattle.fields.proofs.Tests.{never}
+use Rattle.rules.specs.Book.{orderOf, withCovers, bookOf}
 use Rattle.rules.specs.Cover.{transferred}
 use Rattle.rules.specs.Decision.{by}
 use Rattle.rules.specs.Sound.{Sound}
 use Rattle.rules.specs.declared.decision.Move.the-variants.{Give, Reserve}
 use Rattle.rules.specs.declared.Recall.the-variants.{None}
 use Rattle.rules.specs.declared.Status.{Status}
-use Rattle.rules.specs.declared.Status.the-variants.{Returned, Settled}
+use Rattle.rules.specs.declared.Status.the-variants.{Refused, Returned, Settled}
 use Rattle.rules.specs.declared.Book.{Book}
 use Rattle.rules.proofs.Names.{bicA, tx1}
 
@@ -66,3 +67,13 @@ returned-and-settled-before-it-came-not-sound s = let e = s .orders .status 0 (o
 pub returned-and-settled-after-the-clock-not-sound : Sound (having (Returned 31 400)) → ⊥
 unfolding isBic dayFile
 returned-and-settled-after-the-clock-not-sound s = let e = s .orders .status 0 (omega arith) .1 in omega arith
+
+-- 02, slip 6: the same payer's order with one TxId twice
+abbrev twice : Book
+twice =
+    let b = having Refused in
+    record { clock = 30; covers = b .covers; orders = set (b .orders) 1 (orderOf (b .orders) 0); count = 2; roster = b .roster }
+
+pub shared-key-not-sound : Sound twice → ⊥
+unfolding isBic dayFile
+shared-key-not-sound s = never (s .orders .distinct 0 1 (omega arith) (omega arith))

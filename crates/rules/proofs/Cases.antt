@@ -23,6 +23,7 @@ use Rattle.rules.proofs.Edges.{edges}
 use Rattle.rules.proofs.LimitEdges.{limits}
 use Rattle.rules.proofs.ReturnEdges.{returnEdges}
 use Rattle.rules.proofs.RecallEdges.{recallEdges}
+use Rattle.rules.proofs.KeyEdges.{keyEdges}
 
 abbrev pub markedCases : List Row
 markedCases =
@@ -30,16 +31,16 @@ markedCases =
     (twoBanks
     (coverInTicket 0 bicA 1000
     ∷ orderTicket 5 bicA bicB 400 tx1 ibanD
-    ∷ yesTicket 24 bicB tx1
-    ∷ inquiryTicket 30 bicA tx1
+    ∷ yesTicket 24 bicB bicA tx1
+    ∷ inquiryTicket 30 bicA bicA tx1
     ∷ []))
     "T 0 0 0 0\nT 1 0 1 1\nR 1 1 0 400\nT 2 0 2 0\nR 0 2 0 400\nR 1 2 0 400\nT 3 0 1 0\nR 0 2 0 400\nC 0 600 0 0\nC 1 400 0 0\n"
     ∷ day "E: a yes at 25"
     (twoBanks
     (coverInTicket 0 bicA 1000
     ∷ orderTicket 5 bicA bicB 400 tx1 ibanD
-    ∷ yesTicket 25 bicB tx1
-    ∷ inquiryTicket 30 bicA tx1
+    ∷ yesTicket 25 bicB bicA tx1
+    ∷ inquiryTicket 30 bicA bicA tx1
     ∷ []))
     "T 0 0 0 0\nT 1 0 1 1\nR 1 1 0 400\nT 2 18 2 0\nR 0 4 0 400\nR 1 4 0 400\nT 3 0 1 0\nR 0 4 0 400\nC 0 1000 0 0\nC 1 0 0 0\n"
     ∷ day "an IBAN that begins LV81 is refused by 8"
@@ -72,8 +73,8 @@ markedCases =
     (twoBanks
     (coverInTicket 0 bicA 1000
     ∷ orderTicket 5 bicA bicB 400 tx1 ibanD
-    ∷ yesTicket 6 bicB tx1
-    ∷ yesTicket 7 bicB tx1
+    ∷ yesTicket 6 bicB bicA tx1
+    ∷ yesTicket 7 bicB bicA tx1
     ∷ []))
     "T 0 0 0 0\nT 1 0 1 1\nR 1 1 0 400\nT 2 0 2 0\nR 0 2 0 400\nR 1 2 0 400\nT 3 18 0 0\nC 0 600 0 0\nC 1 400 0 0\n"
     ∷ day "a refused file prints its refusal alone" (text "short") "F 1\n"
@@ -81,7 +82,7 @@ markedCases =
 
 -- the rows of `iban`, those of `codes` and these, under one statement
 abbrev pub cases : List Row
-cases = iban.cases ++ codes.cases ++ markedCases ++ edges ++ limits ++ returnEdges ++ recallEdges
+cases = iban.cases ++ codes.cases ++ markedCases ++ edges ++ limits ++ returnEdges ++ recallEdges ++ keyEdges
 
 pub cases-met : AllMet cases
 unfolding isBic isIban isTxid reading dayFile followed senderIn orderIn routeIn wayIn anyOpen total tick stepOf

@@ -32,7 +32,7 @@ edges =
     (twoBanks
     (coverInTicket 0 bicA 1000
     ∷ orderTicket 5 bicA bicB 400 tx1 ibanD
-    ∷ inquiryTicket 25 bicA tx1
+    ∷ inquiryTicket 25 bicA bicA tx1
     ∷ []))
     "T 0 0 0 0\nT 1 0 1 1\nR 1 1 0 400\nT 2 0 3 0\nR 0 4 0 400\nR 1 4 0 400\nR 0 4 0 400\nC 0 1000 0 0\nC 1 0 0 0\n"
     ∷ day "near the top of 32 bits an order waits its 20 seconds"
@@ -56,15 +56,15 @@ edges =
     (coverInTicket 0 bicA 1000
     ∷ orderTicket 5 bicA bicL 400 tx1 ibanD
     ∷ tickTicket 100
-    ∷ inquiryTicket 150 bicA tx1
-    ∷ yesTicket 200 bicL tx1
+    ∷ inquiryTicket 150 bicA bicA tx1
+    ∷ yesTicket 200 bicL bicA tx1
     ∷ []))
     "T 0 0 0 0\nT 1 0 1 1\nR 1 1 0 400\nT 2 0 0 0\nT 3 0 1 0\nR 1 8 0 400\nT 4 0 1 0\nR 0 2 0 400\nC 0 600 0 0\nC 1 400 0 0\n"
     ∷ day "a no is told to the payer only"
     (twoBanks
     (coverInTicket 0 bicA 1000
     ∷ orderTicket 5 bicA bicB 400 tx1 ibanD
-    ∷ noTicket 6 bicB tx1
+    ∷ noTicket 6 bicB bicA tx1
     ∷ []))
     "T 0 0 0 0\nT 1 0 1 1\nR 1 1 0 400\nT 2 0 1 0\nR 0 3 0 400\nC 0 1000 0 0\nC 1 0 0 0\n"
     ∷ dayOf "a return moves available cover, and frees no reservation"
@@ -72,10 +72,10 @@ edges =
     (coverInTicket 0 bicA 1000
     ∷ orderTicket 5 bicA bicB 400 tx1 ibanD
     ∷ orderTicket 6 bicA bicB 300 tx2 ibanD
-    ∷ yesTicket 7 bicB tx1
-    ∷ recallTicket 8 bicA 1 tx1
-    ∷ inquiryTicket 9 bicA tx1
-    ∷ returnTicket 10 bicB 400 tx1
+    ∷ yesTicket 7 bicB bicA tx1
+    ∷ recallTicket 8 bicA 1 bicA tx1
+    ∷ inquiryTicket 9 bicA bicA tx1
+    ∷ returnTicket 10 bicB 400 bicA tx1
     ∷ []))
     (text "T 0 0 0 0\nT 1 0 1 1\nR 1 1 0 400\nT 2 0 1 1\nR 1 1 1 300\nT 3 0 2 0\nR 0 2 0 400\nR 1 2 0 400\n"
     ++ text "T 4 0 1 0\nR 1 5 0 400\nT 5 0 2 0\nR 0 2 0 400\nR 1 8 0 400\nT 6 0 1 0\nR 0 6 0 400\nC 0 700 300 0\nC 1 0 0 0\n")
@@ -83,11 +83,11 @@ edges =
     (twoBanks
     (coverInTicket 0 bicA 1000
     ∷ orderTicket 5 bicA bicB 400 tx1 ibanD
-    ∷ yesTicket 6 bicB tx1
+    ∷ yesTicket 6 bicB bicA tx1
     ∷ coverOutTicket 7 bicB 1
-    ∷ recallTicket 8 bicA 1 tx1
-    ∷ returnTicket 9 bicB 400 tx1
-    ∷ returnTicket 10 bicB 399 tx1
+    ∷ recallTicket 8 bicA 1 bicA tx1
+    ∷ returnTicket 9 bicB 400 bicA tx1
+    ∷ returnTicket 10 bicB 399 bicA tx1
     ∷ []))
     (text "T 0 0 0 0\nT 1 0 1 1\nR 1 1 0 400\nT 2 0 2 0\nR 0 2 0 400\nR 1 2 0 400\nT 3 0 0 0\n"
     ++ text "T 4 0 1 0\nR 1 5 0 400\nT 5 20 0 0\nT 6 0 1 0\nR 0 6 0 399\nC 0 999 0 0\nC 1 0 0 0\n")
@@ -95,11 +95,11 @@ edges =
     (twoBanks
     (coverInTicket 0 bicA 1000
     ∷ orderTicket 5 bicA bicB 400 tx1 ibanD
-    ∷ yesTicket 6 bicB tx1
-    ∷ recallTicket 7 bicA 1 tx1
-    ∷ declineTicket 8 bicB 1 tx1
-    ∷ inquiryTicket 9 bicA tx1
-    ∷ recallTicket 10 bicA 1 tx1
+    ∷ yesTicket 6 bicB bicA tx1
+    ∷ recallTicket 7 bicA 1 bicA tx1
+    ∷ declineTicket 8 bicB 1 bicA tx1
+    ∷ inquiryTicket 9 bicA bicA tx1
+    ∷ recallTicket 10 bicA 1 bicA tx1
     ∷ []))
     (text "T 0 0 0 0\nT 1 0 1 1\nR 1 1 0 400\nT 2 0 2 0\nR 0 2 0 400\nR 1 2 0 400\nT 3 0 1 0\nR 1 5 0 400\n"
     ++ text "T 4 0 1 0\nR 0 7 0 400\nT 5 0 2 0\nR 0 2 0 400\nR 0 7 0 400\nT 6 18 0 0\nC 0 600 0 0\nC 1 400 0 0\n")
@@ -120,9 +120,9 @@ edges =
     (direct bicA 0 ∷ [])
     (coverInTicket 0 bicA 100
     ∷ orderTicket 1 bicA bicA 60 tx1 ibanD
-    ∷ yesTicket 2 bicA tx1
-    ∷ recallTicket 3 bicA 1 tx1
-    ∷ returnTicket 4 bicA 60 tx1
+    ∷ yesTicket 2 bicA bicA tx1
+    ∷ recallTicket 3 bicA 1 bicA tx1
+    ∷ returnTicket 4 bicA 60 bicA tx1
     ∷ []))
     "T 0 0 0 0\nT 1 0 1 1\nR 0 1 0 60\nT 2 0 2 0\nR 0 2 0 60\nR 0 2 0 60\nT 3 0 1 0\nR 0 5 0 60\nT 4 0 1 0\nR 0 6 0 60\nC 0 100 0 0\n"
     ∷ day "rows followed are counted for an accepted order alone"
@@ -141,9 +141,9 @@ edges =
     (coverInTicket 10 bicA 1000
     ∷ coverInTicket 9 bicA 1
     ∷ coverInTicket 10 bicC 1
-    ∷ yesTicket 11 bicA tx1
+    ∷ yesTicket 11 bicA bicA tx1
     ∷ orderTicket 12 bicA bicB 1 tx1 ibanD
-    ∷ yesTicket 13 bicA tx1
+    ∷ yesTicket 13 bicA bicA tx1
     ∷ []))
     "T 0 0 0 0\nT 1 11 0 0\nT 2 12 0 0\nT 3 16 0 0\nT 4 0 1 1\nR 1 1 0 1\nT 5 17 0 0\nC 0 999 1 0\nC 1 0 0 0\n"
     ∷ day "a refused ticket sets the clock"
@@ -192,7 +192,7 @@ edges =
     ∷ orderTicket 40 bicA bicB 100_000_000_000 tx2 smallIbanD
     ∷ orderTicket 9 bicA bicB 400 tx2 smallIbanD
     ∷ orderTicket 40 bicA bicB 400 tx2 smallIbanD
-    ∷ yesTicket 29 bicB tx1
+    ∷ yesTicket 29 bicB bicA tx1
     ∷ []))
     (text "T 0 0 0 0\nT 1 0 1 1\nR 1 1 0 400\nT 2 7 0 0\nT 3 8 0 0\nT 4 8 0 0\nT 5 8 0 0\nT 6 8 0 0\n"
     ++ text "T 7 0 2 0\nR 0 2 0 400\nR 1 2 0 400\nC 0 600 0 0\nC 1 400 0 0\n")

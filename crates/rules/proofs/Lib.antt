@@ -3,6 +3,7 @@ pub mod Edges
 pub mod LimitEdges
 pub mod ReturnEdges
 pub mod RecallEdges
+pub mod KeyEdges
 pub mod Cases
 pub mod CoverMoving
 pub mod OrdersKeeping

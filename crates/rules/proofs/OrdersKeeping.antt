@@ -11,12 +11,12 @@ use borrow.Author.Tests.{eq-eqb}
 use lib.ListN.{length, set, length-set}
 use lib.Seq.{getD-set-same, getD-set-other}
 use Rattle.codes.specs.Txid.{isTxid}
-use Rattle.fields.specs.Text.{same, unpadded}
+use Rattle.fields.specs.Text.{unpadded}
 use Rattle.fields.proofs.UpTo.{sum-same, sum-change, sum-part}
 use Rattle.ticket.specs.Form.{mostOrder}
 use Rattle.rules.specs.Book.{mostOrders, noOrder, orderOf}
 use Rattle.rules.specs.Status.{isWaiting, withStatus}
-use Rattle.rules.specs.Sound.{waitingAmount, waitingSum, StatusSound, OrdersSound}
+use Rattle.rules.specs.Sound.{waitingAmount, waitingSum, StatusSound, sameKey, OrdersSound}
 use Rattle.rules.specs.declared.Status.{Status}
 use Rattle.rules.specs.declared.Status.the-variants.{Waiting, Refused, Expired, Returned, Settled}
 use Rattle.rules.specs.declared.Order.{Order}
@@ -86,7 +86,13 @@ module _ (size clock n : ℕ) (os : List Order) (s : OrdersSound size clock n os
             (same-or-not j i);
         padded = λ j l. rw (kept (λ (o : Order). o .txid) refl j) (s .padded j l);
         txid = λ j l. rw (kept (λ (o : Order). o .txid) refl j) (s .txid j l);
-        distinct = λ j k l m. rw (kept (λ (o : Order). o .txid) refl j, kept (λ (o : Order). o .txid) refl k) (s .distinct j k l m);
+        distinct = λ j k l m.
+            rw (
+              kept (λ (o : Order). o .payer) refl j,
+              kept (λ (o : Order). o .payer) refl k,
+              kept (λ (o : Order). o .txid) refl j,
+              kept (λ (o : Order). o .txid) refl k,
+            ) (s .distinct j k l m);
         ordered = λ j k l m. rw (kept (λ (o : Order). o .time) refl j, kept (λ (o : Order). o .time) refl k) (s .ordered j k l m);
         early = λ j l. rw (kept (λ (o : Order). o .time) refl j) (s .early j l);
         unused = λ j l m. there j (λ q. omega arith) ∙ s .unused j l m;
@@ -119,7 +125,7 @@ pub record NewOrder (size clock n : ℕ) (os : List Order) (o : Order) : Type 0 
   pub status : StatusSound (o .amount) (o .time) clock (o .status)
   pub padded : length (o .txid) ≡ 35
   pub txid : isTxid (unpadded (o .txid)) ≡ true
-  pub fresh : (i : ℕ) → i < n → same (orderOf os i .txid) (o .txid) ≡ false
+  pub fresh : (i : ℕ) → i < n → sameKey (orderOf os i) o ≡ false
   pub time : o .time ≡ clock
 
 module _ (size clock n : ℕ) (os : List Order) (s : OrdersSound size clock n os) (o : Order) (new : NewOrder size clock n os o) where
@@ -159,7 +165,7 @@ module _ (size clock n : ℕ) (os : List Order) (s : OrdersSound size clock n os
         status = each (λ (x : Order). StatusSound (x .amount) (x .time) clock (x .status)) (s .status) (new .status);
         padded = each (λ (x : Order). length (x .txid) ≡ 35) (s .padded) (new .padded);
         txid = each (λ (x : Order). isTxid (unpadded (x .txid)) ≡ true) (s .txid) (new .txid);
-        distinct = pairs (λ (x y : Order). same (x .txid) (y .txid) ≡ false) (s .distinct) (new .fresh);
+        distinct = pairs (λ (x y : Order). sameKey x y ≡ false) (s .distinct) (new .fresh);
         ordered = pairs (λ (x y : Order). x .time ≤ y .time) (s .ordered) (λ j l. rw (new .time) (s .early j l));
         early = each (λ (x : Order). x .time ≤ clock) (s .early) (let e = new .time in omega arith);
         unused = λ j l m. earlier j (λ q. omega arith) ∙ s .unused j (omega arith) m;

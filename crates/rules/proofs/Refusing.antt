@@ -30,7 +30,7 @@ use Rattle.rules.specs.Refusal.{
 }
 use Rattle.rules.specs.declared.finding.Finding.{Finding}
 use Rattle.rules.specs.declared.refusal.Naming.{Naming}
-use Rattle.rules.specs.declared.refusal.Naming.the-variants.{Known, NoParticipant, TxidHeld, NoRoute, Full, TxidNotHeld}
+use Rattle.rules.specs.declared.refusal.Naming.the-variants.{Known, NoParticipant, KeyHeld, NoRoute, Full, KeyNotHeld}
 use Rattle.rules.specs.declared.refusal.Permission.{Permission}
 use Rattle.rules.specs.declared.refusal.Permission.the-variants.{Granted, WrongParty, WrongStatus, TooLate, AboveOrder}
 use Rattle.rules.specs.declared.refusal.Backing.{Backing}
@@ -68,10 +68,10 @@ none-applies x e =
     let a = both-none (namingRefusal (namingOf x)) (firstOf (permissionRefusal (permissionOf x)) (backingRefusal (backingOf x))) e in
     let c = both-none (permissionRefusal (permissionOf x)) (backingRefusal (backingOf x)) (a .1) in
     let s12 = on namingRefusal (refusal12 x) NoParticipant _ (omega arith) (a .0) in
-    let s13 = on namingRefusal (refusal13 x) TxidHeld _ (omega arith) (s12 .1) in
+    let s13 = on namingRefusal (refusal13 x) KeyHeld _ (omega arith) (s12 .1) in
     let s14 = on namingRefusal (refusal14 x) NoRoute _ (omega arith) (s13 .1) in
     let s15 = on namingRefusal (refusal15 x) Full _ (omega arith) (s14 .1) in
-    let s16 = on namingRefusal (refusal16 x) TxidNotHeld _ (omega arith) (s15 .1) in
+    let s16 = on namingRefusal (refusal16 x) KeyNotHeld _ (omega arith) (s15 .1) in
     let s17 = on permissionRefusal (refusal17 x) WrongParty _ (omega arith) (c .0) in
     let s18 = on permissionRefusal (refusal18 x) WrongStatus _ (omega arith) (s17 .1) in
     let s26 = on permissionRefusal (refusal26 x) TooLate _ (omega arith) (s18 .1) in
@@ -101,10 +101,10 @@ Late n = (n ≡ 0) ⊎ (12 ≤ n)
 late-naming : (a : Naming) → Late (namingRefusal a)
 late-naming Known = inl refl
 late-naming NoParticipant = inr (omega arith)
-late-naming TxidHeld = inr (omega arith)
+late-naming KeyHeld = inr (omega arith)
 late-naming NoRoute = inr (omega arith)
 late-naming Full = inr (omega arith)
-late-naming TxidNotHeld = inr (omega arith)
+late-naming KeyNotHeld = inr (omega arith)
 
 late-permission : (a : Permission) → Late (permissionRefusal a)
 late-permission Granted = inl refl
@@ -137,10 +137,10 @@ refusal-late x =
 small-naming : (a : Naming) → namingRefusal a < 256
 small-naming Known = omega arith
 small-naming NoParticipant = omega arith
-small-naming TxidHeld = omega arith
+small-naming KeyHeld = omega arith
 small-naming NoRoute = omega arith
 small-naming Full = omega arith
-small-naming TxidNotHeld = omega arith
+small-naming KeyNotHeld = omega arith
 
 small-permission : (a : Permission) → permissionRefusal a < 256
 small-permission Granted = omega arith

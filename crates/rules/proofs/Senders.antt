@@ -15,6 +15,14 @@ use Rattle.dayfile.specs.Guarantee.{Guaranteed}
 use Rattle.dayfile.specs.declared.roster.Roster.{Roster}
 use Rattle.fields.proofs.Compared.{same-or-not, below-or-not}
 
+-- a comparison either way round
+pub swapped : (p q : ℕ) → eqb p q ≡ eqb q p
+swapped p q =
+    ⊎-elim
+    (λ (i : p ≡ q). rw i refl)
+    (λ (n : p ≡ q → ⊥). ne-eqb p q n ∙ sym (ne-eqb q p (λ e. n (sym e))))
+    (same-or-not p q)
+
 module _ (r : Roster) (g : Guaranteed r) (s : List ℕ) (q : ℕ) (found : FoundAt (λ p. same (participantOf r p .bic) s) (r .size) q) where
   -- two participants with one BIC are one
   one-bic : (p : ℕ) → p < r .size → same (participantOf r p .bic) s ≡ true → p ≡ q

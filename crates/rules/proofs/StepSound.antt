@@ -1,6 +1,6 @@
 -- Every step keeps a book sound, whatever the ticket. Assumes nothing.
 use mathlib.Core.Path.{_≡_, refl, sym, _∙_, ap, ap₂}
-use mathlib.Core.Bool.{Bool, true, false, cond}
+use mathlib.Core.Bool.{Bool, true, false, _&&_, cond}
 use mathlib.Core.List.{List}
 use Prim.Native.Nat.{ℕ, _+_, _≤_, _<_}
 use native.Mathlib.Omega.{arith}
@@ -9,10 +9,13 @@ use lib.Seq.{set-getD}
 use Rattle.fields.proofs.UpTo.{none-at}
 use Rattle.fields.proofs.Stores.{length-part}
 use Rattle.fields.proofs.Tests.{never}
+use Rattle.fields.specs.Text.{same}
+use Rattle.ticket.specs.TicketLayout.{senderOf, txidField}
 use Rattle.ticket.specs.declared.Fields.{Fields}
 use Rattle.ticket.specs.declared.kinds.Kind.{Kind}
 use Rattle.ticket.specs.declared.kinds.Kind.the-variants as kind
-use Rattle.ticket.proofs.TicketTelling.{Tells, listed-txid}
+use Rattle.ticket.proofs.TicketTelling.{Tells, listed-txid, payer-named}
+use Rattle.dayfile.specs.Roster.{participantOf}
 use Rattle.dayfile.specs.DayFile.{dayFile}
 use Rattle.dayfile.proofs.Accepted.{guaranteed}
 use Rattle.rules.specs.Book.{noOrder, orderOf, coverOf, withCovers, bookOf}
@@ -23,7 +26,7 @@ use Rattle.rules.specs.Find.{isOpen, anyOpen, finding}
 use Rattle.rules.specs.Cut.{cutTo}
 use Rattle.rules.specs.Decision.{by, nobody, orderKept, newOrder, confirmMove, decisionOf, applied}
 use Rattle.rules.specs.Step.{stepOf, handed}
-use Rattle.rules.specs.Sound.{StatusSound, Sound}
+use Rattle.rules.specs.Sound.{StatusSound, sameKey, Sound}
 use Rattle.rules.specs.declared.decision.Move.the-variants.{Give, Draw, Credit, Debit}
 use Rattle.rules.specs.declared.decision.Transfer.{Transfer}
 use Rattle.rules.specs.declared.decision.Told.{Told}
@@ -39,6 +42,7 @@ use Rattle.rules.proofs.Cutting.{Closed, closed, cut-sound}
 use Rattle.rules.proofs.Refusing.{NoRefusal}
 use Rattle.rules.proofs.Accepting.{fieldsOf}
 use Rattle.rules.proofs.Accepting as accepting
+use Rattle.rules.proofs.Senders.{swapped, who-sends}
 use Rattle.rules.proofs.SweepSound.{tick-swept}
 use Rattle.rules.proofs.Courses.{step-goes, handed-goes}
 
@@ -110,6 +114,19 @@ module _ (b : Book) (s : Sound b) (n time : ℕ) (t : List ℕ) where
       go true e = keeping.moved-sound b s (by p Debit n) h tt (λ q. refl) (limit e)
       go false e = keeping.moved-sound b s (by p Credit n) h tt (λ q. refl) (let l = s .limited in omega arith)
 
+  -- no order that is held has the payer and the TxId of a new one
+  key-new : let f = fieldsOf kind.Order time n in
+      Tells t f → NoRefusal (finding b f t) → (i : ℕ) → i < b .count → sameKey (orderOf (b .orders) i) (newOrder (finding b f t)) ≡ false
+  key-new tells r i h =
+      let f = fieldsOf kind.Order time n in
+      let p = orderOf (b .orders) i .payer in
+      let sender = accepting.senderNumber b f t in
+      let found = accepting.sender-found b f t (r .r12) refl in
+      let sends = who-sends (b .roster) (s .roster) (senderOf t) sender found p (s .orders .payer i h) in
+      ap (λ (x : Bool). x && same (orderOf (b .orders) i .txid) (txidField t))
+      (swapped p sender ∙ sym sends ∙ ap (same (participantOf (b .roster) p .bic)) (sym (payer-named t kind.Order (tells .kind))))
+      ∙ accepting.key-free b f t (r .r13) refl i h
+
   -- the ticket's own step
   pub own-sound : (k : Kind) → Tells t (fieldsOf k time n) → NoRefusal (finding b (fieldsOf k time n) t)
       → Sound (applied b (decisionOf (finding b (fieldsOf k time n) t)))
@@ -137,7 +154,7 @@ module _ (b : Book) (s : Sound b) (n time : ℕ) (t : List ℕ) where
         status = tt;
         padded = length-part 35 38 t (rw (tells .whole) (omega arith));
         txid = listed-txid t f tells refl;
-        fresh = accepting.txid-free b f t (r .r13) refl;
+        fresh = key-new tells r;
         time = refl;
       })
       (accepting.cover-there b f t (r .r20) refl) refl)

@@ -1,5 +1,6 @@
 -- The book: 01 'The book and each ticket's step', first paragraph.
 --     orderOf, coverOf    order number i, the cover of participant p; the zero of their type past the end
+--     keyOf               payer and TxId of an order
 --     withCovers          a book with other covers
 --     freshBook           a book with a roster, all zero and no orders
 --     bookOf              the fresh book that a day file gives; the empty book of a refused one has no participants
@@ -30,6 +31,10 @@ noCover = record { available = 0; reserved = 0; held = 0; debit = 0 }
 
 abbrev pub orderOf : List Order → ℕ → Order
 orderOf os i = getD os i noOrder
+
+-- 02, slip 6: the key of an order is payer and TxId together
+abbrev pub keyOf : Order → ℕ × List ℕ
+keyOf o = (o .payer, o .txid)
 
 abbrev pub coverOf : List Cover → ℕ → Cover
 coverOf cs p = getD cs p noCover

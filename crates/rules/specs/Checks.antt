@@ -23,8 +23,8 @@ use Rattle.rules.specs.declared.decision.Move.{Move}
 use Rattle.rules.specs.declared.decision.Move.the-variants.{Stay, Give, Draw, Reserve, Release, Spend, Credit, Debit}
 use Rattle.rules.specs.declared.checks.Sender.{Sender}
 use Rattle.rules.specs.declared.checks.Sender.the-variants.{Is, NoParticipant}
-use Rattle.rules.specs.declared.checks.Txid.{Txid}
-use Rattle.rules.specs.declared.checks.Txid.the-variants.{New, AlreadyHeld}
+use Rattle.rules.specs.declared.checks.Key.{Key}
+use Rattle.rules.specs.declared.checks.Key.the-variants.{New, AlreadyHeld}
 use Rattle.rules.specs.declared.checks.Payee.{Payee}
 use Rattle.rules.specs.declared.checks.Payee.the-variants.{Reached, NoRoute}
 use Rattle.rules.specs.declared.checks.Space.{Space}
@@ -63,12 +63,12 @@ abbrev pub sending : Sender → ℕ
 sending (Is p) = p
 sending NoParticipant = 0
 
--- 13. Order: TxId already held (AM05)
-abbrev pub newCheck : Found → Txid
+-- 13. Order: TxId already held (AM05). 02, slip 6: the pair of payer and TxId
+abbrev pub newCheck : Found → Key
 newCheck (found.At i) = AlreadyHeld
 newCheck found.Nothing = New
 
-abbrev pub newRefusal : Txid → ℕ
+abbrev pub newRefusal : Key → ℕ
 newRefusal New = 0
 newRefusal AlreadyHeld = 13
 
@@ -94,7 +94,7 @@ abbrev pub spaceRefusal : Space → ℕ
 spaceRefusal Left = 0
 spaceRefusal Full = 15
 
--- 16. Kinds 4 to 8: TxId not held (AG09, house)
+-- 16. Kinds 4 to 8: TxId not held (AG09, house). 02, slip 6: the pair of payer and TxId
 abbrev pub heldCheck : Found → Held
 heldCheck (found.At i) = Number i
 heldCheck found.Nothing = NotHeld

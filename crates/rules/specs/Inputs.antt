@@ -30,7 +30,7 @@ seen x o = record { ticket = x .ticket; refusal = o .refusal; reports = o .repor
 abbrev pub outcomeOf : Book → Input → Outcome
 outcomeOf b x = outcome b (x .ticket) (x .buffer)
 
-abbrev stepsFrom : Book → List Input → List Step
+abbrev pub stepsFrom : Book → List Input → List Step
 stepsFrom b [] = []
 stepsFrom b (x ∷ xs) = let s = handed b (x .ticket) (x .buffer) in s ∷ stepsFrom (s .book) xs
 

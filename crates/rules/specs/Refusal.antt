@@ -26,7 +26,7 @@ use Rattle.rules.specs.declared.refusal.Buffer.the-variants.{Enough, Sho
 use Rattle.rules.specs.declared.refusal.Timing.{Timing}
 use Rattle.rules.specs.declared.refusal.Timing.the-variants.{InTime, Early}
 use Rattle.rules.specs.declared.refusal.Naming.{Naming}
-use Rattle.rules.specs.declared.refusal.Naming.the-variants.{Known, NoParticipant, TxidHeld, NoRoute, Full, TxidNotHeld}
+use Rattle.rules.specs.declared.refusal.Naming.the-variants.{Known, NoParticipant, KeyHeld, NoRoute, Full, KeyNotHeld}
 use Rattle.rules.specs.declared.refusal.Permission.{Permission}
 use Rattle.rules.specs.declared.refusal.Permission.the-variants.{Granted, WrongParty, WrongStatus, TooLate, AboveOrder}
 use Rattle.rules.specs.declared.refusal.Backing.{Backing}
@@ -56,7 +56,7 @@ timingRefusal Early = 11
 abbrev pub refusal12 : Finding → Bool
 refusal12 x = namesSender (termsOf (x .kind) .subject) && not (isFound (x .sender))
 
--- 13. Order: TxId already held (AM05)
+-- 13. Order: TxId already held (AM05). 02, slip 6: the pair of payer and TxId
 abbrev pub refusal13 : Finding → Bool
 refusal13 x = opensOrder (termsOf (x .kind) .subject) && isFound (x .order)
 
@@ -68,25 +68,25 @@ refusal14 x = opensOrder (termsOf (x .kind) .subject) && not (isFound (x .route)
 abbrev pub refusal15 : Finding → Bool
 refusal15 x = opensOrder (termsOf (x .kind) .subject) && leb mostOrders (x .count)
 
--- 16. Kinds 4 to 8: TxId not held (AG09, house)
+-- 16. Kinds 4 to 8: TxId not held (AG09, house). 02, slip 6: the pair of payer and TxId
 abbrev pub refusal16 : Finding → Bool
 refusal16 x = namesOrder (termsOf (x .kind) .subject) && not (isFound (x .order))
 
 abbrev pub namingOf : Finding → Naming
 namingOf x =
     cond (refusal12 x) NoParticipant
-    (cond (refusal13 x) TxidHeld
+    (cond (refusal13 x) KeyHeld
     (cond (refusal14 x) NoRoute
     (cond (refusal15 x) Full
-    (cond (refusal16 x) TxidNotHeld Known))))
+    (cond (refusal16 x) KeyNotHeld Known))))
 
 abbrev pub namingRefusal : Naming → ℕ
 namingRefusal Known = 0
 namingRefusal NoParticipant = 12
-namingRefusal TxidHeld = 13
+namingRefusal KeyHeld = 13
 namingRefusal NoRoute = 14
 namingRefusal Full = 15
-namingRefusal TxidNotHeld = 16
+namingRefusal KeyNotHeld = 16
 
 -- 17. Kinds 4 to 8: sender is the wrong party (XT87)
 abbrev pub refusal17 : Finding → Bool

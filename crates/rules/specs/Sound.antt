@@ -5,13 +5,14 @@
 --     waitingSum      what all orders in use add
 --     StatusSound     what a status keeps: the settlement is no earlier than the order and no later than the clock, and what was
 --                     returned is from 1 cent to the order's amount
+--     sameKey         two orders share payer and TxId
 --     OrdersSound     the orders
 --     CoversSound     the cover, each participant's reserved being what is due
 --     Sound           the book
 -- Assumes nothing.
 use Prim.Native.Nat.{ℕ, _≤_, _<_}
 use mathlib.Core.Path.{_≡_}
-use mathlib.Core.Bool.{true, false, _&&_, cond}
+use mathlib.Core.Bool.{Bool, true, false, _&&_, cond}
 use mathlib.Core.List.{List}
 use mathlib.Core.Logic.{_⊎_}
 use lib.Dec.{eqb}
@@ -45,6 +46,10 @@ StatusSound amount time clock status.Expired = Unit {0}
 StatusSound amount time clock (status.Returned at n) = (time ≤ at) × (at ≤ clock) × (1 ≤ n) × (n ≤ amount)
 StatusSound amount time clock (status.Settled mark at) = (time ≤ at) × (at ≤ clock)
 
+-- payer and TxId together
+abbrev pub sameKey : Order → Order → Bool
+sameKey o o′ = eqb (o .payer) (o′ .payer) && same (o .txid) (o′ .txid)
+
 pub record OrdersSound (size clock n : ℕ) (os : List Order) : Type 0 where
   pub long : length os ≡ mostOrders
   pub count : n ≤ mostOrders
@@ -56,8 +61,8 @@ pub record OrdersSound (size clock n : ℕ) (os : List Order) : Type 0 where
   pub padded : (i : ℕ) → i < n → length (orderOf os i .txid) ≡ 35
   pub txid : (i : ℕ) → i < n → isTxid (unpadded (orderOf os i .txid)) ≡ true
   pub status : (i : ℕ) → i < n → StatusSound (orderOf os i .amount) (orderOf os i .time) clock (orderOf os i .status)
-  -- no two share a TxId; their times never fall in arrival order, and none is after the clock
-  pub distinct : (i j : ℕ) → i < j → j < n → same (orderOf os i .txid) (orderOf os j .txid) ≡ false
+  -- 02, slip 6: two orders in a book never share both; times never fall in arrival order, and none is after the clock
+  pub distinct : (i j : ℕ) → i < j → j < n → sameKey (orderOf os i) (orderOf os j) ≡ false
   pub ordered : (i j : ℕ) → i < j → j < n → orderOf os i .time ≤ orderOf os j .time
   pub early : (i : ℕ) → i < n → orderOf os i .time ≤ clock
   -- a slot that is not in use is as the fresh book made it

@@ -44,7 +44,7 @@ accepted w d = record { refusal = 0; reports = w .reports ++ toldBy (w .book) d;
 abbrev pub refusedOr : ℕ → Step → Finding → Step
 refusedOr n w x = cond (eqb n 0) (accepted w (decisionOf x)) (ticked w n)
 
-abbrev decided : Step → Finding → Step
+abbrev pub decided : Step → Finding → Step
 decided w x = refusedOr (firstRefusal x) w x
 
 abbrev pub afterTick : Step → Fields → List ℕ → Step

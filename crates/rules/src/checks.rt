@@ -10,7 +10,7 @@ pub enum Sender {
 }
 
 // 13
-pub enum Txid {
+pub enum Key {
     New,
     AlreadyHeld,
 }

@@ -16,10 +16,10 @@ pub enum Timing {
 pub enum Naming {
     Known,
     NoParticipant,
-    TxidHeld,
+    KeyHeld,
     NoRoute,
     Full,
-    TxidNotHeld,
+    KeyNotHeld,
 }
 
 // 17, 18, 26, 19: whether this may be done.

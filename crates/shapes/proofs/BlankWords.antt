@@ -1,6 +1,6 @@
 -- Ranges that are blank, by their words. Assumes nothing.
 use mathlib.Core.Path.{_≡_, refl, sym, _∙_, ap, ap₂}
-use mathlib.Core.Bool.{Bool, true, false, _&&_, and-true, and-false, and-assoc, and-self-left}
+use mathlib.Core.Bool.{Bool, true, false, _&&_, and-true, and-false, and-assoc, and-comm, and-self-left}
 use mathlib.Core.List.{List, [], _∷_}
 use Prim.Native.Nat.{ℕ, zero, suc, _+_, _*_, _<_}
 use native.Mathlib.Omega.{arith}
@@ -89,12 +89,10 @@ module _ (t : List ℕ) where
       ∙ sym (blank-join 40 32 27 t)) (zero-word x 99 ex) ∙ sym (blank-join 72 8 27 t)) (sym (blank-one 107 t h))
       ∙ sym (blank-join 80 1 27 t)
 
-  -- bytes 27 to 34 and 30 to 37; 73 to 104 and 100 to 107
-  pub around-txid : (w x y : ℕ) → w ≡ word (part 8 27 t) → x ≡ word (part 8 30 t) → y ≡ word (part 8 100 t)
-      → (eqb x w && fourAre w 73 t && eqb y w && eqb w 0) ≡ (blank (part 11 27 t) && blank (part 35 73 t))
-  around-txid w x y e ex ey =
-      as-first (λ (n : ℕ). eqb x n && fourAre n 73 t && eqb y n) w
-      ∙ first-of-four (eqb x 0) (fourAre 0 73 t) (eqb y 0) (eqb w 0)
-      ∙ and-assoc (eqb w 0 && eqb x 0) (fourAre 0 73 t) (eqb y 0)
-      ∙ ap₂ _&&_ (ap₂ _&&_ (zero-word w 27 e) (zero-word x 30 ex) ∙ blank-overlap 3 5 3 27 t)
-      (ap₂ _&&_ (blank-four 73 t) (zero-word y 100 ey) ∙ blank-overlap 27 5 3 73 t)
+  -- bytes 73 to 80, and 76 to 107
+  pub from-iban : (w : ℕ) → w ≡ word (part 8 73 t) → (fourAre w 76 t && eqb w 0) ≡ blank (part 35 73 t)
+  from-iban w e =
+      as-first (λ (n : ℕ). fourAre n 76 t) w
+      ∙ and-comm (fourAre 0 76 t) (eqb w 0)
+      ∙ ap₂ _&&_ (zero-word w 73 e) (blank-four 76 t)
+      ∙ blank-overlap 3 5 27 73 t

@@ -13,6 +13,7 @@ use Rattle.fields.proofs.Zeros.{blank-join}
 use Rattle.codes.specs.Bic.{isBic}
 use Rattle.codes.specs.Txid.{isTxid}
 use Rattle.ticket.specs.TicketLayout as layout
+use Rattle.ticket.specs.Kind.{kindNumber}
 use Rattle.ticket.specs.Form.{formOf}
 use Rattle.ticket.specs.Shape.{wellFormed, shapeOf, accountOf}
 use Rattle.ticket.specs.declared.kinds.Kind.{Kind}
@@ -48,11 +49,10 @@ in-cover true true p x i l = refl
 in-cover true false p x i l = refl
 in-cover false s p x i l = refl
 
-in-about : (a p x i l : Bool) → (a && p && x && i && l) ≡ (a && x && (p && (i && l)))
+in-about : (a p x i l : Bool) → (a && p && x && i && l) ≡ (a && (p && x) && (i && l))
 in-about true true true i l = refl
 in-about true true false i l = refl
-in-about true false true i l = refl
-in-about true false false i l = refl
+in-about true false x i l = refl
 in-about false p x i l = refl
 
 in-order : (a s p x l : Bool) → (a && true && s && p && x && true && l) ≡ (a && s && p && x && l)
@@ -122,25 +122,25 @@ cover-formed k t = go k
 pub about-formed : (k : Kind) (t : List ℕ) → termsOf k .subject ≡ HeldOrder
     → wellFormed (formOf k) t
     ≡ (blank (layout.spareField t) && (not (eqb (formOf k .most) 0) || blank (layout.amountField t)) && isBic (layout.senderOf t)
-    && isTxid (layout.txidOf t) && (blank (part 11 27 t) && blank (part 35 73 t)))
+    && (isBic (layout.payeeOf t) && isTxid (layout.txidOf t)) && blank (part 35 73 t))
 about-formed k t = go k
   where
     form : (n : Bool)
-        → (blank (layout.spareField t) && n && isBic (layout.senderOf t) && blank (layout.payeeOf t) && isTxid (layout.txidOf t)
+        → (blank (layout.spareField t) && n && isBic (layout.senderOf t) && isBic (layout.payeeOf t) && isTxid (layout.txidOf t)
         && blank (layout.ibanField t) && blank (layout.lastField t))
-        ≡ (blank (layout.spareField t) && n && isBic (layout.senderOf t) && isTxid (layout.txidOf t)
-        && (blank (part 11 27 t) && blank (part 35 73 t)))
+        ≡ (blank (layout.spareField t) && n && isBic (layout.senderOf t) && (isBic (layout.payeeOf t) && isTxid (layout.txidOf t))
+        && blank (part 35 73 t))
     form n =
-        in-about (blank (layout.spareField t) && n && isBic (layout.senderOf t)) (blank (layout.payeeOf t)) (isTxid (layout.txidOf t))
+        in-about (blank (layout.spareField t) && n && isBic (layout.senderOf t)) (isBic (layout.payeeOf t)) (isTxid (layout.txidOf t))
         (blank (layout.ibanField t)) (blank (layout.lastField t))
-        ∙ ap (λ (z : Bool). blank (layout.spareField t) && n && isBic (layout.senderOf t) && isTxid (layout.txidOf t)
-        && (blank (part 11 27 t) && z))
+        ∙ ap (λ (z : Bool). blank (layout.spareField t) && n && isBic (layout.senderOf t)
+        && (isBic (layout.payeeOf t) && isTxid (layout.txidOf t)) && z)
         (sym (from-iban t))
 
     go : (k : Kind) → termsOf k .subject ≡ HeldOrder
         → wellFormed (formOf k) t
         ≡ (blank (layout.spareField t) && (not (eqb (formOf k .most) 0) || blank (layout.amountField t)) && isBic (layout.senderOf t)
-        && isTxid (layout.txidOf t) && (blank (part 11 27 t) && blank (part 35 73 t)))
+        && (isBic (layout.payeeOf t) && isTxid (layout.txidOf t)) && blank (part 35 73 t))
     go kind.CoverIn e = differ cc
     go kind.CoverOut e = differ cc
     go kind.Order e = differ cc
@@ -176,6 +176,21 @@ only-order kind.Inquiry e = differ cc
 only-order kind.Cut e = differ cc
 only-order kind.Confirm e = differ cc
 only-order kind.Tick e = differ cc
+
+-- a kind that names an order that is held is not kind 3
+pub none-new : (k : Kind) → termsOf k .subject ≡ HeldOrder → eqb (kindNumber k) 3 ≡ false
+none-new kind.CoverIn e = refl
+none-new kind.CoverOut e = refl
+none-new kind.Order e = differ cc
+none-new kind.Yes e = refl
+none-new kind.No e = refl
+none-new kind.Recall e = refl
+none-new kind.Return e = refl
+none-new kind.Decline e = refl
+none-new kind.Inquiry e = refl
+none-new kind.Cut e = refl
+none-new kind.Confirm e = refl
+none-new kind.Tick e = refl
 
 -- the shape of a ticket whose kind is known
 pub shape-is : (s : Subject) (k : Kind) (t : List ℕ) → TicketNaming s k t

@@ -1,7 +1,7 @@
 -- Tickets by what their kind names: nothing, a sender, an order that is held, a new order.
 --     TicketNaming    108 bytes whose kind names that
 --     KnownBic        a BIC that was found is well formed
---     KnownTxid       so is a TxId, in its padded field
+--     KnownKey        so are a payer's BIC and a TxId, in its padded field, that were found together
 -- Assumes nothing.
 use Prim.Native.Nat.{ℕ}
 use mathlib.Core.Path.{_≡_}
@@ -28,5 +28,6 @@ pub record TicketNaming (subject : Subject) (kind : Kind) (t : List ℕ) : Type 
 abbrev pub KnownBic : Found → List ℕ → Type 0
 KnownBic found s = isFound found ≡ true → isBic s ≡ true
 
-abbrev pub KnownTxid : Found → List ℕ → Type 0
-KnownTxid found s = isFound found ≡ true → isTxid (unpadded s) ≡ true
+-- 02, slip 6: an order is found by payer and TxId together
+abbrev pub KnownKey : Found → List ℕ → List ℕ → Type 0
+KnownKey found payer txid = isFound found ≡ true → (isBic payer ≡ true) × (isTxid (unpadded txid) ≡ true)

@@ -3,7 +3,6 @@
 use index::words;
 use ticket::layout;
 ghost use mathlib.Core.Path.{_≡_};
-ghost use mathlib.Core.Bool.{_&&_};
 ghost use Prim.Native.Nat.{_+_, _≤_};
 ghost use lib.ListN.{length};
 ghost use Rattle.fields.specs.Number.{part};
@@ -44,14 +43,11 @@ pub fn from_payee(t: &[u8]) -> bool
         & (first == 0)
 }
 
-// All behind the sender but the TxId: bytes 27 to 37 and 73 to 107.
-pub fn around_txid(t: &[u8]) -> bool
+// IBAN and the byte behind it: bytes 73 to 107.
+pub fn from_iban(t: &[u8]) -> bool
     requires { ⌜ length (now t) ≡ ticketLength ⌝ }
-    ensures { λ r. ⌜ r ≡ (blank (part 11 27 (now (t .entry))) && blank (part 35 73 (now (t .entry)))) ⌝ }
+    ensures { λ r. ⌜ r ≡ blank (part 35 73 (now (t .entry))) ⌝ }
 {
-    let first = words::word_at(t, layout::PAYEE);
-    (words::word_at(t, 30) == first)
-        & four_are(t, layout::IBAN, first)
-        & (words::word_at(t, 100) == first)
-        & (first == 0)
+    let first = words::word_at(t, layout::IBAN);
+    four_are(t, 76, first) & (first == 0)
 }

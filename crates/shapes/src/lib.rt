@@ -17,7 +17,7 @@ ghost use lib.ListN.{length};
 ghost use Rattle.ticket.specs.TicketLayout.{ticketLength, senderOf, payeeOf, txidField};
 ghost use Rattle.ticket.specs.Form.{formOf};
 ghost use Rattle.ticket.specs.Shape.{shapeOf, accountOf};
-ghost use Rattle.shapes.specs.Subject.{TicketNaming, KnownBic, KnownTxid};
+ghost use Rattle.shapes.specs.Subject.{TicketNaming, KnownBic, KnownKey};
 
 fn shape(formed: bool, kind: Kind) -> Shape
     ensures { λ r. ⌜ r ≡ cond formed (Shape.Formed kind) Shape.Malformed ⌝ }
@@ -48,27 +48,28 @@ pub fn cover(t: &[u8], kind: Kind, sender: Found) -> Shape
     shape(spare & sender & rest, kind)
 }
 
-// 7. It lists sender and TxId, and a return its amount.
+// 7. It lists sender, payer and TxId, and a return its amount.
 pub fn about(t: &[u8], kind: Kind, sender: Found, order: Found) -> Shape
     requires { ⌜
-        TicketNaming Subject.HeldOrder kind (now t) × KnownBic sender (senderOf (now t)) × KnownTxid order (txidField (now t))
+        TicketNaming Subject.HeldOrder kind (now t) × KnownBic sender (senderOf (now t))
+        × KnownKey order (payeeOf (now t)) (txidField (now t))
         ⌝ }
     ensures { λ r. ⌜ r ≡ shapeOf (now (t .entry)) ⌝ }
 {
     let sender = known::sender(sender, t);
-    let txid = known::txid(order, t);
+    let key = known::key(order, t);
     let spare = fields::zero_u16_at(t, layout::SPARE);
     let amounts = amounts::amounts_of(kind);
     let amount = (amounts.most != 0) | fields::zero_u64_at(t, layout::AMOUNT);
-    let rest = blanks::around_txid(t);
-    shape(spare & amount & sender & txid & rest, kind)
+    let rest = blanks::from_iban(t);
+    shape(spare & amount & sender & key & rest, kind)
 }
 
 // 7. An order lists every field.
 pub fn order(t: &[u8], sender: Found, order: Found, route: Found) -> Shape
     requires { ⌜
-        TicketNaming Subject.NewOrder Kind.Order (now t) × KnownBic sender (senderOf (now t)) × KnownTxid order (txidField (now t))
-        × KnownBic route (payeeOf (now t))
+        TicketNaming Subject.NewOrder Kind.Order (now t) × KnownBic sender (senderOf (now t))
+        × KnownKey order (senderOf (now t)) (txidField (now t)) × KnownBic route (payeeOf (now t))
         ⌝ }
     ensures { λ r. ⌜ r ≡ shapeOf (now (t .entry)) ⌝ }
 {

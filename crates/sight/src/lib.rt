@@ -14,9 +14,9 @@ use ticket::layout;
 ghost use mathlib.Core.Path.{_≡_};
 ghost use lib.ListN.{length};
 ghost use Rattle.fields.specs.Rows.{firstRow};
-ghost use Rattle.ticket.specs.TicketLayout.{ticketLength, senderOf, payeeOf, txidField};
-ghost use Rattle.index.specs.LentRows.{BicRows, TxidRows};
-ghost use Rattle.index.specs.Words.{bicWords, txidWords};
+ghost use Rattle.ticket.specs.TicketLayout.{ticketLength, senderOf, payeeOf, payerOf, txidField};
+ghost use Rattle.index.specs.LentRows.{BicRows, KeyRows};
+ghost use Rattle.index.specs.Words.{bicWords, keyWords};
 ghost use Rattle.sight.specs.Sight.{sightOf, sightRefusal};
 
 // A ticket that 7 to 11 do not refuse. What its kind does not ask for is nothing.
@@ -42,9 +42,9 @@ pub fn see(
     bic_links: &[u16],
     bics: &[u64],
     size: usize,
-    txid_heads: &[u16],
-    txid_links: &[u16],
-    txids: &[u64],
+    key_heads: &[u16],
+    key_links: &[u16],
+    keys: &[u64],
     count: usize,
     route_heads: &[u16],
     route_links: &[u16],
@@ -53,14 +53,14 @@ pub fn see(
 ) -> Sight
     requires { ⌜
         (length (now t) ≡ ticketLength) × BicRows size (now bics) (now «bic_heads») (now «bic_links»)
-        × TxidRows count (now txids) (now «txid_heads») (now «txid_links»)
+        × KeyRows count (now keys) (now «key_heads») (now «key_links»)
         × BicRows «route_rows» (now routes) (now «route_heads») (now «route_links»)
         ⌝ }
     ensures { λ r.
         ⌜
         r ≡ sightOf clock (now (t .entry))
         (firstRow 2 size (bicWords (senderOf (now (t .entry)))) (now (bics .entry)))
-        (firstRow 5 count (txidWords (txidField (now (t .entry)))) (now (txids .entry)))
+        (firstRow 7 count (keyWords (payerOf (now (t .entry))) (txidField (now (t .entry)))) (now (keys .entry)))
         (firstRow 2 «route_rows» (bicWords (payeeOf (now (t .entry)))) (now (routes .entry)))
         ⌝ }
 {
@@ -74,9 +74,9 @@ pub fn see(
         bic_links,
         bics,
         size,
-        txid_heads,
-        txid_links,
-        txids,
+        key_heads,
+        key_links,
+        keys,
         count,
         route_heads,
         route_links,

@@ -13,14 +13,14 @@ ghost use mathlib.Core.Path.{_≡_};
 ghost use Prim.Native.Nat.{ℕ};
 ghost use lib.ListN.{length};
 ghost use Rattle.fields.specs.Rows.{firstRow};
-ghost use Rattle.ticket.specs.TicketLayout.{ticketLength, kindByte, flagByte, senderOf, payeeOf, txidField};
+ghost use Rattle.ticket.specs.TicketLayout.{ticketLength, kindByte, flagByte, senderOf, payeeOf, payerOf, txidField};
 ghost use Rattle.ticket.specs.Kind.{kinded};
 ghost use Rattle.rules.specs.Terms.{termsOf};
-ghost use Rattle.index.specs.LentRows.{BicRows, TxidRows};
-ghost use Rattle.index.specs.Words.{bicWords, txidWords};
+ghost use Rattle.index.specs.LentRows.{BicRows, KeyRows};
+ghost use Rattle.index.specs.Words.{bicWords, keyWords};
 ghost use Rattle.sight.specs.Sight.{sightOf};
 ghost use Rattle.sight.specs.Value.{formedSight};
-ghost use Rattle.shapes.specs.Subject.{TicketNaming, KnownBic, KnownTxid};
+ghost use Rattle.shapes.specs.Subject.{TicketNaming, KnownBic, KnownKey};
 
 // Sender, order and route of a ticket that 7 and 8 do not refuse.
 pub enum Formed {
@@ -80,7 +80,8 @@ fn cover(t: &[u8], kind: Kind, sender: Found) -> Formed
 // Kinds 4 to 8.
 fn about(t: &[u8], kind: Kind, sender: Found, order: Found) -> Formed
     requires { ⌜
-        TicketNaming Subject.HeldOrder kind (now t) × KnownBic sender (senderOf (now t)) × KnownTxid order (txidField (now t))
+        TicketNaming Subject.HeldOrder kind (now t) × KnownBic sender (senderOf (now t))
+        × KnownKey order (payeeOf (now t)) (txidField (now t))
         ⌝ }
     ensures { λ r.
         ⌜
@@ -97,8 +98,8 @@ fn about(t: &[u8], kind: Kind, sender: Found, order: Found) -> Formed
 // Kind 3.
 fn order(t: &[u8], sender: Found, order: Found, route: Found) -> Formed
     requires { ⌜
-        TicketNaming Subject.NewOrder Kind.Order (now t) × KnownBic sender (senderOf (now t)) × KnownTxid order (txidField (now t))
-        × KnownBic route (payeeOf (now t))
+        TicketNaming Subject.NewOrder Kind.Order (now t) × KnownBic sender (senderOf (now t))
+        × KnownKey order (senderOf (now t)) (txidField (now t)) × KnownBic route (payeeOf (now t))
         ⌝ }
     ensures { λ r.
         ⌜
@@ -123,9 +124,9 @@ pub fn formed_of(
     bic_links: &[u16],
     bics: &[u64],
     size: usize,
-    txid_heads: &[u16],
-    txid_links: &[u16],
-    txids: &[u64],
+    key_heads: &[u16],
+    key_links: &[u16],
+    keys: &[u64],
     count: usize,
     route_heads: &[u16],
     route_links: &[u16],
@@ -135,7 +136,7 @@ pub fn formed_of(
     requires { ⌜
         (length (now t) ≡ ticketLength) × (kinded (kindByte (now t)) (flagByte (now t)) ≡ Kinded.As kind)
         × BicRows size (now bics) (now «bic_heads») (now «bic_links»)
-        × TxidRows count (now txids) (now «txid_heads») (now «txid_links»)
+        × KeyRows count (now keys) (now «key_heads») (now «key_links»)
         × BicRows «route_rows» (now routes) (now «route_heads») (now «route_links»)
         ⌝ }
     ensures { λ r.
@@ -144,7 +145,7 @@ pub fn formed_of(
         → formedSight clock (now (t .entry)) kind r
         ≡ sightOf clock (now (t .entry))
         (firstRow 2 size (bicWords (senderOf (now (t .entry)))) (now (bics .entry)))
-        (firstRow 5 count (txidWords (txidField (now (t .entry)))) (now (txids .entry)))
+        (firstRow 7 count (keyWords (payerOf (now (t .entry))) (txidField (now (t .entry)))) (now (keys .entry)))
         (firstRow 2 «route_rows» (bicWords (payeeOf (now (t .entry)))) (now (routes .entry))))
         ⌝ }
 {
@@ -169,11 +170,12 @@ pub fn formed_of(
                 size,
                 &t[layout::SENDER..layout::PAYEE],
             );
-            let found = index::find_txid(
-                txid_heads,
-                txid_links,
-                txids,
+            let found = index::find_key(
+                key_heads,
+                key_links,
+                keys,
                 count,
+                &t[layout::SENDER..layout::PAYEE],
                 &t[layout::TXID..layout::IBAN],
             );
             let route = index::find_bic(
@@ -193,11 +195,12 @@ pub fn formed_of(
                 size,
                 &t[layout::SENDER..layout::PAYEE],
             );
-            let found = index::find_txid(
-                txid_heads,
-                txid_links,
-                txids,
+            let found = index::find_key(
+                key_heads,
+                key_links,
+                keys,
                 count,
+                &t[layout::PAYER..layout::TXID],
                 &t[layout::TXID..layout::IBAN],
             );
             about(t, kind, sender, found)

@@ -10,7 +10,7 @@ use lib.ListN.{length}
 use Rattle.codes.specs.Txid.{isTxid}
 use Rattle.fields.proofs.Tests.{and-left, and-right}
 use Rattle.ticket.specs.TicketLayout as layout
-use Rattle.ticket.specs.Kind.{kinded}
+use Rattle.ticket.specs.Kind.{kindNumber, kinded}
 use Rattle.ticket.specs.Form.{formOf}
 use Rattle.ticket.specs.Shape.{bicIfListed, txidIfListed, blankUnlessListed, wellFormed, shapeAs, shapeOf, accountOf}
 use Rattle.ticket.specs.Amount.{statedIn, limitOf}
@@ -42,11 +42,11 @@ pub record Tells (t : List ℕ) (f : Fields) : Type 0 where
   pub most : f .amount ≤ formOf (f .kind) .most
 
 -- a shape that was found
-record Shaped (t : List ℕ) (k : Kind) : Type 0 where
-  kind : kinded (layout.kindByte t) (layout.flagByte t) ≡ As k
-  formed : wellFormed (formOf k) t ≡ true
+pub record Shaped (t : List ℕ) (k : Kind) : Type 0 where
+  pub kind : kinded (layout.kindByte t) (layout.flagByte t) ≡ As k
+  pub formed : wellFormed (formOf k) t ≡ true
 
-shaped : (t : List ℕ) (k : Kind) → shapeOf t ≡ Formed k → Shaped t k
+pub shaped : (t : List ℕ) (k : Kind) → shapeOf t ≡ Formed k → Shaped t k
 shaped t k e = whole (eqb (length t) layout.ticketLength) refl
   where
     is : (k′ : Kind) → kinded (layout.kindByte t) (layout.flagByte t) ≡ As k′ → (b : Bool) → wellFormed (formOf k′) t ≡ b
@@ -124,9 +124,13 @@ read-tells t f e = from-shape (shapeOf t) refl
     from-shape (Formed k) e₁ = from-account k e₁ (accountOf (formOf k) t) refl
     from-shape Malformed e₁ = not-read 7 (read-malformed t e₁)
 
--- a TxId that is listed is one
-pub listed-txid : (t : List ℕ) (f : Fields) → Tells t f → formOf (f .kind) .txid ≡ true → isTxid (layout.txidOf t) ≡ true
-listed-txid t f tells listed = rw listed at (and-right before (txidIfListed (formOf (f .kind) .txid) (layout.txidField t)) to-txid)
+-- it has the shape of its kind
+pub tells-shape : (t : List ℕ) (f : Fields) → Tells t f → shapeOf t ≡ Formed (f .kind)
+tells-shape t f tells = rw (tells .whole, tells .kind, tells .formed)
+
+-- its TxId passes the test of the form
+pub tested-txid : (t : List ℕ) (f : Fields) → Tells t f → txidIfListed (formOf (f .kind) .txid) (layout.txidField t) ≡ true
+tested-txid t f tells = and-right before (txidIfListed (formOf (f .kind) .txid) (layout.txidField t)) to-txid
   where
     before : Bool
     before =
@@ -145,6 +149,16 @@ listed-txid t f tells listed = rw listed at (and-right before (txidIfListed (for
         (blankUnlessListed false (layout.lastField t))
         (tells .formed))
 
+-- a TxId that is listed is one
+pub listed-txid : (t : List ℕ) (f : Fields) → Tells t f → formOf (f .kind) .txid ≡ true → isTxid (layout.txidOf t) ≡ true
+listed-txid t f tells listed = rw listed at (tested-txid t f tells)
+
 -- its kind and flag bytes are those of its kind
 pub tells-bytes : (t : List ℕ) (f : Fields) → Tells t f → KindBytes (f .kind) (layout.kindByte t) (layout.flagByte t)
 tells-bytes t f tells = kinded-tells (layout.kindByte t) (layout.flagByte t) (f .kind) (tells .kind)
+
+-- 02, slip 6: the payer that it names
+pub payer-named : (t : List ℕ) (k : Kind) → kinded (layout.kindByte t) (layout.flagByte t) ≡ As k
+    → layout.payerOf t ≡ cond (eqb (kindNumber k) 3) (layout.senderOf t) (layout.payeeOf t)
+payer-named t k e =
+    ap (λ (n : ℕ). cond (eqb n 3) (layout.senderOf t) (layout.payeeOf t)) (kinded-tells (layout.kindByte t) (layout.flagByte t) k e .number)

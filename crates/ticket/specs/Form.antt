@@ -1,6 +1,6 @@
 -- Which fields each kind lists, and its amounts: 01 'The ticket, 108 bytes'. Where most is 0 a kind lists no amount.
 --     coverForm    a sender, and an amount from least to 10^18
---     aboutForm    a sender and a TxId, and amounts from least to most
+--     aboutForm    a sender, a payer and a TxId, and amounts from least to most
 --     emptyForm    nothing
 --     formOf       of each kind
 -- Assumes nothing.
@@ -32,8 +32,9 @@ mostOrder = 99_999_999_999
 abbrev coverForm : ℕ → Form
 coverForm least = record { sender = true; payee = false; txid = false; iban = false; least = least; most = mostCover }
 
+-- 02, slip 6: kinds 4 to 8 name the payer's BIC where an order names the payee's
 abbrev aboutForm : ℕ → ℕ → Form
-aboutForm least most = record { sender = true; payee = false; txid = true; iban = false; least = least; most = most }
+aboutForm least most = record { sender = true; payee = true; txid = true; iban = false; least = least; most = most }
 
 abbrev emptyForm : Form
 emptyForm = record { sender = false; payee = false; txid = false; iban = false; least = 0; most = 0 }

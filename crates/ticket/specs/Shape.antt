@@ -50,7 +50,7 @@ abbrev pub shapeAs : Kinded → List ℕ → Shape
 shapeAs (As kind) t = cond (wellFormed (formOf kind) t) (Formed kind) Malformed
 shapeAs Unknown t = Malformed
 
--- 7. Ticket not 108 bytes, or kind, flag, BIC, TxId or unused field wrong (XT33)
+-- 7. Ticket not 108 bytes, or kind, flag, BIC, TxId or unused field wrong (XT33). 02, slip 6: the payer's BIC too
 abbrev pub shapeOf : List ℕ → Shape
 shapeOf t = cond (eqb (length t) layout.ticketLength) (shapeAs (kinded (layout.kindByte t) (layout.flagByte t)) t) Malformed
 

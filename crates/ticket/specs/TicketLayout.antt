@@ -2,7 +2,9 @@
 -- before the trailing zeros. On a list of bytes of any length.
 -- Assumes nothing.
 use Prim.Native.Nat.{ℕ}
+use mathlib.Core.Bool.{cond}
 use mathlib.Core.List.{List}
+use lib.Dec.{eqb}
 use lib.ListN.{getD}
 use Rattle.fields.specs.Number.{part, numberAt}
 use Rattle.fields.specs.Text.{unpadded}
@@ -31,8 +33,13 @@ amountOf t = numberAt 8 8 t
 abbrev pub senderOf : List ℕ → List ℕ
 senderOf t = part 11 16 t
 
+-- an order's payee; in kinds 4 to 8 the payer of the order that they name
 abbrev pub payeeOf : List ℕ → List ℕ
 payeeOf t = part 11 27 t
+
+-- 02, slip 6: kinds 4 to 8 name the payer's BIC in bytes 27 to 37; an order's payer is its sender
+abbrev pub payerOf : List ℕ → List ℕ
+payerOf t = cond (eqb (kindByte t) 3) (senderOf t) (payeeOf t)
 
 abbrev pub txidField : List ℕ → List ℕ
 txidField t = part 35 38 t

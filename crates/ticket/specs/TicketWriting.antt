@@ -1,5 +1,5 @@
 -- Tickets written down: the other way round from reading.
---     WrittenTicket       what is written: zero or no bytes where the kind doesn't list a field
+--     WrittenTicket       what is written: zero or no bytes where the kind doesn't list a field; in kinds 4 to 8 `payee` is the payer's BIC
 --     ticketBytes         its bytes
 --     IfListed            a field that a kind lists passes its check, one that it doesn't has no bytes
 --     WellFormedTicket    what is written is a ticket of a kind
@@ -42,8 +42,8 @@ pub record WrittenTicket : Type 0 where
   pub txid : List ℕ
   pub iban : List ℕ
 
--- 01: byte 0 kind; 1 flag; 2-3 zero; 4-7 time; 8-15 amount; 16-26 sender BIC; 27-37 payee BIC; 38-72 TxId and 73-106 IBAN, both
--- padded with zero bytes; 107 zero
+-- 01: byte 0 kind; 1 flag; 2-3 zero; 4-7 time; 8-15 amount; 16-26 sender BIC; 27-37 payee BIC (02, slip 6: in kinds 4 to 8 the
+-- payer's); 38-72 TxId and 73-106 IBAN, both padded with zero bytes; 107 zero
 abbrev pub ticketBytes : WrittenTicket → List ℕ
 ticketBytes w =
     (w .kind ∷ w .flag ∷ 0 ∷ 0 ∷ [])
@@ -77,10 +77,10 @@ abbrev coverWritten : Kind → ℕ → List ℕ → ℕ → WrittenTicket
 coverWritten k time sender n =
     record { kind = kindNumber k; flag = 0; time = time; amount = n; sender = sender; payee = []; txid = []; iban = [] }
 
--- a kind that lists a sender and a TxId, with its flag and its amount
-abbrev aboutWritten : Kind → ℕ → List ℕ → ℕ → ℕ → List ℕ → WrittenTicket
-aboutWritten k time sender flag n txid =
-    record { kind = kindNumber k; flag = flag; time = time; amount = n; sender = sender; payee = []; txid = txid; iban = [] }
+-- a kind that lists a sender, a payer and a TxId, with its flag and its amount
+abbrev aboutWritten : Kind → ℕ → List ℕ → ℕ → ℕ → List ℕ → List ℕ → WrittenTicket
+aboutWritten k time sender flag n payer txid =
+    record { kind = kindNumber k; flag = flag; time = time; amount = n; sender = sender; payee = payer; txid = txid; iban = [] }
 
 -- a kind that lists nothing
 abbrev emptyWritten : Kind → ℕ → WrittenTicket
@@ -100,23 +100,23 @@ coverOutTicket time sender n = ticketBytes (coverWritten CoverOut time sender n)
 abbrev pub orderTicket : ℕ → List ℕ → List ℕ → ℕ → List ℕ → List ℕ → List ℕ
 orderTicket time sender payee n txid iban = ticketBytes (orderWritten time sender payee n txid iban)
 
-abbrev pub yesTicket : ℕ → List ℕ → List ℕ → List ℕ
-yesTicket time sender txid = ticketBytes (aboutWritten Yes time sender 1 0 txid)
+abbrev pub yesTicket : ℕ → List ℕ → List ℕ → List ℕ → List ℕ
+yesTicket time sender payer txid = ticketBytes (aboutWritten Yes time sender 1 0 payer txid)
 
-abbrev pub noTicket : ℕ → List ℕ → List ℕ → List ℕ
-noTicket time sender txid = ticketBytes (aboutWritten No time sender 2 0 txid)
+abbrev pub noTicket : ℕ → List ℕ → List ℕ → List ℕ → List ℕ
+noTicket time sender payer txid = ticketBytes (aboutWritten No time sender 2 0 payer txid)
 
-abbrev pub recallTicket : ℕ → List ℕ → ℕ → List ℕ → List ℕ
-recallTicket time sender flag txid = ticketBytes (aboutWritten Recall time sender flag 0 txid)
+abbrev pub recallTicket : ℕ → List ℕ → ℕ → List ℕ → List ℕ → List ℕ
+recallTicket time sender flag payer txid = ticketBytes (aboutWritten Recall time sender flag 0 payer txid)
 
-abbrev pub returnTicket : ℕ → List ℕ → ℕ → List ℕ → List ℕ
-returnTicket time sender n txid = ticketBytes (aboutWritten Return time sender 0 n txid)
+abbrev pub returnTicket : ℕ → List ℕ → ℕ → List ℕ → List ℕ → List ℕ
+returnTicket time sender n payer txid = ticketBytes (aboutWritten Return time sender 0 n payer txid)
 
-abbrev pub declineTicket : ℕ → List ℕ → ℕ → List ℕ → List ℕ
-declineTicket time sender flag txid = ticketBytes (aboutWritten Decline time sender flag 0 txid)
+abbrev pub declineTicket : ℕ → List ℕ → ℕ → List ℕ → List ℕ → List ℕ
+declineTicket time sender flag payer txid = ticketBytes (aboutWritten Decline time sender flag 0 payer txid)
 
-abbrev pub inquiryTicket : ℕ → List ℕ → List ℕ → List ℕ
-inquiryTicket time sender txid = ticketBytes (aboutWritten Inquiry time sender 0 0 txid)
+abbrev pub inquiryTicket : ℕ → List ℕ → List ℕ → List ℕ → List ℕ
+inquiryTicket time sender payer txid = ticketBytes (aboutWritten Inquiry time sender 0 0 payer txid)
 
 abbrev pub cutTicket : ℕ → List ℕ
 cutTicket time = ticketBytes (emptyWritten Cut time)

@@ -11,7 +11,11 @@ pub const AMOUNT: usize = 8;
 
 pub const SENDER: usize = 16;
 
+// an order's
 pub const PAYEE: usize = 27;
+
+// of the order that kinds 4 to 8 name
+pub const PAYER: usize = 27;
 
 pub const TXID: usize = 38;
 

@@ -1,6 +1,6 @@
 // A ticket of 108 bytes: where its fields lie, its kind, its TxId, and the answers of refusals 7 to 10. What these look at is in specs/;
-// the code that asks it is in `shapes` and `sight`. What is read of a ticket is numbers only (`Fields`): sender, payee and TxId are parts
-// of the caller's slice, since an enum can't hold an array, and nothing is copied.
+// the code that asks it is in `shapes` and `sight`. What is read of a ticket is numbers only (`Fields`): sender, payee or payer, and TxId
+// are parts of the caller's slice, since an enum can't hold an array, and nothing is copied.
 pub mod amounts;
 pub mod forms;
 pub mod kinds;
@@ -11,7 +11,7 @@ use kinds::Kind;
 ghost use mathlib.Core.Path.{_≡_};
 ghost use Rattle.ticket.specs.TicketReading.{txidPart};
 
-// What the book goes by. Sender, payee and TxId are parts of the ticket's own bytes.
+// What the book goes by. Sender, payee or payer, and TxId are parts of the ticket's own bytes.
 pub struct Fields {
     pub kind: Kind,
     pub time: u32,

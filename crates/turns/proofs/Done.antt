@@ -27,14 +27,14 @@ use Rattle.course.specs.Expiry.{Passed}
 use Rattle.course.specs.Running.{roomLeft}
 use Rattle.course.proofs.Running.{Going, room-left, taken-on}
 use Rattle.course.proofs.Summing.{allOf}
-use Rattle.turns.proofs.Index.{TxidIndex}
+use Rattle.turns.proofs.Index.{KeyIndex}
 use Rattle.turns.proofs.Turn.{refused-turn}
 
 -- of ticket t in book b, n₀ reports standing in the text before it; afterwards the book, the refusal, the rows followed, n reports in the
 -- text, the order m to look at next, the index and all cover together
-pub record Done (wordsOf : List ℕ → List ℕ) (bucketOf : List ℕ → ℕ) (b : Book) (t : List ℕ) (n₀ : ℕ)
+pub record Done (wordsOf : ℕ × List ℕ → List ℕ) (bucketOf : List ℕ → ℕ) (b : Book) (t : List ℕ) (n₀ : ℕ)
     (text₀ : List ℕ) (b′ : Book) (r k n : ℕ)
-    (text : List ℕ) (m : ℕ) (txids heads links : List ℕ) (all : ℕ) : Type 0 where
+    (text : List ℕ) (m : ℕ) (keys heads links : List ℕ) (all : ℕ) : Type 0 where
   pub book : b′ ≡ stepOf b t .book
   pub sound : Sound b′
   pub roster : b′ .roster ≡ b .roster
@@ -47,14 +47,14 @@ pub record Done (wordsOf : List ℕ → List ℕ) (bucketOf : List ℕ → ℕ) 
   -- no order below m waits for a bank
   pub passed : Passed m b′
   pub few : m ≤ b′ .count
-  pub index : TxidIndex wordsOf bucketOf b′ txids heads links
+  pub index : KeyIndex wordsOf bucketOf b′ keys heads links
   pub sum : all ≡ allOf (b′ .covers)
 
 -- the answer
-pub answer-is : {wordsOf : List ℕ → List ℕ} {bucketOf : List ℕ → ℕ} {b : Book} {t : List ℕ} {n₀ : ℕ}
+pub answer-is : {wordsOf : ℕ × List ℕ → List ℕ} {bucketOf : List ℕ → ℕ} {b : Book} {t : List ℕ} {n₀ : ℕ}
     {text₀ : List ℕ} {b′ : Book} {r k n : ℕ}
-    {text : List ℕ} {m : ℕ} {txids heads links : List ℕ} {all : ℕ}
-    → Done wordsOf bucketOf b t n₀ text₀ b′ r k n text m txids heads links all
+    {text : List ℕ} {m : ℕ} {keys heads links : List ℕ} {all : ℕ}
+    → Done wordsOf bucketOf b t n₀ text₀ b′ r k n text m keys heads links all
     → _≡_ {A = Answer} (record { refusal = r; reports = n - n₀; rows = k }) (answerOf (stepOf b t))
 answer-is {b = b} {t} {n₀} {n = n} h =
     let e = h .told in
@@ -62,10 +62,10 @@ answer-is {b = b} {t} {n₀} {n = n} h =
     λ i. record { refusal = h .refusal i; reports = count i; rows = h .rows i }
 
 -- refused by 7 to 11, all stays as it is
-pub turned-down : {wordsOf : List ℕ → List ℕ} {bucketOf : List ℕ → ℕ} {b : Book} {t : List ℕ} {r n₀ : ℕ} {text₀ : List ℕ} {m : ℕ}
-    {txids heads links : List ℕ} {all : ℕ} → Sound b → entryOf (b .clock) t .refusal ≡ r → eqb r 0 ≡ false → Passed m b → m ≤ b .count
-    → TxidIndex wordsOf bucketOf b txids heads links → all ≡ allOf (b .covers)
-    → Done wordsOf bucketOf b t n₀ text₀ b r 0 n₀ text₀ m txids heads links all
+pub turned-down : {wordsOf : ℕ × List ℕ → List ℕ} {bucketOf : List ℕ → ℕ} {b : Book} {t : List ℕ} {r n₀ : ℕ} {text₀ : List ℕ} {m : ℕ}
+    {keys heads links : List ℕ} {all : ℕ} → Sound b → entryOf (b .clock) t .refusal ≡ r → eqb r 0 ≡ false → Passed m b → m ≤ b .count
+    → KeyIndex wordsOf bucketOf b keys heads links → all ≡ allOf (b .covers)
+    → Done wordsOf bucketOf b t n₀ text₀ b r 0 n₀ text₀ m keys heads links all
 turned-down {b = b} {t} {r} {n₀} {text₀} s refusal refused passed few index sum =
     let step = refused-turn b t r refusal refused in
     record {
@@ -90,14 +90,14 @@ pub refused-answer : (b : Book) (t : List ℕ) (r : ℕ) → entryOf (b .clock) 
 refused-answer b t r refusal refused = ap answerOf (sym (refused-turn b t r refusal refused))
 
 -- the loop over tickets goes on
-pub going-on : {wordsOf : List ℕ → List ℕ} {bucketOf : List ℕ → ℕ} {b₀ : Book} {tickets answers₀ reports₀ : List ℕ}
+pub going-on : {wordsOf : ℕ × List ℕ → List ℕ} {bucketOf : List ℕ → ℕ} {b₀ : Book} {tickets answers₀ reports₀ : List ℕ}
     {b : Book} {taken n₀ : ℕ}
-    {bytes text₀ t : List ℕ} {b′ : Book} {r k n : ℕ} {text : List ℕ} {m : ℕ} {txids heads links : List ℕ} {all : ℕ}
+    {bytes text₀ t : List ℕ} {b′ : Book} {r k n : ℕ} {text : List ℕ} {m : ℕ} {keys heads links : List ℕ} {all : ℕ}
     {a : Answer} {bytes′ : List ℕ}
     → Going b₀ tickets answers₀ reports₀ b taken n₀ bytes text₀
     → roomLeft (length tickets - 108 * taken) (length answers₀ - 4 * taken) (length reports₀ - 12 * n₀) ≡ true
     → t ≡ take 108 (drop (108 * taken) tickets)
-    → Done wordsOf bucketOf b t n₀ text₀ b′ r k n text m txids heads links all
+    → Done wordsOf bucketOf b t n₀ text₀ b′ r k n text m keys heads links all
     → a ≡ answerOf (stepOf b t) → bytes′ ≡ sets bytes (4 * taken) (answerBytes a)
     → Going b₀ tickets answers₀ reports₀ b′ (taken + 1) n bytes′ text
 going-on {b₀ = b₀} {tickets} {answers₀} {reports₀} {b} {taken} {n₀} {bytes} {text₀} {t} {b′} {n = n} {text}

@@ -4,30 +4,36 @@
 --     Searched                               what was found before them, and the numbers of sender and order
 --     sender-in, order-in, payee-in          those numbers are in range
 --     total-few                              all cover together is within the limit
+--     sender-bic                             who opens an order has the sender's BIC
 --     facts-are                              the facts; way-is, number-is: the way and the order's number
 --     new-order                              the order that a ticket opens
 use mathlib.Core.Path.{_≡_, refl, sym, _∙_, ap, ap₂}
-use mathlib.Core.Bool.{Bool, false, cond}
+use mathlib.Core.Bool.{Bool, true, false, _&&_, cond}
 use mathlib.Core.List.{List}
 use Prim.Native.Nat.{ℕ, _≤_, _<_}
 use native.Mathlib.Omega.{arith}
-use Rattle.fields.specs.Search.{numberOf, firstTo}
+use Rattle.fields.specs.Search.{isFound, numberOf, firstTo}
 use Rattle.fields.specs.Text.{same}
 use Rattle.fields.specs.UpTo.{anyTo}
 use Rattle.fields.specs.declared.search.Found.{Found}
 use Rattle.fields.specs.declared.search.Found.the-variants as found
-use Rattle.fields.proofs.Finding.{first-same}
-use Rattle.ticket.specs.TicketLayout.{txidField}
+use Rattle.fields.proofs.Finding.{first-same, found-at}
+use Rattle.fields.proofs.Same.{same-true}
+use Rattle.fields.proofs.Tests.{never}
+use Rattle.ticket.specs.TicketLayout.{senderOf, payerOf, txidField}
 use Rattle.dayfile.specs.FileLimits.{mostParticipants}
+use Rattle.dayfile.specs.Roster.{participantOf}
 use Rattle.dayfile.specs.Route.{reached, followedFrom}
 use Rattle.dayfile.specs.declared.roster.Roster.{Roster}
 use Rattle.dayfile.specs.declared.route.Followed.{Followed}
-use Rattle.rules.specs.Book.{mostOrders, orderOf, coverOf, isBank}
+use Rattle.rules.specs.Book.{mostOrders, orderOf, keyOf, coverOf, isBank}
 use Rattle.rules.specs.Cover.{mostTotal}
 use Rattle.rules.specs.Find.{senderIn, orderIn, routeIn, isOpen}
 use Rattle.rules.specs.Terms.{termsOf, namesSender, opensOrder}
 use Rattle.rules.specs.Decision.{newOrder}
 use Rattle.rules.specs.declared.verdict.Facts.{Facts}
+use Rattle.rules.specs.declared.verdict.Does.the-variants.{Opens}
+use Rattle.rules.specs.declared.verdict.Verdict.{Verdict}
 use Rattle.rules.specs.declared.Status.the-variants.{Waiting}
 use Rattle.rules.specs.declared.Order.{Order}
 use Rattle.rules.specs.declared.Book.{Book}
@@ -36,12 +42,21 @@ use Rattle.course.specs.declared.Entry.{Entry}
 use Rattle.course.proofs.Seeking.{way-if, open-sum, made}
 use Rattle.course.proofs.SoughtFitting.{any-payee, sought-sender-below, sought-order-below}
 use Rattle.course.proofs.Summing.{allOf, all-total}
+use Rattle.verdict.specs.Judgement.{verdictOf}
 use Rattle.verdict.specs.Meaning.{aboutOf, factsOf}
-use Rattle.turns.proofs.Turn.{Expired, after-sound, after-count, after-roster, after-txid, after-all}
+use Rattle.verdict.proofs.VerdictLaws.{opens-sent}
+use Rattle.turns.proofs.Turn.{Expired, after-sound, after-count, after-roster, after-key, after-all}
 
 -- the row of a payee BIC, where the kind asks for it
 abbrev pub soughtRoute : Book → Entry → List ℕ → Found
 soughtRoute b e t = cond (opensOrder (termsOf (e .kind) .subject)) (routeIn (b .roster) t) found.Nothing
+
+-- a participant that was found has the sender's BIC
+found-bic : (r : Roster) (t : List ℕ) (z : Bool) → isFound (cond z (senderIn r t) found.Nothing) ≡ true
+    → participantOf r (numberOf (cond z (senderIn r t) found.Nothing)) .bic ≡ senderOf t
+unfolding senderIn
+found-bic r t true e = same-true _ _ (found-at (λ p. same (participantOf r p .bic) (senderOf t)) (r .size) e .passes)
+found-bic r t false e = never (sym e)
 
 -- what was found before the expiries, and the numbers of sender and order
 pub record Searched (b : Book) (t : List ℕ) (e : Entry) (sender order route : Found) (p i : ℕ) : Type 0 where
@@ -66,12 +81,24 @@ module _ {b : Book} {t : List ℕ} {e : Entry} {n₀ : ℕ} {text₀ : List ℕ}
   pub total-few : {all : ℕ} → all ≡ allOf (b .covers) → all ≤ mostTotal
   total-few sum = let q = all-is sum in let l = after-sound w .limited in omega arith
 
-  found-same : orderIn (b .orders) (b .count) t ≡ orderIn (c .orders) (c .count) t
+  found-same : orderIn (b .roster) (b .orders) (b .count) t ≡ orderIn (c .roster) (c .orders) (c .count) t
   unfolding orderIn
   found-same =
-      first-same (λ i. same (orderOf (b .orders) i .txid) (txidField t)) (λ i. same (orderOf (c .orders) i .txid) (txidField t)) (b .count)
-      (λ i l. ap (λ (s : List ℕ). same s (txidField t)) (sym (after-txid w i)))
-      ∙ ap (firstTo (λ i. same (orderOf (c .orders) i .txid) (txidField t))) (sym (after-count w))
+      first-same (λ i. named (b .roster) (keyOf (orderOf (b .orders) i))) (λ i. named (b .roster) (keyOf (orderOf (c .orders) i)))
+      (b .count) (λ i l. ap (named (b .roster)) (sym (after-key w i)))
+      ∙ ap₂ (λ (r : Roster). firstTo (λ i. named r (keyOf (orderOf (c .orders) i)))) (sym (after-roster w)) (sym (after-count w))
+    where
+      -- whether the ticket names an order with this key
+      named : Roster → ℕ × List ℕ → Bool
+      named r key = same (participantOf r (key .0) .bic) (payerOf t) && same (key .1) (txidField t)
+
+  -- who opens an order was found
+  pub sender-bic : {v : Verdict} → v ≡ verdictOf (factsOf (sought c e t)) → v .does ≡ Opens
+      → participantOf (b .roster) (numberOf (soughtSender c e t)) .bic ≡ senderOf t
+  sender-bic is opens =
+      ap (λ (r : Roster). participantOf r (numberOf (soughtSender c e t)) .bic) (sym (after-roster w))
+      ∙ found-bic (c .roster) t (namesSender (termsOf (e .kind) .subject))
+      (opens-sent (factsOf (sought c e t)) (ap (λ (y : Verdict). y .does) (sym is) ∙ opens))
 
   pub order-same : soughtOrder b e t ≡ soughtOrder c e t
   order-same = ap (λ (x : Found). cond (seeksOrder (termsOf (e .kind) .subject)) x found.Nothing) found-same

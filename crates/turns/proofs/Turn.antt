@@ -20,7 +20,7 @@ use Rattle.ticket.specs.declared.Fields.{Fields}
 use Rattle.ticket.specs.declared.Reading.{Reading}
 use Rattle.ticket.specs.declared.Reading.the-variants.{Read, Refused}
 use Rattle.report.specs.ReportLayout.{reportsBytes}
-use Rattle.rules.specs.Book.{orderOf}
+use Rattle.rules.specs.Book.{orderOf, keyOf}
 use Rattle.rules.specs.Cover.{mostTotal}
 use Rattle.rules.specs.Tick.{Step, sweepTo, atTime}
 use Rattle.rules.specs.Decision.{applied, toldBy}
@@ -44,13 +44,13 @@ use Rattle.course.specs.declared.Judged.{Judged}
 use Rattle.course.proofs.Taking.{step-taken}
 use Rattle.course.proofs.Turning as turning
 use Rattle.course.proofs.Looping.{Sweeping, sweep-begun, all-swept}
-use Rattle.course.proofs.Seeking.{swept-txid}
+use Rattle.course.proofs.Seeking.{swept-key}
 use Rattle.course.proofs.SoughtFitting.{Entered, entered, judged-applicable}
 use Rattle.course.proofs.Summing.{allOf, all-total, swept-all}
 use Rattle.verdict.specs.Judgement.{verdictOf}
 use Rattle.verdict.specs.Meaning.{factsOf, decisionBy, judgedBy}
 use Rattle.verdict.proofs.Meaning.{judged-verdict}
-use Rattle.turns.proofs.Index.{TxidIndex, same-index}
+use Rattle.turns.proofs.Index.{KeyIndex, same-index}
 
 -- refused by 7 to 11: book and reports stay as they are
 pub refused-turn : (b : Book) (t : List ℕ) (n : ℕ) → entryOf (b .clock) t .refusal ≡ n → eqb n 0 ≡ false → stepOf b t ≡ untouched b n
@@ -142,14 +142,14 @@ module _ {b : Book} {t : List ℕ} {e : Entry} {n₀ : ℕ} {text₀ : List ℕ}
   pub after-roster : c .roster ≡ b .roster
   after-roster = ap (λ (d : Book). d .roster) book-is ∙ swept start (clocked-sound (w .taken)) (b .count) (omega arith) .roster
 
-  -- no TxId changes, and so the index stays
-  pub after-txid : (i : ℕ) → orderOf (c .orders) i .txid ≡ orderOf (b .orders) i .txid
-  after-txid i =
-      ap (λ (d : Book). orderOf (d .orders) i .txid) (w .sweeping .book) ∙ swept-txid start (clocked-sound (w .taken)) m (w .few) i
+  -- no key changes, and so the index stays
+  pub after-key : (i : ℕ) → keyOf (orderOf (c .orders) i) ≡ keyOf (orderOf (b .orders) i)
+  after-key i =
+      ap (λ (d : Book). keyOf (orderOf (d .orders) i)) (w .sweeping .book) ∙ swept-key start (clocked-sound (w .taken)) m (w .few) i
 
-  pub after-index : {wordsOf : List ℕ → List ℕ} {bucketOf : List ℕ → ℕ} {txids heads links : List ℕ}
-      → TxidIndex wordsOf bucketOf b txids heads links → TxidIndex wordsOf bucketOf c txids heads links
-  after-index f = same-index f after-count after-txid
+  pub after-index : {wordsOf : ℕ × List ℕ → List ℕ} {bucketOf : List ℕ → ℕ} {keys heads links : List ℕ}
+      → KeyIndex wordsOf bucketOf b keys heads links → KeyIndex wordsOf bucketOf c keys heads links
+  after-index f = same-index f after-count after-key
 
   -- all cover together stays, and is within the limit
   pub after-all : allOf (c .covers) ≡ allOf (b .covers)

@@ -11,13 +11,12 @@ use native.Mathlib.Omega.{arith}
 use lib.ListN.{length, getD, set, length-append}
 use lib.Seq.{sets, set-getD}
 use Rattle.fields.specs.Search.{numberOf}
-use Rattle.ticket.specs.TicketLayout.{txidField}
 use Rattle.dayfile.specs.Route.{rowsFollowed}
 use Rattle.dayfile.specs.declared.roster.Roster.{Roster}
 use Rattle.report.specs.ReportLayout.{reportsBytes}
 use Rattle.report.specs.declared.Report.{Report}
 use Rattle.report.proofs.ReportLaws.{put-further}
-use Rattle.rules.specs.Book.{noOrder, orderOf, withCovers}
+use Rattle.rules.specs.Book.{noOrder, orderOf, keyOf, withCovers}
 use Rattle.rules.specs.Status.{withStatus}
 use Rattle.rules.specs.Tick.{Step}
 use Rattle.rules.specs.Cut.{cutTo, cutReportsTo}
@@ -41,10 +40,10 @@ use Rattle.course.specs.Seeking.{soughtOrder, sought}
 use Rattle.course.specs.declared.Entry.{Entry}
 use Rattle.course.proofs.Applying.{passed-applied, count-grows}
 use Rattle.course.proofs.Summing.{allOf, applied-all}
-use Rattle.course.proofs.Naming.{KeepsName, other-txid, applied-txid, kept-txid}
+use Rattle.course.proofs.Naming.{KeepsKey, other-key, applied-key, kept-key}
 use Rattle.verdict.specs.Judgement.{verdictOf}
 use Rattle.verdict.specs.Meaning.{factsOf, decidedBy}
-use Rattle.turns.proofs.Index.{TxidIndex, same-index, more-index}
+use Rattle.turns.proofs.Index.{KeyIndex, same-index, more-index}
 use Rattle.turns.proofs.Turn.{
   Expired,
   sweptStep,
@@ -61,12 +60,12 @@ use Rattle.turns.proofs.VerdictFitting.{verdictReports, fits, both-move
 use Rattle.turns.proofs.Done.{Done}
 use Rattle.turns.proofs.CarryingOut.{CarriedOut, cut-silent, covers-same}
 
-module _ {wordsOf : List ℕ → List ℕ} {bucketOf : List ℕ → ℕ} {b : Book} {t : List ℕ} {e : Entry} {n₀ : ℕ}
+module _ {wordsOf : ℕ × List ℕ → List ℕ} {bucketOf : List ℕ → ℕ} {b : Book} {t : List ℕ} {e : Entry} {n₀ : ℕ}
     {text₀ : List ℕ} {c : Book} {m n : ℕ}
     {text : List ℕ} (w : Expired b t e n₀ text₀ c m n text) {v : Verdict} (is : v ≡ verdictOf (factsOf (sought c e t)))
     {cs : List Cover} {all n₂ : ℕ}
-    {text₂ : List ℕ} (k : CarriedOut c v n text cs all n₂ text₂) {txids heads links : List ℕ}
-    (f : TxidIndex wordsOf bucketOf b txids heads links) where
+    {text₂ : List ℕ} (k : CarriedOut c v n text cs all n₂ text₂) {keys heads links : List ℕ}
+    (f : KeyIndex wordsOf bucketOf b keys heads links) where
   -- any way it ends, from the decision that the verdict stands for
   module _ (d : Does) (does : v .does ≡ d) where
     abbrev decision : Decision
@@ -90,14 +89,14 @@ module _ {wordsOf : List ℕ → List ℕ} {bucketOf : List ℕ → ℕ} {b : Bo
         record { refusal = v .refusal; reports = sweptStep w .reports ++ toldBy c y; rows = y .rows; book = applied c y })
         does
 
-    kept-index : KeepsName c decision → TxidIndex wordsOf bucketOf (applied c decision) txids heads links
-    kept-index keeps = same-index (after-index w f) (keeps .count) (kept-txid c decision (after-sound w .orders .long) (ok .number) keeps)
+    kept-index : KeepsKey c decision → KeyIndex wordsOf bucketOf (applied c decision) keys heads links
+    kept-index keeps = same-index (after-index w f) (keeps .count) (kept-key c decision (after-sound w .orders .long) (ok .number) keeps)
 
-    ended : {b′ : Book} {rows n′ : ℕ} {text′ txids′ heads′ links′ : List ℕ} → b′ ≡ applied c decision → rows ≡ decision .rows
+    ended : {b′ : Book} {rows n′ : ℕ} {text′ keys′ heads′ links′ : List ℕ} → b′ ≡ applied c decision → rows ≡ decision .rows
         → n′ ≡ n + length (toldBy c decision) → text′ ≡ sets text (12 * n) (reportsBytes (toldBy c decision))
-        → TxidIndex wordsOf bucketOf (applied c decision) txids′ heads′ links′
-        → Done wordsOf bucketOf b t n₀ text₀ b′ (v .refusal) rows n′ text′ m txids′ heads′ links′ all
-    ended {b′} {rows} {n′} {text′} {txids′} {heads′} {links′} book is-rows told reports index =
+        → KeyIndex wordsOf bucketOf (applied c decision) keys′ heads′ links′
+        → Done wordsOf bucketOf b t n₀ text₀ b′ (v .refusal) rows n′ text′ m keys′ heads′ links′ all
+    ended {b′} {rows} {n′} {text′} {keys′} {heads′} {links′} book is-rows told reports index =
         let step = step-is in
         let told-all : sweptStep w .reports ++ toldBy c decision ≡ stepOf b t .reports = ap (λ (x : Step). x .reports) (sym step) in
         let book-step : b′ ≡ stepOf b t .book = book ∙ ap (λ (x : Step). x .book) (sym step) in
@@ -129,7 +128,7 @@ module _ {wordsOf : List ℕ → List ℕ} {bucketOf : List ℕ → ℕ} {b : Bo
               let h = w .few in
               let a = after-count w in
               omega arith;
-          index = subst (λ (x : Book). TxidIndex wordsOf bucketOf x txids′ heads′ links′) (sym book) index;
+          index = subst (λ (x : Book). KeyIndex wordsOf bucketOf x keys′ heads′ links′) (sym book) index;
           sum =
               k .sum
               ∙ ap allOf (k .covers ∙ both-moved w is d)
@@ -149,11 +148,11 @@ module _ {wordsOf : List ℕ → List ℕ} {bucketOf : List ℕ → ℕ} {b : Bo
   written-back = sym (set-getD (c .orders) number noOrder)
 
   pub did-nothing : {b′ : Book} → v .does ≡ Nothing → b′ ≡ withCovers c cs
-      → Done wordsOf bucketOf b t n₀ text₀ b′ (v .refusal) 0 n₂ text₂ m txids heads links all
+      → Done wordsOf bucketOf b t n₀ text₀ b′ (v .refusal) 0 n₂ text₂ m keys heads links all
   did-nothing does book =
       ended Nothing does
       (book ∙ ap₂ (λ (x : List Cover) (os : List Order). with x os (c .count)) (k .covers ∙ both-moved w is Nothing) written-back) refl
-      (k .told) (k .reports) (kept-index Nothing does (record { count = refl; txid = refl }))
+      (k .told) (k .reports) (kept-index Nothing does (record { count = refl; key = refl }))
 
   pub changed : {b′ : Book} {s : Status} {i : ℕ} → v .does ≡ Becomes s → i ≡ numberOf (soughtOrder c e t)
       → b′ ≡ record {
@@ -163,23 +162,24 @@ module _ {wordsOf : List ℕ → List ℕ} {bucketOf : List ℕ → ℕ} {b : Bo
         count = c .count;
         roster = c .roster;
       }
-      → Done wordsOf bucketOf b t n₀ text₀ b′ (v .refusal) 0 n₂ text₂ m txids heads links all
+      → Done wordsOf bucketOf b t n₀ text₀ b′ (v .refusal) 0 n₂ text₂ m keys heads links all
   changed {s = s} does at book =
       ended (Becomes s) does
       (book
       ∙ ap₂ (λ (x : List Cover) (j : ℕ). with x (set (c .orders) j (withStatus (orderOf (c .orders) j) s)) (c .count))
       (k .covers ∙ both-moved w is (Becomes s)) at)
-      refl (k .told) (k .reports) (kept-index (Becomes s) does (record { count = refl; txid = refl }))
+      refl (k .told) (k .reports) (kept-index (Becomes s) does (record { count = refl; key = refl }))
 
-  pub order-opened : {b′ : Book} {o : Order} {rows bucket : ℕ} {txids′ heads′ links′ : List ℕ} → v .does ≡ Opens
+  pub order-opened : {b′ : Book} {o : Order} {rows bucket : ℕ} {keys′ heads′ links′ : List ℕ} → v .does ≡ Opens
       → o ≡ newOrder (sought c e t)
       → b′ ≡ record { clock = c .clock; covers = cs; orders = set (c .orders) (c .count) o; count = c .count + 1; roster = c .roster }
       → rows ≡ rowsFollowed (sought c e t .way)
-      → ((s : List ℕ) → length s ≡ 35 → length (wordsOf s) ≡ 5) → bucket ≡ bucketOf (wordsOf (txidField t)) → bucket < rowBuckets
+      → length (wordsOf (keyOf (newOrder (sought c e t)))) ≡ 7 → bucket ≡ bucketOf (wordsOf (keyOf (newOrder (sought c e t))))
+      → bucket < rowBuckets
       → heads′ ≡ set heads bucket (c .count + 1) → links′ ≡ set links (c .count) (getD heads bucket 0)
-      → txids′ ≡ sets txids (5 * c .count) (wordsOf (txidField t))
-      → Done wordsOf bucketOf b t n₀ text₀ b′ (v .refusal) rows n₂ text₂ m txids′ heads′ links′ all
-  order-opened {b′} does is-o book is-rows wide is-bucket inside new-heads new-links new-txids =
+      → keys′ ≡ sets keys (7 * c .count) (wordsOf (keyOf (newOrder (sought c e t))))
+      → Done wordsOf bucketOf b t n₀ text₀ b′ (v .refusal) rows n₂ text₂ m keys′ heads′ links′ all
+  order-opened {b′} does is-o book is-rows wide is-bucket inside new-heads new-links new-keys =
       let long = after-sound w .orders .long in
       let d = decidedBy Opens (sought c e t) v in
       let may = ok Opens does in
@@ -187,14 +187,14 @@ module _ {wordsOf : List ℕ → List ℕ} {bucketOf : List ℕ → ℕ} {b : Bo
       (book
       ∙ ap₂ (λ (x : List Cover) (y : Order). with x (set (c .orders) (c .count) y) (c .count + 1)) (k .covers ∙ both-moved w is Opens) is-o)
       is-rows (k .told) (k .reports)
-      (more-index (after-index w f) (may .number) refl (λ i l. other-txid c d long (may .number) i (λ q. omega arith))
-      (applied-txid c d long (may .number)) (wide (txidField t) (may .txid)) is-bucket inside new-heads new-links new-txids)
+      (more-index (after-index w f) (may .number) refl (λ i l. other-key c d long (may .number) i (λ q. omega arith))
+      (applied-key c d long (may .number)) wide is-bucket inside new-heads new-links new-keys)
 
   pub cut : {b′ : Book} {r : Roster} {cs′ : List Cover} {n₃ : ℕ} {text₃ : List ℕ} → v .does ≡ Cuts → r ≡ b .roster
       → cs′ ≡ cutTo r cs (r .size)
       → b′ ≡ withCovers c cs′ → n₃ ≡ n₂ + length (cutReportsTo r cs (r .size))
       → text₃ ≡ sets text₂ (12 * n₂) (reportsBytes (cutReportsTo r cs (r .size)))
-      → Done wordsOf bucketOf b t n₀ text₀ b′ (v .refusal) 0 n₃ text₃ m txids heads links all
+      → Done wordsOf bucketOf b t n₀ text₀ b′ (v .refusal) 0 n₃ text₃ m keys heads links all
   cut {r = r} does roster is-cut book told reports =
       let ours : r ≡ c .roster = roster ∙ sym (after-roster w) in
       let may = fits w is in
@@ -211,4 +211,4 @@ module _ {wordsOf : List ℕ → List ℕ} {bucketOf : List ℕ → ℕ} {b : Bo
       ∙ ap₂ (λ (l : List ℕ) (x : ℕ). sets l (12 * x) (reportsBytes (cutReportsTo r cs (r .size)))) (k .reports) (k .told)
       ∙ put-further text n (verdictReports v) (cutReportsTo r cs (r .size))
       ∙ ap₂ (λ (x y : List Report). sets text (12 * n) (reportsBytes (x ++ y))) silent all-told)
-      (kept-index Cuts does (record { count = refl; txid = refl }))
+      (kept-index Cuts does (record { count = refl; key = refl }))

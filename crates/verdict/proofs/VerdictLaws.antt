@@ -4,12 +4,13 @@
 --     verdict-in-range    who moves and who is told are participants, and the order that is told of is one
 --     verdict-gains       the second mover stays or is given
 --     cuts-alone          a cut moves no cover by itself, and tells by the cut alone
-use mathlib.Core.Path.{_≡_, refl}
+--     opens-sent          only an order opens one, and it has a sender
+use mathlib.Core.Path.{_≡_, refl, subst}
 use mathlib.Core.Bool.{Bool, true, false, cond}
 use Prim.Native.Nat.{ℕ, _<_}
 use native.Mathlib.Omega.{arith}
 use lib.Dec.{eqb}
-use Rattle.fields.specs.Search.{numberOf}
+use Rattle.fields.specs.Search.{isFound, numberOf}
 use Rattle.fields.specs.declared.search.Found.{Found}
 use Rattle.fields.specs.declared.search.Found.the-variants as found
 use Rattle.ticket.specs.declared.kinds.Kind.{Kind}
@@ -35,7 +36,7 @@ use Rattle.rules.specs.declared.Status.the-variants as status
 use Rattle.rules.specs.declared.decision.Move.the-variants.{Give, Draw}
 use Rattle.rules.specs.declared.verdict.About.{About}
 use Rattle.rules.specs.declared.verdict.Facts.{Facts}
-use Rattle.rules.specs.declared.verdict.Does.the-variants.{Nothing, Cuts}
+use Rattle.rules.specs.declared.verdict.Does.the-variants.{Nothing, Opens, Cuts}
 use Rattle.rules.specs.declared.verdict.Verdict.{Verdict}
 use Rattle.verdict.specs.OwnStep.{
   unless,
@@ -58,6 +59,7 @@ use Rattle.verdict.specs.Judgement.{
   coverInRefusal,
   coverOutRefusal,
   orderRefusal,
+  orderVerdict,
   answerRefusal,
   recallRefusal,
   returnRefusal,
@@ -284,3 +286,29 @@ step-cuts kind.Tick x e = cc
 
 pub cuts-alone : (x : Facts) → verdictOf x .does ≡ Cuts → verdictOf x ≡ cutVerdict
 cuts-alone x = every (λ v. v .does ≡ Cuts → v ≡ cutVerdict) (λ n e. cc) x (step-cuts (x .kind) x)
+
+-- only an order opens one, and it has a sender
+step-opens : (k : Kind) (x : Facts) → stepFor k x .does ≡ Opens → k ≡ kind.Order
+step-opens kind.Order x e = refl
+step-opens kind.CoverIn x e = cc
+step-opens kind.CoverOut x e = cc
+step-opens kind.Yes x e = cc
+step-opens kind.No x e = cc
+step-opens kind.Recall x e = cc
+step-opens kind.Return x e = cc
+step-opens kind.Decline x e = cc
+step-opens kind.Inquiry x e = cc
+step-opens kind.Cut x e = cc
+step-opens kind.Confirm x e = cc
+step-opens kind.Tick x e = cc
+
+order-sent : (x : Facts) (sender : Found)
+    → orderVerdict sender (x .order) (x .route) (x .way) (x .count) (x .cover .available) (x .amount) .does ≡ Opens
+    → isFound sender ≡ true
+order-sent x (found.At p) e = refl
+order-sent x found.Nothing e = cc
+
+pub opens-sent : (x : Facts) → verdictOf x .does ≡ Opens → isFound (x .sender) ≡ true
+opens-sent x e =
+    let is = every (λ v. v .does ≡ Opens → x .kind ≡ kind.Order) (λ n e. cc) x (step-opens (x .kind) x) e in
+    order-sent x (x .sender) (subst (λ (k : Kind). verdictFor k x .does ≡ Opens) is e)

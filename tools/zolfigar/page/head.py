@@ -4,7 +4,7 @@ import re
 from collections.abc import Mapping, Sequence
 from xml.etree.ElementTree import Element
 
-from .. import telling
+from .. import audit, telling
 from ..history import Day
 from .markup import Child, folded, link, node, ticket_link
 
@@ -14,14 +14,14 @@ ADDS_UP = (
 )
 NOT_LOOKED_AT = (
     "Held against each other: tickets, answers, reports and closing positions. Which refusal a ticket should have had is not "
-    "looked at here, but for late recalls."
+    "looked at here, but for those that go by its sender and its order (12, 13, 16, 17), and for late recalls."
 )
 
 
 def targets(day: Day) -> dict[str, str]:
     """What a problem's sentence may name, longest first, with the place that it leads to."""
     names = {f"{p.bic}": f"p{p.number}" for p in reversed(day.participants)}
-    names |= {f"order {o.number} ({o.txid})": f"o{o.number}" for o in day.orders}
+    names |= {audit.name_of(order): f"o{order.number}" for order in day.orders}
     return dict(sorted(names.items(), key=lambda entry: -len(entry[0])))
 
 

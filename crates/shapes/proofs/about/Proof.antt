@@ -26,8 +26,8 @@ about-spec =
     let amount = rest .before in
     let amounts = amount .before .before in
     let spare = amounts .before in
-    let txid = spare .before in
-    let sender = txid .before in
+    let key = spare .before in
+    let sender = key .before in
     let a = sender .before .before in
     let t = now (a .args .t) in
     simp (
@@ -36,7 +36,7 @@ about-spec =
       ap (λ (x : Amounts). x .most) (amounts .amounts-of .ensures),
       amount .zero-u64-at .ensures,
       sender .sender .ensures,
-      txid .txid .ensures,
-      rest .around-txid .ensures,
+      key .key .ensures,
+      rest .from-iban .ensures,
     )
     (sym (shape-is HeldOrder (a .args .kind) t (a .pre .0) _ (about-formed (a .args .kind) t (a .pre .0 .names))))))

@@ -48,6 +48,19 @@ pub fn wrong_bic(random: &mut Random, other: &Bic) -> Bic {
     bic
 }
 
+/// A BIC that is none for small letters, for being zero, or for another fault.
+pub fn wrong_payer(random: &mut Random, other: &Bic) -> Bic {
+    let mut bic = *other;
+    match random.below(6) {
+        0 => bic.fill(0),
+        1 => bic.make_ascii_lowercase(),
+        2 => bic[..6][random.index(6)].make_ascii_lowercase(),
+        3 => bic[8..].fill(b'x'),
+        _ => return wrong_bic(random, other),
+    }
+    bic
+}
+
 pub fn tx_id(random: &mut Random) -> TxId {
     let length = match random.below(8) {
         0 => 1,

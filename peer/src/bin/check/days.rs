@@ -3,9 +3,9 @@
 use crate::codes;
 use crate::random::Random;
 use crate::setup::{new_bic, set_up, Setup};
-use peer::book::{Book, Recall, Status, LATE, MOST_ORDERS, WAIT};
-use peer::codes::{Bic, TxId};
-use peer::dayfile::{DayFile, Roster, MOST_OPENING, MOST_TICKETS};
+use peer::book::{Book, Order, Recall, Status, LATE, MOST_ORDERS, WAIT};
+use peer::codes::{unpadded, Bic, TxId, TX_ID_LEN};
+use peer::dayfile::{DayFile, Roster, Route, MOST_OPENING, MOST_TICKETS};
 use peer::report::BUFFER_LEN;
 use peer::ticket::{MOST_PAID, TICKET_LEN};
 use peer::writing::{padded, Day, TicketFields};
@@ -26,6 +26,8 @@ pub enum Style {
     NearLimit,
     /// Recalls, and answers to them, about ten days after the settlement, sometimes at the top of 32 bits.
     Recalls,
+    /// Members who number their orders from 1 each, so that they share TxIds.
+    Numbered,
     /// A full working day, with few faults.
     Working,
 }
@@ -37,6 +39,7 @@ fn weights(style: Style) -> [u64; 11] {
         Style::FullBook | Style::OneSecond => [10, 2, 60, 15, 4, 4, 2, 8, 2, 4, 2],
         Style::NearLimit => [25, 8, 10, 8, 4, 4, 2, 4, 12, 24, 3],
         Style::Recalls => [3, 2, 26, 26, 19, 7, 6, 9, 1, 2, 1],
+        Style::Numbered => [4, 2, 32, 27, 12, 10, 6, 15, 1, 1, 1],
         Style::Working => [4, 2, 47, 34, 3, 2, 1, 6, 1, 3, 1],
     }
 }
@@ -49,6 +52,7 @@ pub fn style(random: &mut Random) -> Style {
         8..=9 => Style::Working,
         10..=39 => Style::NearLimit,
         40..=59 => Style::Recalls,
+        60..=89 => Style::Numbered,
         _ => Style::Mixed,
     }
 }
@@ -72,6 +76,7 @@ fn ticket_count(random: &mut Random, style: Style) -> usize {
         Style::Long => random.between(100, 512),
         Style::NearLimit => random.between(5, 40),
         Style::Recalls => random.between(15, 75),
+        Style::Numbered => random.between(20, 90),
         Style::FullBook | Style::OneSecond => random.between(300, 512),
         Style::Working => 512,
     };
@@ -82,6 +87,8 @@ fn setup(random: &mut Random, style: Style) -> Setup {
     let participants = match style {
         Style::Working | Style::OneSecond => 32,
         Style::FullBook if random.one_in(2) => 32,
+        Style::Numbered if random.one_in(4) => random.between(12, 32),
+        Style::Numbered => random.between(2, 5),
         _ if random.one_in(20) => 32,
         _ if random.one_in(8) => random.between(1, 32),
         _ => random.between(1, 5),
@@ -98,6 +105,7 @@ fn setup(random: &mut Random, style: Style) -> Setup {
         wishes,
         openings_up_to: if style == Style::Working { 1_000_000 } else { MOST_OPENING },
         direct_routes_only: style == Style::Working,
+        short_bics: style == Style::Numbered,
     }
 }
 
@@ -158,6 +166,7 @@ impl<'a> Maker<'a> {
             Style::Mixed => self.random.below(3),
             Style::NearLimit => 1,
             Style::Recalls => 3,
+            Style::Numbered => 8,
             _ => 32,
         };
         if (number as u64) < starts_with_cover {
@@ -252,7 +261,7 @@ impl<'a> Maker<'a> {
         let one_in = match self.style {
             Style::Recalls if matches!(kind, 5..=7) => 4,
             Style::Recalls => 40,
-            Style::Mixed | Style::Long | Style::NearLimit => 200,
+            Style::Mixed | Style::Long | Style::NearLimit | Style::Numbered => 200,
             Style::FullBook | Style::OneSecond | Style::Working => return false,
         };
         self.random.one_in(one_in)
@@ -261,7 +270,7 @@ impl<'a> Maker<'a> {
     /// About 864,000 seconds after the settlement of the ticket's order, or of any if it names none, unless the clock is past
     /// that; after the order itself if it isn't settled.
     fn time_ten_days_later(&mut self, ticket: &TicketFields) -> u32 {
-        let Some(number) = self.book.order_with(&ticket.tx_id).or_else(|| self.order_with(|_| true, 100)) else {
+        let Some(number) = self.book.order_with(&ticket.named, &ticket.tx_id).or_else(|| self.order_with(|_| true, 100)) else {
             return ticket.time;
         };
         let order = &self.book.orders()[number];
@@ -306,7 +315,7 @@ impl<'a> Maker<'a> {
     }
 
     fn has_modest_amounts(&self) -> bool {
-        self.fills_the_book() || matches!(self.style, Style::Recalls | Style::Working)
+        self.fills_the_book() || matches!(self.style, Style::Recalls | Style::Numbered | Style::Working)
     }
 
     /// What a participant lacks of its opening cover.
@@ -340,8 +349,8 @@ impl<'a> Maker<'a> {
             _ => self.random.between(1, 500),
         };
         let mut ticket = TicketFields { amount, iban: codes::iban(self.random), ..self.from(3, payer) };
-        ticket.payee = self.payee();
-        ticket.tx_id = self.new_tx_id();
+        ticket.named = self.payee();
+        ticket.tx_id = self.new_tx_id(payer);
         ticket
     }
 
@@ -364,22 +373,71 @@ impl<'a> Maker<'a> {
         new_bic(self.random, &bics)
     }
 
-    /// Mostly a new TxId, else one that is held.
-    fn new_tx_id(&mut self) -> TxId {
+    /// Mostly a TxId that the payer hasn't, often another's, else one that it has.
+    fn new_tx_id(&mut self, payer: usize) -> TxId {
         if self.style == Style::Working {
             let bytes = format!("{:010}/{:012x}", self.day.tickets.len(), self.random.next() >> 16);
             return padded(bytes.as_bytes());
         }
-        match self.held_tx_id() {
-            Some(held) if self.random.one_in(20) => held,
-            Some(held) if self.random.one_in(4) => codes::near_tx_id(self.random, &held),
-            _ => codes::tx_id(self.random),
-        }
+        let Some(held) = self.held_order().map(|order| order.tx_id) else {
+            return codes::tx_id(self.random);
+        };
+        let tx_id = match self.random.below(60) {
+            0..=2 => self.own_tx_id(payer),
+            3..=10 => self.anothers_tx_id(payer),
+            11..=14 => self.joined_tx_id(payer),
+            15..=26 => Some(codes::near_tx_id(self.random, &held)),
+            _ if self.style == Style::Numbered => Some(self.next_number(payer)),
+            _ => None,
+        };
+        tx_id.unwrap_or_else(|| codes::tx_id(self.random))
     }
 
-    fn held_tx_id(&mut self) -> Option<TxId> {
+    fn held_order(&mut self) -> Option<&Order> {
         let orders = self.book.orders();
-        (!orders.is_empty()).then(|| orders[self.random.index(orders.len())].tx_id)
+        (!orders.is_empty()).then(|| &orders[self.random.index(orders.len())])
+    }
+
+    /// The TxId of an order that the payer has made.
+    fn own_tx_id(&mut self, payer: usize) -> Option<TxId> {
+        self.orders_in_turn().find(|order| usize::from(order.payer) == payer).map(|order| order.tx_id)
+    }
+
+    /// The TxId of another's order, if it has one that the payer hasn't.
+    fn anothers_tx_id(&mut self, payer: usize) -> Option<TxId> {
+        let bic = self.bic(payer);
+        let orders = self.orders_in_turn().map(|order| order.tx_id).collect::<Vec<_>>();
+        orders.into_iter().find(|tx_id| self.book.order_with(&bic, tx_id).is_none())
+    }
+
+    /// All orders, from any of them on.
+    fn orders_in_turn(&mut self) -> impl Iterator<Item = &Order> {
+        let orders = self.book.orders();
+        let start = if orders.is_empty() { 0 } else { self.random.index(orders.len()) };
+        orders[start..].iter().chain(&orders[..start])
+    }
+
+    /// The number of the payer's next order, counted from 1.
+    fn next_number(&mut self, payer: usize) -> TxId {
+        let made = self.book.orders().iter().filter(|order| usize::from(order.payer) == payer).count();
+        padded((made + 1).to_string().as_bytes())
+    }
+
+    /// A TxId that, joined with the payer's BIC without XXX or with its number, is what another order has.
+    fn joined_tx_id(&mut self, payer: usize) -> Option<TxId> {
+        let by_number = self.random.one_in(2);
+        let bics: Vec<Bic> = self.book.roster().participants().iter().map(|participant| participant.bic).collect();
+        let code = |participant: usize| match bics[participant].strip_suffix(b"XXX") {
+            _ if by_number => participant.to_string().into_bytes(),
+            Some(short) => short.to_vec(),
+            None => bics[participant].to_vec(),
+        };
+        let rest = |order: &Order| {
+            let joined = [&code(order.payer.into())[..], unpadded(&order.tx_id)].concat();
+            let rest = joined.strip_prefix(&code(payer)[..])?;
+            (usize::from(order.payer) != payer && (1..=TX_ID_LEN).contains(&rest.len())).then(|| padded(rest))
+        };
+        self.orders_in_turn().find_map(rest)
     }
 
     fn answer(&mut self) -> TicketFields {
@@ -397,7 +455,7 @@ impl<'a> Maker<'a> {
     fn return_order(&mut self) -> TicketFields {
         let is_second = self.style != Style::Working && self.random.one_in(12);
         let ticket = self.about(6, if is_second { is_returned } else { is_asked }, false);
-        let amount = match self.book.order_with(&ticket.tx_id) {
+        let amount = match self.book.order_with(&ticket.named, &ticket.tx_id) {
             Some(number) => self.returned(number),
             None => self.random.between(1, 1000),
         };
@@ -441,7 +499,12 @@ impl<'a> Maker<'a> {
         let working = self.style == Style::Working;
         let Some(number) = self.order_with(fits, if working { 100 } else { 92 }) else {
             let sender = self.participant();
-            return TicketFields { flag: first_flag(kind), tx_id: codes::tx_id(self.random), ..self.from(kind, sender) };
+            return TicketFields {
+                flag: first_flag(kind),
+                named: self.bic(sender),
+                tx_id: codes::tx_id(self.random),
+                ..self.from(kind, sender)
+            };
         };
         let order = &self.book.orders()[number];
         let (payer, payee, mut tx_id) = (order.payer, order.payee, order.tx_id);
@@ -454,7 +517,40 @@ impl<'a> Maker<'a> {
         if !working && self.random.one_in(40) {
             flag = self.random.pick(&[first_flag(kind).saturating_sub(1), last_flag(kind) + 1]);
         }
-        TicketFields { flag, tx_id, ..self.from(kind, sender) }
+        let named = if working { self.bic(payer.into()) } else { self.named_payer(number, sender) };
+        TicketFields { flag, named, tx_id, ..self.from(kind, sender) }
+    }
+
+    /// Mostly the order's payer, else another payer, or one that just misses it.
+    fn named_payer(&mut self, number: usize, sender: usize) -> Bic {
+        let order = &self.book.orders()[number];
+        let (payer, tx_id) = (order.payer, order.tx_id);
+        let bic = self.bic(payer.into());
+        let other_one_in = match self.style {
+            Style::Numbered => 5,
+            Style::Recalls => 20,
+            _ => 10,
+        };
+        if !self.random.one_in(other_one_in) {
+            return bic;
+        }
+        let other = self.participant();
+        match self.random.below(12) {
+            0 | 1 => self.bic(other),
+            2 | 3 => {
+                let shares = |order: &&Order| order.tx_id == tx_id && order.payer != payer;
+                let holder = self.orders_in_turn().find(shares).map_or(other, |order| order.payer.into());
+                self.bic(holder)
+            }
+            4 | 5 => self.bic(sender),
+            6 => {
+                let leads_to = |route: &&Route| route.payee == payer && route.bic != bic;
+                self.book.roster().routes().iter().find(leads_to).map_or(bic, |route| route.bic)
+            }
+            7 => codes::near_bic(self.random, &bic),
+            8 => self.strange_bic(),
+            _ => codes::wrong_payer(self.random, &bic),
+        }
     }
 
     /// An order of that status, if there is one, else any; this many times in a hundred.
@@ -524,8 +620,8 @@ impl<'a> Maker<'a> {
             0 | 1 => ticket.time = clock.saturating_sub(self.random.of_any_size(1000) as u32),
             2 | 3 => ticket.sender = self.strange_bic(),
             4 => ticket.sender = codes::wrong_bic(self.random, &ticket.sender),
-            5 => ticket.payee = self.bic_without_route(),
-            6 => ticket.payee = codes::wrong_bic(self.random, &ticket.payee),
+            5 => ticket.named = self.bic_without_route(),
+            6 => ticket.named = codes::wrong_bic(self.random, &ticket.named),
             7 | 8 => ticket.amount = 0,
             9 => {
                 let cover_and_more = MOST_COVER + self.random.below(1000);
@@ -534,7 +630,7 @@ impl<'a> Maker<'a> {
             }
             10 => ticket.tx_id = codes::wrong_tx_id(self.random, &ticket.tx_id),
             11 => ticket.tx_id = codes::tx_id(self.random),
-            12 => ticket.tx_id = self.held_tx_id().unwrap_or(ticket.tx_id),
+            12 => self.name_held_order(ticket),
             13 | 14 => ticket.iban = codes::wrong_iban(self.random),
             15 => ticket.flag = self.random.pick(&[0, 1, 2, 3, 4, 5, 6, 7, 8, 255]),
             16 => ticket.kind = self.random.pick(&[0, 1, 2, 3, 4, 5, 6, 7, 8, 9, 10, 11, 12, 255]),
@@ -543,6 +639,16 @@ impl<'a> Maker<'a> {
                 ticket.sender = self.bic(participant);
             }
         }
+    }
+
+    /// Payer and TxId of an order that is held.
+    fn name_held_order(&mut self, ticket: &mut TicketFields) {
+        let Some((payer, tx_id)) = self.held_order().map(|order| (order.payer, order.tx_id)) else {
+            return;
+        };
+        let payer = self.bic(payer.into());
+        *(if ticket.kind == 3 { &mut ticket.sender } else { &mut ticket.named }) = payer;
+        ticket.tx_id = tx_id;
     }
 
     /// A BIC that no participant has.

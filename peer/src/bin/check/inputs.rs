@@ -77,6 +77,7 @@ fn style(turn: u64) -> Style {
         3 => Style::Long,
         4..=15 => Style::NearLimit,
         16..=31 => Style::Recalls,
+        32..=41 => Style::Numbered,
         _ => Style::Mixed,
     }
 }
@@ -84,7 +85,8 @@ fn style(turn: u64) -> Style {
 /// All 256 orders of a full book expire at a cut that tells all 32 participants: 544 reports, to the last byte of the least buffer.
 fn fullest(random: &mut Random) -> Case {
     let openings_up_to = 1_000_000;
-    let setup = Setup { participants: MOST_PARTICIPANTS, systems: 0, wishes: 100, openings_up_to, direct_routes_only: true };
+    let (participants, systems, wishes) = (MOST_PARTICIPANTS, 0, 100);
+    let setup = Setup { participants, systems, wishes, openings_up_to, direct_routes_only: true, short_bics: false };
     let mut day = set_up(random, &setup);
     let bics: Vec<Bic> = day.participants.iter().map(|row| padded(&row[..11])).collect();
     let time = random.below(1000) as u32;
@@ -96,7 +98,7 @@ fn fullest(random: &mut Random) -> Case {
     for number in 0..MOST_ORDERS {
         let (sender, payee) = (random.pick(&bics), random.pick(&bics));
         let (tx_id, iban) = (padded(number.to_string().as_bytes()), codes::iban(random));
-        day.tickets.push(TicketFields { sender, payee, tx_id, iban, amount: 1, ..TicketFields::new(3, time) }.bytes());
+        day.tickets.push(TicketFields { sender, named: payee, tx_id, iban, amount: 1, ..TicketFields::new(3, time) }.bytes());
     }
     day.tickets.push(TicketFields::new(9, time + WAIT).bytes());
     let mut inputs = inputs(random, Style::OneSecond, &day);

@@ -1,12 +1,13 @@
 //! Counts what the cases met: refusals, accepted kinds, lengths of tickets and buffers, what was kept, and books at the end.
 
 use crate::inputs::Case;
+use crate::pair_tally;
 use crate::tally::{print_row, ANSWERS};
 use crate::verdict::Lacks;
 use peer::book::{Answer, Book, Order, Recall, Status, LATE};
 use peer::handing::{open, Input};
 use peer::report::{BUFFER_LEN, REPORT_LEN};
-use peer::ticket::TICKET_LEN;
+use peer::ticket::{Kind, Ticket, TICKET_LEN};
 use std::collections::BTreeMap;
 
 /// Everything that is counted by name.
@@ -53,6 +54,16 @@ const NAMES: &[&str] = &[
     "Settled-asked at the end, settled between order and clock",
     "Settled-declined at the end, settled between order and clock",
     "settlement 864,000 seconds or more before the end",
+    "TxId of two orders at the end",
+    "TxId of three orders or more at the end",
+    "orders of one TxId at the end with one payee",
+    "orders of one TxId at the end, one to its payer",
+    "orders of one TxId at the end, of two statuses",
+    "refusal 6 of an order with another payer's TxId",
+    "refusal 7 for the payer alone",
+    "refusal 13, another payer has that TxId too",
+    "refusal 16, another payer has that TxId",
+    "refusal 17, another payer has that TxId too",
 ];
 
 pub struct InputsTally {
@@ -79,6 +90,7 @@ impl InputsTally {
         for input in &case.inputs {
             let answer = book.hand_in(&input.ticket, &mut vec![input.fill; input.buffer]);
             self.answer(input, answer);
+            self.pair(&book, input, answer);
             let is_again = short.is_some_and(|before| before.ticket == input.ticket);
             self.count_if(is_again && answer.refusal.is_none(), "refusal 6 of a ticket that is accepted with a longer buffer");
             short = (input.buffer < BUFFER_LEN).then_some(input);
@@ -147,9 +159,46 @@ impl InputsTally {
             self.count_if(cover.held != 0, "held at the end");
             self.count_if(cover.open_debit != 0, "open debit at the end");
         }
-        for order in book.orders() {
+        for (number, order) in book.orders().iter().enumerate() {
             self.order(order);
             self.settlement(order, book.clock());
+            self.tx_id(order, &book.orders()[..number]);
+        }
+    }
+
+    /// An order's TxId among the orders before it, of which no two have it of one payer.
+    fn tx_id(&mut self, order: &Order, before: &[Order]) {
+        let others: Vec<&Order> = before.iter().filter(|other| other.tx_id == order.tx_id).collect();
+        let is_own = |order: &Order| order.payer == order.payee;
+        self.count_if(others.len() == 1, "TxId of two orders at the end");
+        self.count_if(others.len() == 2, "TxId of three orders or more at the end");
+        self.count_if(others.iter().any(|other| other.payee == order.payee), "orders of one TxId at the end with one payee");
+        self.count_if(
+            others.iter().any(|other| is_own(other) != is_own(order)),
+            "orders of one TxId at the end, one to its payer",
+        );
+        self.count_if(others.iter().any(|other| other.status != order.status), "orders of one TxId at the end, of two statuses");
+    }
+
+    /// What an input's payer and TxId met, with the book after it.
+    fn pair(&mut self, book: &Book, input: &Input, answer: Answer) {
+        let Ok(bytes) = <&[u8; TICKET_LEN]>::try_from(&input.ticket[..]) else {
+            return;
+        };
+        let refusal = answer.refusal_number();
+        self.count_if(refusal == 7 && pair_tally::refused_by_7(bytes).is_some(), "refusal 7 for the payer alone");
+        let Ok(ticket) = Ticket::read(bytes) else {
+            return;
+        };
+        let payer = book.roster().participant_with(ticket.payer());
+        if book.orders().iter().any(|order| order.tx_id == *ticket.tx_id && Some(order.payer) != payer) {
+            match refusal {
+                6 if ticket.kind == Kind::Order => self.count("refusal 6 of an order with another payer's TxId"),
+                13 => self.count("refusal 13, another payer has that TxId too"),
+                16 => self.count("refusal 16, another payer has that TxId"),
+                17 => self.count("refusal 17, another payer has that TxId too"),
+                _ => (),
+            }
         }
     }
 

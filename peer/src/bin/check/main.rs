@@ -22,6 +22,7 @@ mod message_rest;
 mod message_tally;
 mod message_tree;
 mod messages;
+mod pair_tally;
 mod program;
 mod random;
 mod recall_tally;
@@ -66,7 +67,7 @@ if there are programs for these. What is never met fails the check from 10000 da
 
 const DEFAULT_DAYS: u64 = 20_000;
 /// So many days meet everything, with each of 100 seeds; in 4,000 days two of these lack one thing each. The rarest is a ticket
-/// with 544 reports: 26 of it in 20,000 days.
+/// with 544 reports: 28 of it in 20,000 days.
 const ENOUGH_DAYS: u64 = 10_000;
 /// Days that go through the program at once.
 const BATCH: u64 = 250;

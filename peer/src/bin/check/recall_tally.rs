@@ -125,14 +125,14 @@ mod tests {
 
     fn about(kind: u8, time: u32, sender: &Bic) -> TicketFields {
         let (flag, amount) = if kind == 6 { (0, 399) } else { (u8::from(kind != 8), 0) };
-        TicketFields { flag, amount, sender: *sender, tx_id: padded(b"X"), ..TicketFields::new(kind, time) }
+        TicketFields { flag, amount, sender: *sender, named: *BANK, tx_id: padded(b"X"), ..TicketFields::new(kind, time) }
     }
 
     /// What is met with an order of 400 from the bank to the linked system, made and settled at these times, and the tickets after it.
     fn names(times: (u32, u32), after: &[TicketFields]) -> Vec<&'static str> {
         let cover = TicketFields { amount: 1000, sender: *BANK, ..TicketFields::new(1, 0) };
-        let (payee, iban) = (*SYSTEM, padded(b"LV80BANK0000435195001"));
-        let order = TicketFields { amount: 400, payee, iban, flag: 0, ..about(3, times.0, BANK) };
+        let iban = padded(b"LV80BANK0000435195001");
+        let order = TicketFields { amount: 400, named: *SYSTEM, iban, flag: 0, ..about(3, times.0, BANK) };
         let tickets = [cover, order, about(4, times.1, SYSTEM)];
         let day = Day {
             participants: vec![participant_row(BANK, 0, None), participant_row(SYSTEM, 1, None)],

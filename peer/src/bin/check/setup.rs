@@ -16,6 +16,8 @@ pub struct Setup {
     pub openings_up_to: u64,
     /// A direct route for each participant, and no other.
     pub direct_routes_only: bool,
+    /// Some BICs are the first eight bytes of another with XXX.
+    pub short_bics: bool,
 }
 
 /// A day without tickets.
@@ -23,7 +25,10 @@ pub fn set_up(random: &mut Random, setup: &Setup) -> Day {
     let mut day = Day::default();
     let mut bics: Vec<Bic> = Vec::new();
     while bics.len() < setup.participants.min(MOST_PARTICIPANTS) {
-        let bic = new_bic(random, &bics);
+        let bic = match bics.last().map(short_bic) {
+            Some(short) if setup.short_bics && !bics.contains(&short) && random.one_in(3) => short,
+            _ => new_bic(random, &bics),
+        };
         let kind = random.percent(setup.systems).into();
         let opening = random.percent(setup.wishes).then(|| opening(random, setup.openings_up_to));
         day.participants.push(participant_row(&bic, kind, opening));
@@ -31,6 +36,12 @@ pub fn set_up(random: &mut Random, setup: &Setup) -> Day {
     }
     add_routes(random, setup, &bics, &mut day);
     day
+}
+
+fn short_bic(bic: &Bic) -> Bic {
+    let mut short = *bic;
+    short[8..].fill(b'X');
+    short
 }
 
 /// A BIC that none of the others is.

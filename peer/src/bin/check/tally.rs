@@ -1,15 +1,16 @@
 //! Counts what the days met: refusals, accepted kinds, report codes, steps and faults of files.
 
 use crate::damage::FAULTS;
+use crate::pair_tally;
 use crate::recall_tally;
 use crate::verdict::Lacks;
 use peer::book::{Answer, Book, Cover, Order, Recall, Status, WAIT};
-use peer::codes::{is_iban, unpadded, IBAN_LEN};
+use peer::codes::{is_iban, unpadded, Bic, IBAN_LEN};
 use peer::dayfile::{DayFile, MOST_OPENING};
 use peer::report::{reports, Report, BUFFER_LEN, MOST_REPORTS};
 use peer::ticket::{Kind, Ticket, IBAN_AT, MOST_PAID, TICKET_LEN};
 use peer::MOST_COVER;
-use std::collections::BTreeMap;
+use std::collections::{BTreeMap, BTreeSet};
 
 /// Everything a ticket can do that is counted by name.
 const STEPS: &[&str] = &[
@@ -91,7 +92,7 @@ const STEPS: &[&str] = &[
 ];
 
 fn steps() -> impl Iterator<Item = &'static str> {
-    STEPS.iter().chain(recall_tally::NAMES).copied()
+    STEPS.iter().chain(recall_tally::NAMES).copied().chain(pair_tally::names())
 }
 
 /// One more than the last refusal of a ticket.
@@ -131,6 +132,8 @@ pub struct Tally {
     faults: Vec<u64>,
     /// The times of the day's recalls, accepted or late, by order; of several late ones the first.
     recalls: BTreeMap<usize, u32>,
+    /// The day's orders that were inquired about after they had ended.
+    asked: BTreeSet<usize>,
 }
 
 impl Tally {
@@ -144,6 +147,7 @@ impl Tally {
             steps: steps().map(|name| (name, 0)).collect(),
             faults: vec![0; FAULTS.len()],
             recalls: BTreeMap::new(),
+            asked: BTreeSet::new(),
         }
     }
 
@@ -163,6 +167,7 @@ impl Tally {
         let mut book = Book::new(day.roster);
         let mut buffer = [0; BUFFER_LEN];
         self.recalls.clear();
+        self.asked.clear();
         for ticket in tickets {
             self.ticket(&mut book, ticket, &mut buffer);
         }
@@ -181,14 +186,18 @@ impl Tally {
         for report in reports(buffer, answer.reports) {
             self.reports[usize::from(report.code)] += 1;
         }
+        if refusal == 7 {
+            pair_tally::refused_by_7(bytes).into_iter().for_each(|name| self.count(name));
+        }
         if refusal == 8 {
             self.small_letters(unpadded(&bytes[IBAN_AT..IBAN_AT + IBAN_LEN]));
         }
         if let Some(ticket) = ticket.filter(|_| !(7..=11).contains(&refusal)) {
-            let recalled_at = book.order_with(ticket.tx_id).and_then(|number| self.recalls.get(&number).copied());
+            let recalled_at = book.order_with(ticket.payer(), ticket.tx_id).and_then(|number| self.recalls.get(&number).copied());
             let seen = Seen { book, ticket: &ticket, answer, buffer, cover_before: cover, clock_before: clock, recalled_at };
             self.waits(&seen);
             self.recalls(&seen);
+            self.pairs(&seen);
             match (refusal, ticket.kind) {
                 (0, _) => self.step(&seen),
                 (18..=20, Kind::Return) => self.refused_return(&seen, refusal),
@@ -234,10 +243,17 @@ impl Tally {
     fn recalls(&mut self, seen: &Seen) {
         recall_tally::met(seen).for_each(|name| self.count(name));
         if seen.ticket.kind == Kind::Recall && matches!(seen.answer.refusal_number(), 0 | 26) {
-            if let Some(number) = seen.book.order_with(seen.ticket.tx_id) {
+            if let Some(number) = seen.order_number() {
                 self.recalls.entry(number).or_insert(seen.ticket.time);
             }
         }
+    }
+
+    /// What is met by payer and TxId.
+    fn pairs(&mut self, seen: &Seen) {
+        let names: Vec<_> = pair_tally::met(seen, &self.asked).collect();
+        names.into_iter().for_each(|name| self.count(name));
+        self.asked.extend(pair_tally::asked_and_ended(seen));
     }
 
     /// What the ticket's time does, before its own step.
@@ -311,7 +327,7 @@ impl Tally {
     }
 
     fn held_order(&mut self, seen: &Seen) {
-        let Some(number) = seen.book.order_with(seen.ticket.tx_id) else {
+        let Some(number) = seen.order_number() else {
             return;
         };
         let order = &seen.book.orders()[number];
@@ -478,7 +494,28 @@ pub struct Seen<'a> {
 impl Seen<'_> {
     /// The order that the ticket names.
     pub fn order(&self) -> Option<&Order> {
-        self.book.order_with(self.ticket.tx_id).map(|number| &self.book.orders()[number])
+        self.order_number().map(|number| &self.book.orders()[number])
+    }
+
+    pub fn order_number(&self) -> Option<usize> {
+        self.book.order_with(self.ticket.payer(), self.ticket.tx_id)
+    }
+
+    pub fn orders(&self) -> &[Order] {
+        self.book.orders()
+    }
+
+    pub fn number_of(&self, bic: &Bic) -> Option<u8> {
+        self.book.roster().participant_with(bic)
+    }
+
+    pub fn bic_of(&self, participant: u8) -> &Bic {
+        &self.book.roster().participants()[usize::from(participant)].bic
+    }
+
+    /// The participant that a route row with that BIC leads to.
+    pub fn route_to(&self, bic: &Bic) -> Option<u8> {
+        self.book.roster().route_with(bic).map(|route| route.payee)
     }
 
     pub fn is_bank(&self, participant: u8) -> bool {

@@ -1,6 +1,6 @@
 -- `cases::tickets::seen` is safe: no rows at all may be lent to a search. Assumes nothing.
 use borrow.Author.Needs.{needs}
-use Rattle.cases.proofs.Empty.{no-bics, no-txids}
+use Rattle.cases.proofs.Empty.{no-bics, no-keys}
 use Rattle.cases.proofs.tickets.seen.Statement.{statement}
 use Rattle.cases.proofs.tickets.seen.Tie as tie
 
@@ -23,9 +23,9 @@ seen-spec =
     (λ c. search needs)
     (λ c. search needs)
     (λ c κs.
-    let txids = c .before .before .before .before .before .before .before .before .before .before .before in
-    let bics = txids .before .before .before .before in
+    let keys = c .before .before .before .before .before .before .before .before .before .before .before in
+    let bics = keys .before .before .before .before in
     let b = bics .bic-chains .ensures in
-    let x = txids .txid-chains .ensures in
-    (bics .before .before .if1 .left, no-bics (b .0) (b .2), no-txids (x .0) (x .2), no-bics (b .0) (b .2)))
+    let x = keys .key-chains .ensures in
+    (bics .before .before .if1 .left, no-bics (b .0) (b .2), no-keys (x .0) (x .2), no-bics (b .0) (b .2)))
     (λ c. search needs))

@@ -3,8 +3,8 @@
 -- places by Inv-loop2 μ-loop2 Inv-loop μ-loop
 -- place start: Start
 -- place known: After-shared-slice-known
--- place rows: After-txids-of
--- place chains: After-txid-chains
+-- place rows: After-keys-of
+-- place chains: After-key-chains
 -- place head: At-loop
 -- place room: Then1
 -- place seen: After-see
@@ -39,12 +39,11 @@
 -- place late-told: After-put-answer2
 use native.Mathlib.Omega.{arith}
 use borrow.Author.Needs.{needs}
+use Rattle.codes.proofs.WholeCodes.{bic-length}
 use Rattle.course.proofs.Running.{ended}
 use Rattle.course.proofs.Seeking.{total-sum}
 use Rattle.turns.proofs.Turn.{loop-begun}
-use Rattle.turns.proofs.Done.{answer-is}
-use Rattle.core.proofs.LoopKeeping.{kept-on}
-use Rattle.core.proofs.Searching.{txids-lent}
+use Rattle.core.proofs.Searching.{keys-lent}
 use Rattle.core.proofs.taking.take.Statement.{statement}
 use Rattle.core.proofs.taking.take.Tie as tie
 use Rattle.core.proofs.taking.take.Proof.Invariants.{Inv-loop2, μ-loop2, Inv-loop, μ-loop}
@@ -57,17 +56,15 @@ use Rattle.core.proofs.taking.take.Proof.Loop.{
   sound,
   long-answers,
   long-reports,
-  ticket-is,
   head,
-  more,
   room,
   next-fits,
   whole-ticket,
+  sender-long,
   txid-long,
   last,
   none-more,
 }
-use Rattle.core.proofs.taking.take.Proof.Seen.{refused-done, refused-is}
 use Rattle.core.proofs.taking.take.Proof.Expiring.{
   outer,
   taken,
@@ -84,6 +81,7 @@ use Rattle.core.proofs.taking.take.Proof.Judging.{sender-number, order-
 use Rattle.core.proofs.taking.take.Proof.Refusing.{late-done}
 use Rattle.core.proofs.taking.take.Proof.Carrying.{first-sum, second-has, second-sum, notices-fit}
 use Rattle.core.proofs.taking.take.Proof.Ending.{space, few-participants, cut-fits, uncut-whole, done}
+use Rattle.core.proofs.taking.take.Proof.Going.{refused-on, late-on, done-on}
 use Rattle.core.proofs.taking.take.Proof.Ways as to
 pub mod Invariants
 pub mod Places
@@ -96,6 +94,7 @@ pub mod Judging
 pub mod Refusing
 pub mod Carrying
 pub mod Ending
+pub mod Going
 
 pub take-spec : {M : Type 1} → statement M
 take-spec =
@@ -105,11 +104,18 @@ take-spec =
     μ-loop2
     Inv-loop
     μ-loop
-    (λ c κs. let s = to.start-from-After-orders c .pre .0 .orders in (s .count, s .padded))
-    (λ c. let h = c .before .txids-of .ensures .0 in search needs)
     (λ c κs.
-    let few = to.start-from-After-txids c .pre .0 .orders .count in
-    let h = c .before .txids-of .ensures .0 in
+    let s = to.start-from-After-participants c .pre .0 in
+    let size = s .roster .size in (
+      s .orders .count,
+      λ i l. let payer = s .orders .payer i l in omega arith,
+      λ i l. bic-length _ (s .roster .bic _ (s .orders .payer i l)),
+      s .orders .padded,
+    ))
+    (λ c. let h = c .before .keys-of .ensures .0 in search needs)
+    (λ c κs.
+    let few = to.start-from-After-keys c .pre .0 .orders .count in
+    let h = c .before .keys-of .ensures .0 in
     (omega arith, omega arith))
     (λ c κs. let s = to.start-from-After-covers c in (s .pre .0 .roster .size, rw (total-sum (s .args .t1)) (s .pre .0 .limited)))
     (λ c. taking-begun c)
@@ -127,11 +133,11 @@ take-spec =
     (λ c. let h = room c .ticket in let g = start (head c) .good in search needs)
     (λ c. let h = to.head-from-After-heads2 c .loop .inv .index .headed in search needs)
     (λ c. let h = to.head-from-After-links2 c .loop .inv .index .linked in search needs)
-    (λ c. let h = to.head-from-After-txids2 c .loop .inv .index .long in search needs)
+    (λ c. let h = to.head-from-After-keys2 c .loop .inv .index .long in search needs)
     (λ c κs.
-    let h = to.head-from-After-txids2 c in
+    let h = to.head-from-After-keys2 c in
     let d = start h .pre .1 in
-    (whole-ticket (to.room-from-After-txids2 c), d .senders, txids-lent (sound h) (h .loop .inv .index), d .payees))
+    (whole-ticket (to.room-from-After-keys2 c), d .senders, keys-lent (sound h) (h .loop .inv .index), d .payees))
     (λ c. search needs)
     (λ c. search needs)
     (λ c κs. search needs)
@@ -141,10 +147,7 @@ take-spec =
     omega arith)
     (λ c. let h = next-fits (to.room-from-After-slice-known3 c) in omega arith)
     (λ c. let h = room (to.room-from-After-slice-known3 c) .ticket in omega arith)
-    (λ c.
-    let h = to.head-from-After-slice-known3 c in
-    kept-on (h .loop .inv) (more (to.room-from-After-slice-known3 c)) (ticket-is h) (refused-done (to.refused-from-After-slice-known3 c))
-    (refused-is (to.number-from-After-slice-known3 c)) (to.answered-from-After-slice-known3 c .put-answer .ensures))
+    (λ c. refused-on c)
     (λ c.
     let h = outer c in
     (loop-begun (taken c) (h .loop .inv .passed), omega arith, h .loop .inv .few))
@@ -192,11 +195,7 @@ take-spec =
     omega arith)
     (λ c. let h = next-fits (to.room-from-After-slice-known5 c) in omega arith)
     (λ c. let h = room (to.room-from-After-slice-known5 c) .ticket in omega arith)
-    (λ c.
-    let h = to.head-from-After-slice-known5 c in
-    let d = late-done (to.late-from-After-slice-known5 c) in
-    kept-on (h .loop .inv) (more (to.room-from-After-slice-known5 c)) (ticket-is h) d (answer-is d)
-    (to.late-told-from-After-slice-known5 c .put-answer2 .ensures))
+    (λ c. late-on c)
     (λ c. let h = suits (to.judged-from-After-first c) .first in search needs)
     (λ c. suits (to.judged-from-After-first c) .first)
     (λ c κs. suits (to.judged-from-After-old c) .firstRoom)
@@ -219,16 +218,20 @@ take-spec =
     (λ c κs. txid-long (to.room-from-After-txid c))
     (λ c. let h = to.head-from-After-heads3 c .loop .inv .index .headed in search needs)
     (λ c. let h = to.head-from-After-links3 c .loop .inv .index .linked in search needs)
-    (λ c. let h = to.head-from-After-txids3 c .loop .inv .index .long in search needs)
+    (λ c. let h = to.head-from-After-keys3 c .loop .inv .index .long in search needs)
     (λ c. search needs)
     (λ c. search needs)
-    (λ c. let h = whole-ticket (to.room-from-After-txids3 c) in search needs)
+    (λ c. let h = whole-ticket (to.room-from-After-keys3 c) in search needs)
+    (λ c. search needs)
+    (λ c. search needs)
+    (λ c. let h = whole-ticket (to.room-from-After-put-key-arg c) in search needs)
     (λ c κs.
-    let x = to.head-from-After-put-txid-arg c .loop .inv .index in
-    let few = space (to.opens-from-After-put-txid-arg c) in
+    let x = to.head-from-After-put-key-arg2 c .loop .inv .index in
+    let few = space (to.opens-from-After-put-key-arg2 c) in
     let linked = x .linked in
     let long = x .long in
-    (x .headed, omega arith, omega arith, omega arith, txid-long (to.room-from-After-put-txid-arg c)))
+    let r = to.room-from-After-put-key-arg2 c in
+    (x .headed, omega arith, omega arith, omega arith, sender-long r, txid-long r))
     (λ c κs. search needs)
     (λ c κs. search needs)
     (λ c. let h = space (to.opens-from-After-reached c) in search needs)
@@ -252,11 +255,7 @@ take-spec =
     omega arith)
     (λ c. let h = next-fits (to.room-from-After-slice-known8 c) in omega arith)
     (λ c. let h = room (to.room-from-After-slice-known8 c) .ticket in omega arith)
-    (λ c.
-    let h = to.head-from-After-slice-known8 c in
-    let d = done (to.done-from-After-slice-known8 c) in
-    kept-on (h .loop .inv) (more (to.room-from-After-slice-known8 c)) (ticket-is h) d (answer-is d)
-    (to.told-all-from-After-slice-known8 c .put-answer3 .ensures))
+    (λ c. done-on c)
     (λ c. long-answers (last c))
     (λ c. long-reports (last c))
     (λ c. let l = last c in ended (start l .args .t1) (tickets l) (answers₀ l) (reports₀ l) (l .loop .inv .going) (none-more c)))

@@ -16,6 +16,6 @@ txid-spec =
     (λ c. search needs)
     (λ c κs. search needs)
     -- it was found
-    (λ c. sym (c .before .before .before .pre .1 (ap isFound (c .enum-told .given .1))))
+    (λ c. sym (c .before .before .before .pre .1 (ap isFound (c .enum-told .given .1)) .1))
     -- it was not
     (λ c. search needs))

@@ -5,10 +5,11 @@ use mathlib.Core.List.{List}
 use Prim.Native.Nat.{ℕ}
 use native.Mathlib.Omega.{arith}
 use denote.Ref.{now}
+use lib.Dec.{lit≤}
 use lib.ListN.{length}
 use Rattle.fields.specs.Rows.{firstRow}
 use Rattle.fields.specs.declared.search.Found.{Found}
-use Rattle.ticket.specs.TicketLayout.{ticketLength, senderOf, payeeOf, txidField}
+use Rattle.ticket.specs.TicketLayout.{ticketLength, senderOf, payeeOf, payerOf, txidField}
 use Rattle.ticket.specs.declared.kinds.Kind.{Kind}
 use Rattle.ticket.specs.declared.kinds.Kind.the-variants.{Order}
 use Rattle.ticket.specs.declared.kinds.Kinded.the-variants.{As}
@@ -16,11 +17,11 @@ use Rattle.rules.specs.declared.terms.Subject.{Subject}
 use Rattle.rules.specs.declared.terms.Subject.the-variants.{Sender, NewOrder, HeldOrder}
 use Rattle.shapes.specs.Subject.{TicketNaming}
 use Rattle.shapes.proofs.Forms.{only-order}
-use Rattle.index.specs.Words.{Bytes, bicWords, txidWords}
+use Rattle.index.specs.Words.{Bytes, bicWords, keyWords}
 use Rattle.sight.specs.Sight.{sightOf}
 use Rattle.sight.specs.Value.{formedSight}
 use Rattle.sight.specs.declared.Sight.{Sight}
-use Rattle.sight.proofs.Knowing.{known-sender, known-payee, known-order}
+use Rattle.sight.proofs.Knowing.{known-sender, known-payee, known-key, order-payer, about-payer}
 use borrow.Author.Needs.{needs}
 use Rattle.sight.proofs.subjects.formed_of.Statement.{statement}
 use Rattle.sight.proofs.subjects.formed_of.Tie as tie
@@ -40,7 +41,7 @@ module _ (c : tie.After-subject-of) where
   sender = firstRow 2 (first .before .args .size) (bicWords (senderOf t)) (now (first .before .args .bics))
 
   abbrev order : Found
-  order = firstRow 5 (first .before .args .count) (txidWords (txidField t)) (now (first .before .args .txids))
+  order = firstRow 7 (first .before .args .count) (keyWords (payerOf t) (txidField t)) (now (first .before .args .keys))
 
   abbrev route : Found
   route = firstRow 2 (first .before .args .route-rows) (bicWords (payeeOf t)) (now (first .before .args .routes))
@@ -61,6 +62,14 @@ module _ (c : tie.After-subject-of) where
 
   naming-order : c .subject-of .result ≡ NewOrder → TicketNaming NewOrder Order t
   naming-order e = record { whole = whole; kinds = naming NewOrder e .kinds ∙ ap As (is-order e); names = refl }
+
+  -- the order, by the payer that the kind names
+  by-payer : {payer : List ℕ} {f : Found} → payerOf t ≡ payer
+      → f ≡ firstRow 7 (first .before .args .count) (keyWords payer (txidField t)) (now (first .before .args .keys)) → f ≡ order
+  by-payer is e =
+      e
+      ∙ ap (λ (payer : List ℕ). firstRow 7 (first .before .args .count) (keyWords payer (txidField t)) (now (first .before .args .keys)))
+      (sym is)
 
   -- what a class sees by what was found
   sees : (clock : ℕ) {s o r : Found} {x : Sight} → x ≡ sightOf clock t s o r → s ≡ sender → o ≡ order → r ≡ route
@@ -98,6 +107,9 @@ formed-of-spec =
     (λ c. search needs)
     (λ c. search needs)
     (λ c. search needs)
+    (λ c. search needs)
+    (λ c. search needs)
+    (λ c. search needs)
     (λ c κs. search needs)
     (λ c. search needs)
     (λ c. search needs)
@@ -105,13 +117,13 @@ formed-of-spec =
     (λ c κs. search needs)
     -- kind 3
     (λ c κs.
-    let txid = c .before .before in
-    let bic = txid .before .before in
+    let key = c .before .before in
+    let bic = key .before .before .before in
     let told = bic .before .before in
     let s = told .before .before in (
       naming-order s (told .enum-told3 .given .1),
       known-sender (t s) (whole s) (bytes s) (first s .before .pre .2) _ (bic .find-bic2 .ensures),
-      known-order (t s) (whole s) (bytes s) (first s .before .pre .3) _ (txid .find-txid .ensures),
+      known-key (t s) (whole s) (bytes s) (first s .before .pre .3) 16 (lit≤ tt) _ (key .find-key .ensures),
       known-payee (t s) (whole s) (bytes s) (first s .before .pre .4) _ (c .find-bic3 .ensures),
     ))
     (λ c. search needs)
@@ -122,15 +134,18 @@ formed-of-spec =
     (λ c. search needs)
     (λ c. search needs)
     (λ c. search needs)
+    (λ c. search needs)
+    (λ c. search needs)
+    (λ c. search needs)
     (λ c κs. search needs)
     -- kinds 4 to 8
     (λ c κs.
-    let bic = c .before .before in
+    let bic = c .before .before .before in
     let told = bic .before .before in
     let s = told .before .before in (
       naming s HeldOrder (told .enum-told4 .given .1),
       known-sender (t s) (whole s) (bytes s) (first s .before .pre .2) _ (bic .find-bic4 .ensures),
-      known-order (t s) (whole s) (bytes s) (first s .before .pre .3) _ (c .find-txid2 .ensures),
+      known-key (t s) (whole s) (bytes s) (first s .before .pre .3) 27 (lit≤ tt) _ (c .find-key2 .ensures),
     ))
     -- what each class sees
     (λ c clock. let s = c .before .before .before in c .nothing .ensures clock (sender s) (order s) (route s))
@@ -140,14 +155,17 @@ formed-of-spec =
     sees s clock (c .cover .ensures clock (order s) (route s)) (bic .find-bic .ensures) refl refl)
     (λ c clock.
     let payee = c .before in
-    let txid = payee .before .before in
-    let bic = txid .before .before in
+    let key = payee .before .before in
+    let bic = key .before .before .before in
     let told = bic .before .before in
     let s = told .before .before in
     ap (λ (k : Kind). formedSight clock (t s) k (c .order .result)) (is-order s (told .enum-told3 .given .1))
-    ∙ sees s clock (c .order .ensures clock) (bic .find-bic2 .ensures) (txid .find-txid .ensures) (payee .find-bic3 .ensures))
+    ∙ sees s clock (c .order .ensures clock) (bic .find-bic2 .ensures)
+    (by-payer s (order-payer (t s) (naming-order s (told .enum-told3 .given .1))) (key .find-key .ensures)) (payee .find-bic3 .ensures))
     (λ c clock.
-    let txid = c .before in
-    let bic = txid .before .before in
-    let s = bic .before .before .before .before in
-    sees s clock (c .about .ensures clock (route s)) (bic .find-bic4 .ensures) (txid .find-txid2 .ensures) refl))
+    let key = c .before in
+    let bic = key .before .before .before in
+    let told = bic .before .before in
+    let s = told .before .before in
+    sees s clock (c .about .ensures clock (route s)) (bic .find-bic4 .ensures)
+    (by-payer s (about-payer (kind s) (t s) (naming s HeldOrder (told .enum-told4 .given .1))) (key .find-key2 .ensures)) refl))

@@ -5,6 +5,7 @@ use mathlib.Core.Logic.{⊎-elim}
 use Prim.Native.Nat.{ℕ, _+_, _*_, _≤_, _<_}
 use native.Mathlib.Omega.{arith}
 use lib.ListN.{length, set}
+use lib.Seq.{sets}
 use Rattle.dayfile.specs.Route.{rowsFollowed}
 use Rattle.dayfile.specs.declared.roster.Roster.{Roster}
 use Rattle.rules.specs.Book.{coverOf}
@@ -12,14 +13,15 @@ use Rattle.rules.specs.Cover.{whole, mostTotal}
 use Rattle.rules.specs.declared.Order.{Order}
 use Rattle.rules.specs.declared.Status.the-variants.{Waiting}
 use Rattle.rules.specs.declared.Book.{Book}
-use Rattle.index.specs.Words.{txidWords}
+use Rattle.index.specs.Words.{keyWords}
 use Rattle.index.specs.RowChains.{rowBucket}
 use Rattle.index.proofs.LentRows.{bucket-inside}
-use Rattle.ticket.specs.TicketLayout.{txidField}
-use Rattle.turns.proofs.Facts.{number-is, way-is, new-order}
+use Rattle.ticket.specs.TicketLayout.{senderOf, txidField}
+use Rattle.turns.proofs.Facts.{sender-bic, number-is, way-is, new-order}
 use Rattle.turns.proofs.CarryingOut.{cut-size, cut-room, cut-whole}
 use Rattle.turns.proofs.Done.{Done}
 use Rattle.turns.proofs.TurnEnds.{did-nothing, changed, order-opened, cut}
+use Rattle.core.proofs.Searching.{wordsIn}
 use Rattle.core.proofs.LoopKeeping.{done-as}
 use Rattle.core.proofs.taking.take.Proof.Loop.{start, b, long-reports, ticket, room}
 use Rattle.core.proofs.taking.take.Proof.Expiring.{saw, seen-at, loop-head, swept-book, expired}
@@ -104,9 +106,13 @@ module _ (c : at.At-match2-came) where
   with-order i count o =
       record { clock = book .clock; covers = both told-at; orders = set (book .orders) i o; count = count; roster = book .roster }
 
-  pub done : Done txidWords rowBucket (b done-head) (ticket done-head) (done-head .loop .n) (done-head .loop .reports) (c .match2 .b)
-      (v j .refusal) (c .match2 .followed) (c .match2 .n)
-      (c .match2 .reports) (left .before .loop2 .next) (c .match2 .txids) (c .match2 .heads) (c .match2 .links)
+  -- the words of the new order's key, as the ticket has it and as the book has it
+  abbrev key-words : List ℕ
+  key-words = keyWords (senderOf (ticket done-head)) (txidField (ticket done-head))
+
+  pub done : Done (wordsIn (b done-head .roster)) rowBucket (b done-head) (ticket done-head) (done-head .loop .n)
+      (done-head .loop .reports) (c .match2 .b) (v j .refusal) (c .match2 .followed) (c .match2 .n)
+      (c .match2 .reports) (left .before .loop2 .next) (c .match2 .keys) (c .match2 .heads) (c .match2 .links)
       (to.total-from-At-match2-came c .total-moved2 .result)
   done =
       let w = expired left in
@@ -120,13 +126,15 @@ module _ (c : at.At-match2-came) where
       (λ x. done-as (did-nothing w is k index (x .1 .given .1) (x .3)) (x .2) (x .4) (x .5) (x .6) (x .7) (x .8))
       (⊎-elim
       (λ x.
+      let words =
+      ap (λ (s : List ℕ). keyWords s (txidField (ticket done-head))) (sym (sender-bic w is (x .1 .given .1))) in
       done-as
       (order-opened w is k index (x .1 .given .1)
-      (ap (newly _) (x .15 .ensures) ∙ new-order w found ours way (x .4 .ensures))
-      (x .17) (x .14 .ensures ∙ ap rowsFollowed (way-is w found ours way)) (λ s long. refl) refl
-      (bucket-inside (txidWords (txidField (ticket done-head))))
-      (x .10 .ensures .0) (x .10 .ensures .1) (x .10 .ensures .2))
-      (x .16) (x .18) (x .19) (x .20) (x .21) (x .22))
+      (ap (newly _) (x .16 .ensures) ∙ new-order w found ours way (x .4 .ensures))
+      (x .18) (x .15 .ensures ∙ ap rowsFollowed (way-is w found ours way)) refl (ap rowBucket words)
+      (bucket-inside key-words)
+      (x .11 .ensures .0) (x .11 .ensures .1) (x .11 .ensures .2 ∙ ap (sets (done-head .loop .keys) (7 * book .count)) words))
+      (x .17) (x .19) (x .20) (x .21) (x .22) (x .23))
       (⊎-elim
       (λ x.
       done-as

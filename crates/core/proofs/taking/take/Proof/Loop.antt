@@ -8,7 +8,7 @@ use borrow.Author.Needs.{needs}
 use denote.Ref.{now}
 use lib.ListN.{length, take, drop}
 use Rattle.fields.proofs.Stores.{length-part}
-use Rattle.ticket.specs.TicketLayout.{txidField}
+use Rattle.ticket.specs.TicketLayout.{senderOf, txidField}
 use Rattle.rules.specs.Sound.{Sound}
 use Rattle.rules.specs.declared.Book.{Book}
 use Rattle.course.specs.Running.{roomLeft}
@@ -82,6 +82,9 @@ module _ (c : at.Then1) where
   pub whole-ticket : length (ticket head) ≡ 108
   whole-ticket =
       ap length (ticket-is head) ∙ length-part 108 (108 * head .loop .taken) (tickets head) (let h = room .ticket in omega arith)
+
+  pub sender-long : length (senderOf (ticket head)) ≡ 11
+  sender-long = length-part 11 16 (ticket head) (rw whole-ticket (omega arith))
 
   pub txid-long : length (txidField (ticket head)) ≡ 35
   txid-long = length-part 35 38 (ticket head) (rw whole-ticket (omega arith))

@@ -50,6 +50,21 @@ After-is-young = tie.After-is-young Inv-loop2 μ-loop2 Inv-loop μ-loop
 abbrev pub After-judge : Type 0
 After-judge = tie.After-judge Inv-loop2 μ-loop2 Inv-loop μ-loop
 
+abbrev pub After-key-chains : Type 0
+After-key-chains = tie.After-key-chains Inv-loop2 μ-loop2 Inv-loop μ-loop
+
+abbrev pub After-keys : Type 0
+After-keys = tie.After-keys Inv-loop2 μ-loop2 Inv-loop μ-loop
+
+abbrev pub After-keys-of : Type 0
+After-keys-of = tie.After-keys-of Inv-loop2 μ-loop2 Inv-loop μ-loop
+
+abbrev pub After-keys2 : Type 0
+After-keys2 = tie.After-keys2 Inv-loop2 μ-loop2 Inv-loop μ-loop
+
+abbrev pub After-keys3 : Type 0
+After-keys3 = tie.After-keys3 Inv-loop2 μ-loop2 Inv-loop μ-loop
+
 abbrev pub After-known-told : Type 0
 After-known-told = tie.After-known-told Inv-loop2 μ-loop2 Inv-loop μ-loop
 
@@ -83,8 +98,8 @@ After-old2 = tie.After-old2 Inv-loop2 μ-loop2 Inv-loop μ-loop
 abbrev pub After-order : Type 0
 After-order = tie.After-order Inv-loop2 μ-loop2 Inv-loop μ-loop
 
-abbrev pub After-orders : Type 0
-After-orders = tie.After-orders Inv-loop2 μ-loop2 Inv-loop μ-loop
+abbrev pub After-participants : Type 0
+After-participants = tie.After-participants Inv-loop2 μ-loop2 Inv-loop μ-loop
 
 abbrev pub After-put-answer : Type 0
 After-put-answer = tie.After-put-answer Inv-loop2 μ-loop2 Inv-loop μ-loop
@@ -101,6 +116,12 @@ After-put-answer3 = tie.After-put-answer3 Inv-loop2 μ-loop2 Inv-loop μ-loop
 abbrev pub After-put-cut-arg : Type 0
 After-put-cut-arg = tie.After-put-cut-arg Inv-loop2 μ-loop2 Inv-loop μ-loop
 
+abbrev pub After-put-key-arg : Type 0
+After-put-key-arg = tie.After-put-key-arg Inv-loop2 μ-loop2 Inv-loop μ-loop
+
+abbrev pub After-put-key-arg2 : Type 0
+After-put-key-arg2 = tie.After-put-key-arg2 Inv-loop2 μ-loop2 Inv-loop μ-loop
+
 abbrev pub After-put-notices : Type 0
 After-put-notices = tie.After-put-notices Inv-loop2 μ-loop2 Inv-loop μ-loop
 
@@ -112,9 +133,6 @@ After-put-told = tie.After-put-told Inv-loop2 μ-loop2 Inv-loop μ-loop
 
 abbrev pub After-put-told-arg : Type 0
 After-put-told-arg = tie.After-put-told-arg Inv-loop2 μ-loop2 Inv-loop μ-loop
-
-abbrev pub After-put-txid-arg : Type 0
-After-put-txid-arg = tie.After-put-txid-arg Inv-loop2 μ-loop2 Inv-loop μ-loop
 
 abbrev pub After-reached : Type 0
 After-reached = tie.After-reached Inv-loop2 μ-loop2 Inv-loop μ-loop
@@ -166,21 +184,6 @@ After-total-of = tie.After-total-of Inv-loop2 μ-loop2 Inv-loop μ-loop
 
 abbrev pub After-txid : Type 0
 After-txid = tie.After-txid Inv-loop2 μ-loop2 Inv-loop μ-loop
-
-abbrev pub After-txid-chains : Type 0
-After-txid-chains = tie.After-txid-chains Inv-loop2 μ-loop2 Inv-loop μ-loop
-
-abbrev pub After-txids : Type 0
-After-txids = tie.After-txids Inv-loop2 μ-loop2 Inv-loop μ-loop
-
-abbrev pub After-txids-of : Type 0
-After-txids-of = tie.After-txids-of Inv-loop2 μ-loop2 Inv-loop μ-loop
-
-abbrev pub After-txids2 : Type 0
-After-txids2 = tie.After-txids2 Inv-loop2 μ-loop2 Inv-loop μ-loop
-
-abbrev pub After-txids3 : Type 0
-After-txids3 = tie.After-txids3 Inv-loop2 μ-loop2 Inv-loop μ-loop
 
 abbrev pub After-with-status : Type 0
 After-with-status = tie.After-with-status Inv-loop2 μ-loop2 Inv-loop μ-loop

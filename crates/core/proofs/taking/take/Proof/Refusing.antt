@@ -6,11 +6,11 @@ use Rattle.course.specs.Seeking.{sought}
 use Rattle.verdict.specs.OwnStep.{refusedVerdict}
 use Rattle.verdict.specs.Meaning.{factsOf}
 use Rattle.verdict.proofs.VerdictLaws.{refused-alone}
-use Rattle.index.specs.Words.{txidWords}
 use Rattle.index.specs.RowChains.{rowBucket}
 use Rattle.turns.proofs.CarryingOut.{nothing-carried}
 use Rattle.turns.proofs.Done.{Done}
 use Rattle.turns.proofs.TurnEnds.{did-nothing}
+use Rattle.core.proofs.Searching.{wordsIn}
 use Rattle.core.proofs.taking.take.Proof.Loop.{b, ticket}
 use Rattle.core.proofs.taking.take.Proof.Expiring.{entry, seen-at, loop-head, swept-book, expired}
 use Rattle.core.proofs.taking.take.Proof.Judging.{swept-at, v, verdict-is}
@@ -33,9 +33,9 @@ module _ (c : at.Then4) where
       (refused-alone (factsOf (sought (swept-book left) (entry (seen-at left)) (ticket before)))
       (λ none. eqb-false _ _ (not-true _ (c .if4 .taken)) (ap (λ (y : Verdict). y .refusal) (verdict-is j) ∙ none)))
 
-  pub late-done : Done txidWords rowBucket (b before) (ticket before) (before .loop .n) (before .loop .reports)
+  pub late-done : Done (wordsIn (b before .roster)) rowBucket (b before) (ticket before) (before .loop .n) (before .loop .reports)
       (swept-book left) (v j .refusal) 0
-      (left .before .loop2 .n) (left .before .loop2 .reports) (left .before .loop2 .next) (before .loop .txids)
+      (left .before .loop2 .n) (left .before .loop2 .reports) (left .before .loop2 .next) (before .loop .keys)
       (before .loop .heads) (before .loop .links)
       (before .loop .total)
   late-done =

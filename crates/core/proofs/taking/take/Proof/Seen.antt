@@ -8,12 +8,11 @@ use Rattle.rules.specs.Find.{senderIn, orderIn, routeIn}
 use Rattle.rules.specs.Step.{stepOf}
 use Rattle.rules.specs.Taken.{answerOf}
 use Rattle.course.specs.Entry.{entryOf}
-use Rattle.index.specs.Words.{txidWords}
 use Rattle.index.specs.RowChains.{rowBucket}
 use Rattle.sight.specs.Sight.{sightOf, sightRefusal}
 use Rattle.turns.proofs.Done.{Done, turned-down, refused-answer}
 use Rattle.core.proofs.SeenEntry.{sight-refused}
-use Rattle.core.proofs.Searching.{all-found}
+use Rattle.core.proofs.Searching.{wordsIn, all-found}
 use Rattle.core.proofs.taking.take.Proof.Loop.{start, b, sound, ticket, ticket-bytes, whole-ticket}
 use Rattle.core.proofs.taking.take.Proof.Places as at
 use Rattle.core.proofs.taking.take.Proof.Ways as to
@@ -23,8 +22,8 @@ module _ (c : at.After-see) where
   top = to.head-from-After-see c
 
   pub seen-is : c .see .result
-      ≡ sightOf (b top .clock) (ticket top) (senderIn (b top .roster) (ticket top)) (orderIn (b top .orders) (b top .count) (ticket top))
-      (routeIn (b top .roster) (ticket top))
+      ≡ sightOf (b top .clock) (ticket top) (senderIn (b top .roster) (ticket top))
+      (orderIn (b top .roster) (b top .orders) (b top .count) (ticket top)) (routeIn (b top .roster) (ticket top))
   seen-is =
       let s = start top in
       c .see .ensures
@@ -46,9 +45,9 @@ module _ (c : at.After-enum-told) where
   refusal-is : (entryOf (b h .clock) (ticket h) .refusal ≡ number) × (eqb number 0 ≡ false)
   refusal-is = sight-refused (b h) (ticket h) (sym (seen-is seen) ∙ c .enum-told .given .1)
 
-  pub refused-done : Done txidWords rowBucket (b h) (ticket h) (h .loop .n) (h .loop .reports) (b h) number 0 (h .loop .n)
+  pub refused-done : Done (wordsIn (b h .roster)) rowBucket (b h) (ticket h) (h .loop .n) (h .loop .reports) (b h) number 0 (h .loop .n)
       (h .loop .reports) (h .loop .next)
-      (h .loop .txids) (h .loop .heads) (h .loop .links) (h .loop .total)
+      (h .loop .keys) (h .loop .heads) (h .loop .links) (h .loop .total)
   refused-done =
       turned-down (sound h) (refusal-is .0) (refusal-is .1) (h .loop .inv .passed) (h .loop .inv .few)
       (h .loop .inv .index) (h .loop .inv .sum)

@@ -14,15 +14,15 @@ use Rattle.core.proofs.taking.take.Proof.Ways as to
 pub taking-begun : tie.Need-loop-holds Inv-loop2 μ-loop2 Inv-loop μ-loop
 taking-begun c =
     let s = to.start-from-After-total-of c in
-    let rows = to.rows-from-After-total-of c .txids-of .ensures in
-    let chains = to.chains-from-After-total-of c .txid-chains .ensures in
+    let rows = to.rows-from-After-total-of c .keys-of .ensures in
+    let chains = to.chains-from-After-total-of c .key-chains .ensures in
     record {
       going = started (s .args .t1) (now (s .args .tickets)) (now (s .args .answers)) (now (s .args .reports)) (s .pre .0);
       roster = refl;
       passed = record { none = λ i l. absurd (not-suc-le-zero l) };
       few = omega arith;
       index = record {
-        txids = rows .1;
+        keys = rows .1;
         long = rows .0;
         chained = chained-fields (rows .1) (chains .2);
         headed = chains .0;

@@ -13,7 +13,7 @@ carried-from-After-put-cut-arg c = c .before .before .before .before
 abbrev pub carried-from-At-match2-came : at.At-match2-came → at.After-slice-known6
 carried-from-At-match2-came c = c .before
 
-abbrev pub chains-from-After-total-of : at.After-total-of → at.After-txid-chains
+abbrev pub chains-from-After-total-of : at.After-total-of → at.After-key-chains
 chains-from-After-total-of c = c .before .before .before .before
 
 abbrev pub cuts-from-After-put-cut-arg : at.After-put-cut-arg → at.After-enum-told4
@@ -54,6 +54,14 @@ head-from-After-heads3 c = c .before .before .before .before .before .before .be
     .before .before .before .before .before .before .before .before .before .before .before .before .before .before .before .before .before
     .before .before .before .before .before .before .before .before .before .before .before .before .before .before
 
+abbrev pub head-from-After-keys2 : at.After-keys2 → at.At-loop
+head-from-After-keys2 c = c .before .before .before .before .before .before
+
+abbrev pub head-from-After-keys3 : at.After-keys3 → at.At-loop
+head-from-After-keys3 c = c .before .before .before .before .before .before .before .before .before .before .before .before .before .before
+    .before .before .before .before .before .before .before .before .before .before .before .before .before .before .before .before .before
+    .before .before .before .before .before .before .before .before .before .before .before .before .before .before .before .before
+
 abbrev pub head-from-After-links2 : at.After-links2 → at.At-loop
 head-from-After-links2 c = c .before .before .before .before .before
 
@@ -66,11 +74,11 @@ abbrev pub head-from-After-put-answer-arg2 : at.After-put-answer-arg2 → at.At-
 head-from-After-put-answer-arg2 c = c .before .before .before .before .before .before .before .before .before .before .before .before
     .before .before .before .before .before .before .before .before .before .before .before .before .before
 
-abbrev pub head-from-After-put-txid-arg : at.After-put-txid-arg → at.At-loop
-head-from-After-put-txid-arg c = c .before .before .before .before .before .before .before .before .before .before .before .before .before
+abbrev pub head-from-After-put-key-arg2 : at.After-put-key-arg2 → at.At-loop
+head-from-After-put-key-arg2 c = c .before .before .before .before .before .before .before .before .before .before .before .before .before
     .before .before .before .before .before .before .before .before .before .before .before .before .before .before .before .before .before
     .before .before .before .before .before .before .before .before .before .before .before .before .before .before .before .before .before
-    .before
+    .before .before
 
 abbrev pub head-from-After-refusal-of : at.After-refusal-of → at.At-loop
 head-from-After-refusal-of c = c .before .before .before .before .before .before .before .before .before .before .before
@@ -95,14 +103,6 @@ abbrev pub head-from-After-slice-known8 : at.After-slice-known8 → at.At-loop
 head-from-After-slice-known8 c = c .before .before .before .before .before .before .before .before .before .before .before .before .before
     .before .before .before .before .before .before .before .before .before .before .before .before .before .before .before .before .before
     .before .before .before .before .before .before .before .before .before .before .before .before .before .before .before
-
-abbrev pub head-from-After-txids2 : at.After-txids2 → at.At-loop
-head-from-After-txids2 c = c .before .before .before .before .before .before
-
-abbrev pub head-from-After-txids3 : at.After-txids3 → at.At-loop
-head-from-After-txids3 c = c .before .before .before .before .before .before .before .before .before .before .before .before .before .before
-    .before .before .before .before .before .before .before .before .before .before .before .before .before .before .before .before .before
-    .before .before .before .before .before .before .before .before .before .before .before .before .before .before .before .before
 
 abbrev pub head-from-Else1 : at.Else1 → at.At-loop
 head-from-Else1 c = c .before .before
@@ -150,7 +150,7 @@ judged-from-Then4 c = c .before .before
 
 abbrev pub known-from-At-loop : at.At-loop → at.After-shared-slice-known
 known-from-At-loop c = c .before .before .before .before .before .before .before .before .before .before .before .before .before .before
-    .before .before .before .before
+    .before .before .before .before .before
 
 abbrev pub lapse-from-After-freed : at.After-freed → at.After-expire
 lapse-from-After-freed c = c .before .before
@@ -200,12 +200,12 @@ numbers-from-At-match2-came c = c .before .before .before .before .before .befor
 abbrev pub old-from-After-slice-known4 : at.After-slice-known4 → at.Else2
 old-from-After-slice-known4 c = c .before .before .before .before .before .before .before .before .before .before .before
 
-abbrev pub opens-from-After-put-txid-arg : at.After-put-txid-arg → at.After-enum-told3
-opens-from-After-put-txid-arg c = c .before .before .before .before .before .before .before .before
+abbrev pub opens-from-After-put-key-arg2 : at.After-put-key-arg2 → at.After-enum-told3
+opens-from-After-put-key-arg2 c = c .before .before .before .before .before .before .before .before .before
 
 abbrev pub opens-from-After-reached : at.After-reached → at.After-enum-told3
 opens-from-After-reached c = c .before .before .before .before .before .before .before .before .before .before .before .before .before
-    .before
+    .before .before
 
 abbrev pub passed-from-In-loop2 : at.In-loop2 → at.After-known-told
 passed-from-In-loop2 c = c .before .before
@@ -231,6 +231,14 @@ abbrev pub room-from-After-expire : at.After-expire → at.Then1
 room-from-After-expire c = c .before .before .before .before .before .before .before .before .before .before .before .before .before .before
     .before .before
 
+abbrev pub room-from-After-keys2 : at.After-keys2 → at.Then1
+room-from-After-keys2 c = c .before .before .before .before
+
+abbrev pub room-from-After-keys3 : at.After-keys3 → at.Then1
+room-from-After-keys3 c = c .before .before .before .before .before .before .before .before .before .before .before .before .before .before
+    .before .before .before .before .before .before .before .before .before .before .before .before .before .before .before .before .before
+    .before .before .before .before .before .before .before .before .before .before .before .before .before .before
+
 abbrev pub room-from-After-put-answer-arg2 : at.After-put-answer-arg2 → at.Then1
 room-from-After-put-answer-arg2 c = c .before .before .before .before .before .before .before .before .before .before .before .before
     .before .before .before .before .before .before .before .before .before .before .before
@@ -240,15 +248,20 @@ room-from-After-put-cut-arg c = c .before .before .before .before .before .befor
     .before .before .before .before .before .before .before .before .before .before .before .before .before .before .before .before .before
     .before .before .before .before .before .before .before .before .before .before
 
+abbrev pub room-from-After-put-key-arg : at.After-put-key-arg → at.Then1
+room-from-After-put-key-arg c = c .before .before .before .before .before .before .before .before .before .before .before .before .before
+    .before .before .before .before .before .before .before .before .before .before .before .before .before .before .before .before .before
+    .before .before .before .before .before .before .before .before .before .before .before .before .before .before .before .before
+
+abbrev pub room-from-After-put-key-arg2 : at.After-put-key-arg2 → at.Then1
+room-from-After-put-key-arg2 c = c .before .before .before .before .before .before .before .before .before .before .before .before .before
+    .before .before .before .before .before .before .before .before .before .before .before .before .before .before .before .before .before
+    .before .before .before .before .before .before .before .before .before .before .before .before .before .before .before .before .before
+
 abbrev pub room-from-After-put-notices-arg : at.After-put-notices-arg → at.Then1
 room-from-After-put-notices-arg c = c .before .before .before .before .before .before .before .before .before .before .before .before
     .before .before .before .before .before .before .before .before .before .before .before .before .before .before .before .before .before
     .before .before .before .before
-
-abbrev pub room-from-After-put-txid-arg : at.After-put-txid-arg → at.Then1
-room-from-After-put-txid-arg c = c .before .before .before .before .before .before .before .before .before .before .before .before .before
-    .before .before .before .before .before .before .before .before .before .before .before .before .before .before .before .before .before
-    .before .before .before .before .before .before .before .before .before .before .before .before .before .before .before .before
 
 abbrev pub room-from-After-refusal-of : at.After-refusal-of → at.Then1
 room-from-After-refusal-of c = c .before .before .before .before .before .before .before .before .before
@@ -278,15 +291,7 @@ room-from-After-txid c = c .before .before .before .before .before .before .befo
     .before .before .before .before .before .before .before .before .before .before .before .before .before .before .before .before .before
     .before .before .before .before .before .before .before .before .before
 
-abbrev pub room-from-After-txids2 : at.After-txids2 → at.Then1
-room-from-After-txids2 c = c .before .before .before .before
-
-abbrev pub room-from-After-txids3 : at.After-txids3 → at.Then1
-room-from-After-txids3 c = c .before .before .before .before .before .before .before .before .before .before .before .before .before .before
-    .before .before .before .before .before .before .before .before .before .before .before .before .before .before .before .before .before
-    .before .before .before .before .before .before .before .before .before .before .before .before .before .before
-
-abbrev pub rows-from-After-total-of : at.After-total-of → at.After-txids-of
+abbrev pub rows-from-After-total-of : at.After-total-of → at.After-keys-of
 rows-from-After-total-of c = c .before .before .before .before .before .before
 
 abbrev pub second-from-After-slice-known6 : at.After-slice-known6 → at.After-gained
@@ -300,26 +305,26 @@ seen-from-After-known-told c = c .before .before .before
 
 abbrev pub start-from-After-covers : at.After-covers → at.Start
 start-from-After-covers c = c .before .before .before .before .before .before .before .before .before .before .before .before .before
-    .before .before .before .before
+    .before .before .before .before .before
 
 abbrev pub start-from-After-covers2 : at.After-covers2 → at.Start
 start-from-After-covers2 c = c .before .before .before .before .before .before .before .before .before .before .before .before .before
     .before .before .before .before .before .before .before .before .before .before .before .before .before .before .before .before .before
-    .before .before .before .before .before
+    .before .before .before .before .before .before
 
-abbrev pub start-from-After-orders : at.After-orders → at.Start
-start-from-After-orders c = c .before .before .before .before .before .before .before .before .before .before .before
+abbrev pub start-from-After-keys : at.After-keys → at.Start
+start-from-After-keys c = c .before .before .before .before .before .before .before .before .before .before .before .before .before .before
+
+abbrev pub start-from-After-participants : at.After-participants → at.Start
+start-from-After-participants c = c .before .before .before .before .before .before .before .before .before .before .before .before
 
 abbrev pub start-from-After-total-of : at.After-total-of → at.Start
 start-from-After-total-of c = c .before .before .before .before .before .before .before .before .before .before .before .before .before
-    .before .before .before .before .before
-
-abbrev pub start-from-After-txids : at.After-txids → at.Start
-start-from-After-txids c = c .before .before .before .before .before .before .before .before .before .before .before .before .before
+    .before .before .before .before .before .before
 
 abbrev pub start-from-At-loop : at.At-loop → at.Start
 start-from-At-loop c = c .before .before .before .before .before .before .before .before .before .before .before .before .before .before
-    .before .before .before .before .before
+    .before .before .before .before .before .before
 
 abbrev pub sum-from-After-gained : at.After-gained → at.After-total-moved
 sum-from-After-gained c = c .before .before .before

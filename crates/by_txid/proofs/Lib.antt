@@ -1,0 +1,10 @@
+pub mod ReadingAlike
+pub mod TicketsAlike
+pub mod StepsAlike
+pub mod SearchesAlike
+pub mod Sources
+pub mod OneTicket
+pub mod Theorem
+pub mod PayersNamed
+pub mod OldTest
+pub mod Days

@@ -1,0 +1,5 @@
+pub mod FormByTxid
+pub mod ReadingBy
+pub mod StepBy
+pub mod OldLists
+pub mod Renaming
