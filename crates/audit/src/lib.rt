@@ -4,3 +4,4 @@
 // starts from it (`start-agrees`), and each way of calling the code carries it on. One event is the expiries and then the ticket's own
 // step: `Agrees-after` takes what each does to an order (nothing, a repeat, its end) and to a cover, and each kind only shows what it
 // does.
+#![tactic(auto)]

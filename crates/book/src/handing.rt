@@ -10,7 +10,7 @@ use rules::{Book, constants};
 use ticket::layout;
 
 // The answer, and the book afterwards.
-#[derive(Drop)]
+#[derive(Clone, Copy)]
 pub struct Handed {
     pub refusal: u8,
     pub reports: u16,

@@ -34,7 +34,7 @@ fn fresh(roster: Roster) -> Book
 
 // The refusal, 0 if none, and the fresh book, which has no participants if the file is refused; how many tickets the file has and where
 // the first lies.
-#[derive(Drop)]
+#[derive(Clone, Copy)]
 pub struct Opened {
     pub refusal: u8,
     pub book: Book,

@@ -4,3 +4,4 @@
 // book of every day file the steps of the two are the same, whole (`old-lists`), that for every such list there is one with the payers
 // named (`payers-named`); `Days.antt` has days on which one premise or the other fails. What the proof carries along the list: each
 // order in the book came from an order ticket of the list (`Sourced`).
+#![tactic(auto)]

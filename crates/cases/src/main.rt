@@ -13,6 +13,8 @@
 //     way  NAME BIC BYTES     (two spaces before the name) where the BIC leads in such a day file and in how many rows, or - for nowhere
 //
 // BYTES are groups of hexadecimal digits between spaces; a group with an x and a number behind it stands that many times.
+#![tactic(auto)]
+
 mod bytes;
 mod files;
 mod hands;

@@ -1,5 +1,7 @@
 // Checks from 12 on, a function each. Each equals a definition of `rules`, in Checks.antt. Refusal 22 takes the difference between 10^18
 // and all cover, not the sum with the amount, which could leave 64 bits; in a sound book all cover is at most 10^18.
+#![tactic(auto)]
+
 ghost use Rattle.std.specs.Prelude.{◌≤◌, ◌-◌, ◌≡◌};
 ghost use Rattle.rules.specs.Cover.{most_total};
 ghost use Rattle.rules.specs.Checks.{

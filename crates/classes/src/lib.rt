@@ -2,6 +2,8 @@
 // before the padding of a field are. A class test looks at every byte, with no way out before the end: the compiler then takes eight at a
 // time, which for codes of 5 to 35 bytes is quicker than to stop at the first that fails. A byte's test may be another than the
 // definition's (`Txid` in `is_in`): the two are compared at all 256 bytes by computation (`Bytes.antt`).
+#![tactic(auto)]
+
 mod padding;
 
 ghost use Rattle.std.specs.Prelude.{◌≡◌};
@@ -9,7 +11,7 @@ ghost use Rattle.classes.specs.Class.{is_in, all_in};
 
 pub use padding::all_padded;
 
-#[derive(Drop)]
+#[derive(Clone, Copy)]
 pub enum Class {
     Capital,
     Digit,

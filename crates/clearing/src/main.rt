@@ -1,4 +1,6 @@
 // The clearing program: a day file on standard input, its lines on standard output.
+#![tactic(auto)]
+
 use dayfile::limits;
 use libc::STDIN_FILENO;
 

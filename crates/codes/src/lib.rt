@@ -3,6 +3,8 @@
 // (include/zolfigar.h). Beside them the check of a TxId as it stands in a ticket, padded with zero bytes; that of an IBAN is in `iban`.
 // An IBAN's front is tested and its remainder taken in one place, in `iban`, which speaks of the bytes before the padding: bytes of an
 // IBAN's shape don't end in a zero, so that is all of them (`shape-whole`).
+#![tactic(auto)]
+
 ghost use Rattle.std.specs.Prelude.{◌≡◌, cond, length};
 ghost use Rattle.fields.specs.Text.{unpadded};
 ghost use Rattle.classes.specs.CheckAnswer.{answer};

@@ -1,28 +1,28 @@
 // What each of refusals 2 to 5 answers.
 
 // 2. Participants not 1 to 32, routes above 64 or tickets above 512.
-#[derive(Drop)]
+#[derive(Clone, Copy)]
 pub enum Ranged {
     Within,
     Outside,
 }
 
 // 3. Offsets or file length other than the layout gives.
-#[derive(Drop)]
+#[derive(Clone, Copy)]
 pub enum Placed {
     Right,
     Wrong,
 }
 
 // 4. A participant row that is wrong.
-#[derive(Drop)]
+#[derive(Clone, Copy)]
 pub enum Enrolled {
     Right,
     Wrong,
 }
 
 // 5. A route row that is wrong.
-#[derive(Drop)]
+#[derive(Clone, Copy)]
 pub enum Routed {
     Right,
     Wrong,

@@ -1,20 +1,20 @@
 // The header of a day file.
 
 // A number for each section.
-#[derive(Drop)]
+#[derive(Clone, Copy)]
 pub struct Sections {
     pub participants: usize,
     pub routes: usize,
     pub tickets: usize,
 }
 
-#[derive(Drop)]
+#[derive(Clone, Copy)]
 pub struct Header {
     pub counts: Sections,
     pub offsets: Sections,
 }
 
-#[derive(Drop)]
+#[derive(Clone, Copy)]
 pub enum Headed {
     As(Header),
     Short,

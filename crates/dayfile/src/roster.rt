@@ -4,20 +4,20 @@ ghost use Rattle.dayfile.specs.Roster.{bank_kind};
 
 use super::limits;
 
-#[derive(Drop)]
+#[derive(Clone, Copy)]
 pub enum PartyKind {
     Bank,
     Linked,
 }
 
 // An opening cover, if the participant wishes one.
-#[derive(Drop)]
+#[derive(Clone, Copy)]
 pub enum Opening {
     None,
     Cover(u64),
 }
 
-#[derive(Drop)]
+#[derive(Clone, Copy)]
 pub struct Participant {
     pub bic: [u8; 11],
     pub kind: PartyKind,
@@ -35,20 +35,20 @@ pub fn is_bank(p: Participant) -> bool
 }
 
 // Where a route row leads: to a participant, or on to an earlier row.
-#[derive(Drop)]
+#[derive(Clone, Copy)]
 pub enum Target {
     To(usize),
     Row(usize),
 }
 
-#[derive(Drop)]
+#[derive(Clone, Copy)]
 pub struct Route {
     pub bic: [u8; 11],
     pub target: Target,
 }
 
 // The first size participants and the first rows route rows are in use.
-#[derive(Drop)]
+#[derive(Clone, Copy)]
 pub struct Roster {
     pub participants: [Participant; limits::MOST_PARTICIPANTS],
     pub size: usize,

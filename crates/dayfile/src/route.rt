@@ -3,7 +3,7 @@ ghost use Rattle.std.specs.Prelude.{◌≡◌};
 ghost use Rattle.dayfile.specs.Route.{reached, rows_followed};
 
 // The participant reached and the number of rows followed.
-#[derive(Drop)]
+#[derive(Clone, Copy)]
 pub enum Followed {
     At(usize, usize),
     Nowhere,

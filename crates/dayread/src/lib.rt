@@ -1,5 +1,7 @@
 // Reading a day file: refusals 1 to 5 in the paper's order, or the roster and where the tickets lie. Any bytes of any length may be
 // handed in.
+#![tactic(auto)]
+
 mod roster;
 
 ghost use Rattle.std.specs.Prelude.{◌≡◌, length};
@@ -13,7 +15,7 @@ use dayfile::check::{Enrolled, Placed, Ranged, Routed};
 use dayfile::header::{Headed, Header, Sections};
 
 // What the checks leave: the refusal, 0 if none, and the header; of a refused file a header of nothing, all zero.
-#[derive(Drop)]
+#[derive(Clone, Copy)]
 struct Outcome {
     refusal: u8,
     header: Header,

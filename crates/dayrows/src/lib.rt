@@ -1,4 +1,6 @@
 // The checks of a day file, refusals 1 to 5, one by one: its header, and the rows of participants and of routes.
+#![tactic(auto)]
+
 mod chains;
 mod check;
 mod header;

@@ -1,6 +1,8 @@
 // The clearing program over many days. Standard input has for each day the lengths of its name and of its bytes, each in 4 bytes, the
 // highest first, at most 256 and 57,101, then the name and the bytes; on standard output stand a line with the name and the day's lines.
 // It ends where the input does, at a greater length, at a day that is cut off, and where nothing can be written.
+#![tactic(auto)]
+
 ghost use Rattle.std.specs.Prelude.{◌≤◌, length};
 
 use dayfile::limits;

@@ -1,5 +1,7 @@
 // An order ticket, or a refusal, of what the reader kept of a message's named elements: 02's slip 3. All checks come first, in the
 // slip's order, and the ticket is written behind them.
+#![tactic(auto)]
+
 mod amount;
 mod bic;
 mod texts;
@@ -14,7 +16,7 @@ ghost use Rattle.pacs.specs.Kept.{Kept};
 ghost use Rattle.draft.specs.Drafting.{all_placed};
 
 // Refusal is 0 where a ticket is written. For people: what is wrong, and the place in the text.
-#[derive(Drop)]
+#[derive(Clone, Copy)]
 pub struct Answer {
     pub refusal: u8,
     pub what: u8,

@@ -6,7 +6,7 @@ ghost use Rattle.engine.specs.Directory.{Directs};
 use dayfile::roster::Roster;
 use index::chains;
 
-#[derive(Drop)]
+#[derive(Clone, Copy)]
 pub struct Directory {
     pub bics: [u64; 64],
     pub bic_heads: [u16; 509],

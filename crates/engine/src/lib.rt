@@ -1,5 +1,6 @@
 // The core: a book is kept over many tickets and changed in place. A book has 256 orders; it is handed over once for a list of tickets
 // and not once for each.
+#![tactic(auto)]
 
 mod directory;
 mod room;
@@ -11,7 +12,7 @@ ghost use Rattle.course.specs.Running.{Ran};
 use rules::Book;
 
 // The book afterwards, and how many tickets were taken.
-#[derive(Drop)]
+#[derive(Clone, Copy)]
 pub struct Batch {
     pub book: Book,
     pub taken: usize,

@@ -1,5 +1,7 @@
 // Fields of bytes: big-endian numbers at a place, padding with zero bytes, and whether two fields hold the same bytes; and what a
 // search among rows finds.
+#![tactic(auto)]
+
 mod number;
 mod search;
 mod text;

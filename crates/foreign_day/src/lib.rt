@@ -1,4 +1,6 @@
 // A whole day for a host program in another language: the day file in, the program's text out, both lent by the host.
+#![tactic(auto)]
+
 ghost use Rattle.std.specs.Prelude.{◌≡◌, ◌++◌, length, take, drop};
 ghost use Rattle.rules.specs.Program.{output};
 ghost use Rattle.foreign_day.specs.LentText.{lent};

@@ -1,4 +1,6 @@
 // A day's tickets through the core, for a program in another language that wants answers and reports as bytes, and for measuring.
+#![tactic(auto)]
+
 ghost use Rattle.std.specs.Prelude.{◌≡◌};
 ghost use Rattle.foreign_steps.specs.Stepped.{lacks_room, Stepped};
 

@@ -1,5 +1,7 @@
 // The verdict of each ticket's own step, and of a refused ticket. Each function equals a definition of `verdict`, in OwnStep.antt. Of a
 // refused ticket all but the refusal is nothing (`refused-alone`), so it may be carried out or skipped.
+#![tactic(auto)]
+
 ghost use Rattle.std.specs.Prelude.{◌≡◌, cond};
 ghost use Rattle.verdict.specs.OwnStep.{
   notice,

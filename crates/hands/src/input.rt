@@ -78,7 +78,7 @@ fn hand(b: Book, number: u64, ticket: &[u8], buffer: &mut [u8], fill: u8) -> Boo
 
 // What stands before a ticket: the lengths of the ticket and the buffer, and the fill. Whole: it is there and the lengths are at most
 // 8,192.
-#[derive(Drop)]
+#[derive(Clone, Copy)]
 struct Head {
     whole: bool,
     ticket: usize,
@@ -128,7 +128,7 @@ fn hand_with(b: Book, number: u64, ticket: &[u8], room: usize, byte: u8) -> Book
 }
 
 // The book after the next input, and whether there was one.
-#[derive(Drop)]
+#[derive(Clone, Copy)]
 pub struct Next {
     pub book: Book,
     pub whole: bool,

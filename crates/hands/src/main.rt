@@ -20,6 +20,8 @@
 //                                                 time of its settlement; of a returned one that time and the returned amount
 //
 // `stdin` is made from the text beside it: tools/day pack --inputs crates/hands/inputs.txt -o crates/hands/stdin
+#![tactic(auto)]
+
 mod input;
 mod print;
 mod state;
@@ -30,7 +32,7 @@ use book::opening;
 use rules::Book;
 
 // A case's book after its inputs, and whether all were there.
-#[derive(Drop)]
+#[derive(Clone, Copy)]
 struct Handed {
     book: Book,
     whole: bool,

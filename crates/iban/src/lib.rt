@@ -1,5 +1,7 @@
 // The check of an IBAN as it stands in a ticket, padded with zero bytes, and the remainder that it takes. A caller hands in the whole
 // field. The check for C is in `codes`, and asks for front and remainder here.
+#![tactic(auto)]
+
 mod strides;
 
 ghost use Rattle.std.specs.Prelude.{◌≡◌, ◌≤◌, length};

@@ -13,7 +13,7 @@ ghost use Rattle.iban.specs.Strides.{five_more, Writes};
 use remainder::Divided;
 
 // Some characters as a number, how many digits it is written with, and how many characters they are.
-#[derive(Drop)]
+#[derive(Clone, Copy)]
 pub struct Stride {
     pub number: u32,
     pub digits: usize,

@@ -10,7 +10,7 @@ use crate::row;
 use fields::Found;
 use std::num;
 
-#[derive(Drop)]
+#[derive(Clone, Copy)]
 pub struct Chains {
     pub heads: [u16; 509],
     pub links: [u16; 256],

@@ -5,6 +5,8 @@
 // comparison each: a sender may make 256 TxIds share one, and what is answered is the same. Participants, routes and orders each have a
 // function that makes rows: the loops have one shape over three types, and cite one law (`Made` in `RowsFilling.antt`). Chains are made
 // of rows, so participants and routes share theirs.
+#![tactic(auto)]
+
 pub mod chains;
 pub mod row;
 pub mod words;

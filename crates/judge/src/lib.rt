@@ -1,5 +1,7 @@
 // The judgement of a ticket, check by check: the first refusal from 12 on that applies, or the verdict of its step. Each function equals a
 // definition of `verdict`.
+#![tactic(auto)]
+
 mod kinds;
 
 ghost use Rattle.std.specs.Prelude.{◌≤◌, ◌≡◌};

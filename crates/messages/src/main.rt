@@ -10,6 +10,8 @@
 // the root; 14 the amount's attributes, 15 the amount, 16 the sender, 17 the payee, 18 the TxId, 19 the IBAN; and for the named element of a
 // row, counted from 0 (`crates/pacs/specs/Named.antt`): 32 and the row where it is missing, 48 and the row where it holds an element, 64 and
 // the row where it stands again.
+#![tactic(auto)]
+
 ghost use Rattle.std.specs.Prelude.{◌≤◌, length};
 
 use libc::{STDIN_FILENO, STDOUT_FILENO};

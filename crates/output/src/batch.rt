@@ -10,7 +10,7 @@ use rules::Book;
 pub const MOST_TEXT: usize = 56832;
 
 // The book afterwards, how many tickets were taken, and where their text ends.
-#[derive(Drop)]
+#[derive(Clone, Copy)]
 pub struct Printed {
     pub book: Book,
     pub taken: usize,

@@ -10,7 +10,7 @@ use rules::Book;
 use ticket::layout;
 
 // The book after the tickets taken so far; how many tickets the file has and where the first lies, both 0 if it is refused.
-#[derive(Drop)]
+#[derive(Clone, Copy)]
 pub struct Day {
     pub refusal: u8,
     pub book: Book,
@@ -21,7 +21,7 @@ pub struct Day {
 }
 
 // The day afterwards, and where the text ends.
-#[derive(Drop)]
+#[derive(Clone, Copy)]
 pub struct Piece {
     pub day: Day,
     pub length: usize,

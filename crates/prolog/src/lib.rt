@@ -1,5 +1,7 @@
 // The prolog: where a text's XML declaration ends, if it has one. Its attributes are version, then encoding and standalone, each of the two
 // or none; each is passed where it stands as it must, and ?> is due behind them.
+#![tactic(auto)]
+
 ghost use Rattle.std.specs.Prelude.{◌≡◌, ◌&&◌, ◌||◌, take};
 ghost use Rattle.fields.specs.Text.{text as quoted, same};
 ghost use Rattle.xml.specs.Bytes.{is_letter, is_encoding_byte};
@@ -9,14 +11,14 @@ ghost use Rattle.prolog.specs.Ends.{is_due, due_test, Passed, Closed, PrologRead
 use scan::AttributeAt;
 
 // Where the prolog ends: 0 where a text has none; or where its declaration isn't one.
-#[derive(Drop)]
+#[derive(Clone, Copy)]
 pub enum PrologEnd {
     At(usize),
     Broken(usize),
 }
 
 // The attributes of a declaration.
-#[derive(Drop)]
+#[derive(Clone, Copy)]
 enum Due {
     Version,
     Encoding,

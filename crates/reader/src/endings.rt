@@ -6,7 +6,7 @@ ghost use Rattle.reader.specs.Walks.{EndRead};
 use crate::names;
 
 // The place behind an end tag; or another thing stands there.
-#[derive(Drop)]
+#[derive(Clone, Copy)]
 pub enum EndTag {
     Behind(usize),
     Other,

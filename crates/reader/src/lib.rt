@@ -1,5 +1,7 @@
 // The reader of one order as pacs.008 text: 02's slip 3. A text is read from the left to its end before anything is judged of it; the
 // ticket that is lent is written only where all of it is right.
+#![tactic(auto)]
+
 pub mod endings;
 pub mod meeting;
 pub mod names;

@@ -9,7 +9,7 @@ use crate::{endings, meeting};
 use tags::TagEnd;
 
 // Where the walk ends: behind the root; or what is wrong and where.
-#[derive(Drop)]
+#[derive(Clone, Copy)]
 pub enum WalkEnd {
     Arrived(usize),
     Astray(u8, usize),

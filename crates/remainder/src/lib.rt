@@ -2,11 +2,13 @@
 // Where that makes seven, the group is taken off by itself: it goes behind what is carried, the remainder of that is carried on, and the
 // group is counted. What is held at the end, if anything, is the last group, which is shorter. Here are numbers alone: which digits they are of, `iban`
 // states (`Holds`).
+#![tactic(auto)]
+
 ghost use Rattle.std.specs.Prelude.{◌≡◌, ◌*◌, ◌+◌, ◌%◌, ◌^◌, ◌≤◌, ◌<◌};
 ghost use Rattle.remainder.specs.Held.{Powers, Fitting, nothing_held, joined, divided_at};
 
 // What is carried from the groups taken off, how many these are, the number of the digits held behind them, and how many those are.
-#[derive(Drop)]
+#[derive(Clone, Copy)]
 pub struct Held {
     pub carried: u32,
     pub groups: u32,
@@ -15,7 +17,7 @@ pub struct Held {
 }
 
 // The remainder over all groups, and how many they are.
-#[derive(Drop)]
+#[derive(Clone, Copy)]
 pub struct Divided {
     pub remainder: u32,
     pub groups: u32,

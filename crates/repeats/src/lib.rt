@@ -1,5 +1,7 @@
 // Whether an attribute's name stands twice in a tag. The tag is read again from the left, from a place on; nothing is asked of the place,
 // nor of the count.
+#![tactic(auto)]
+
 mod attributes;
 mod growing;
 mod pairs;

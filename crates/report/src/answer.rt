@@ -7,7 +7,7 @@ ghost use Rattle.report.specs.Answer.{answer_length, answer_bytes, answer_at};
 pub const LENGTH: usize = 4;
 
 // Reports is how many reports the ticket gave, rows how many route rows were followed.
-#[derive(Drop)]
+#[derive(Clone, Copy)]
 pub struct Answer {
     pub refusal: u8,
     pub reports: u16,

@@ -1,4 +1,6 @@
 // A report of 12 bytes: writing report n into a lent buffer, and reading it. A caller sees to it that it lies within the buffer.
+#![tactic(auto)]
+
 pub mod answer;
 
 ghost use Rattle.std.specs.Prelude.{◌≡◌, ◌+◌, ◌*◌, ◌≤◌, length};
@@ -7,7 +9,7 @@ ghost use Rattle.report.specs.ReportLayout.{report_length, report_bytes, report_
 
 pub const LENGTH: usize = 12;
 
-#[derive(Drop)]
+#[derive(Clone, Copy)]
 pub struct Report {
     pub to: u8,
     pub code: u8,

@@ -2,6 +2,8 @@
 // numbers, the kind of each and its k: what holds an enum can't be lent, and passing 64 routes by value at each call would copy them. By
 // them `follow` is `followed` of `dayfile`; that they lead where the routes do is one law for every row (`followed-by`). A row that isn't
 // there, or that points at itself or further on, leads nowhere, so nothing is required; an accepted file has none such (`Arriving.antt`).
+#![tactic(auto)]
+
 ghost use Rattle.std.specs.Prelude.{◌≡◌};
 ghost use Rattle.dayfile.specs.Roster.{target_kind, target_number};
 ghost use Rattle.dayfile.specs.Route.{followed};
@@ -12,7 +14,7 @@ use dayfile::route::Followed;
 use fields::Found;
 
 // Where each row leads, as numbers: its kind, 0 participant or 1 row, and its k.
-#[derive(Drop)]
+#[derive(Clone, Copy)]
 pub struct Targets {
     pub kinds: [u8; 64],
     pub numbers: [usize; 64],

@@ -4,91 +4,91 @@
 use super::decision::Move;
 
 // 12: the participant's number.
-#[derive(Drop)]
+#[derive(Clone, Copy)]
 pub enum Sender {
     Is(usize),
     NoParticipant,
 }
 
 // 13
-#[derive(Drop)]
+#[derive(Clone, Copy)]
 pub enum Key {
     New,
     AlreadyHeld,
 }
 
 // 14: the participant that the row leads to.
-#[derive(Drop)]
+#[derive(Clone, Copy)]
 pub enum Payee {
     Reached(usize),
     NoRoute,
 }
 
 // 15
-#[derive(Drop)]
+#[derive(Clone, Copy)]
 pub enum Space {
     Left,
     Full,
 }
 
 // 16: the order's number.
-#[derive(Drop)]
+#[derive(Clone, Copy)]
 pub enum Held {
     Number(usize),
     NotHeld,
 }
 
 // 17
-#[derive(Drop)]
+#[derive(Clone, Copy)]
 pub enum Party {
     Right,
     Wrong,
 }
 
 // 18
-#[derive(Drop)]
+#[derive(Clone, Copy)]
 pub enum Standing {
     AsNeeded,
     NotAsNeeded,
 }
 
 // 26
-#[derive(Drop)]
+#[derive(Clone, Copy)]
 pub enum Recalling {
     InTime,
     TooLate,
 }
 
 // 19
-#[derive(Drop)]
+#[derive(Clone, Copy)]
 pub enum Sum {
     UpToOrder,
     AboveOrder,
 }
 
 // 20
-#[derive(Drop)]
+#[derive(Clone, Copy)]
 pub enum Funds {
     Enough,
     TooLittle,
 }
 
 // 21, of a cut
-#[derive(Drop)]
+#[derive(Clone, Copy)]
 pub enum Cutting {
     AllConfirmed,
     Unconfirmed,
 }
 
 // 21, of a confirm: as a confirmed credit or debit.
-#[derive(Drop)]
+#[derive(Clone, Copy)]
 pub enum Confirming {
     By(Move),
     Excluded,
 }
 
 // 22
-#[derive(Drop)]
+#[derive(Clone, Copy)]
 pub enum Limit {
     Within,
     Above,

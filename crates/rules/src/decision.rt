@@ -3,7 +3,7 @@ use super::Order;
 use report::Report;
 
 // How a participant's cover moves: specs/Cover.antt says what each does.
-#[derive(Drop)]
+#[derive(Clone, Copy)]
 pub enum Move {
     Stay,
     Give,
@@ -16,7 +16,7 @@ pub enum Move {
 }
 
 // Who moves, how, by how much.
-#[derive(Drop)]
+#[derive(Clone, Copy)]
 pub struct Transfer {
     pub who: usize,
     pub how: Move,
@@ -24,14 +24,14 @@ pub struct Transfer {
 }
 
 // The reports of a step, or those of a cut to one participant: at most two.
-#[derive(Drop)]
+#[derive(Clone, Copy)]
 pub enum Told {
     Nobody,
     One(Report),
     Two(Report, Report),
 }
 
-#[derive(Drop)]
+#[derive(Clone, Copy)]
 pub struct Decision {
     // which order is written, what it becomes, and how many are held then
     pub number: usize,

@@ -4,7 +4,7 @@ use dayfile::route::Followed;
 use fields::Found;
 use ticket::kinds::Kind;
 
-#[derive(Drop)]
+#[derive(Clone, Copy)]
 pub struct Finding {
     // the ticket's; its time is the clock
     pub kind: Kind,

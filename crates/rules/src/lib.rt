@@ -1,5 +1,7 @@
 // The types of the book, and of what is found, asked, checked and decided when a ticket is handed in. There is no code here: specs/ says
 // what every ticket does to a book.
+#![tactic(auto)]
+
 pub mod checks;
 pub mod constants;
 pub mod decision;
@@ -11,7 +13,7 @@ pub mod verdict;
 use dayfile::roster::Roster;
 
 // 01: with its recall mark none, asked or declined
-#[derive(Drop)]
+#[derive(Clone, Copy)]
 pub enum Recall {
     None,
     Asked,
@@ -19,7 +21,7 @@ pub enum Recall {
 }
 
 // 02, slip 5: from its settlement on an order keeps the time of it; slip 2: a returned one keeps the returned amount beside its own.
-#[derive(Drop)]
+#[derive(Clone, Copy)]
 pub enum Status {
     Waiting,
     Refused,
@@ -29,7 +31,7 @@ pub enum Status {
 }
 
 // The TxId is stored as its 35 padded bytes; payer and payee are participant numbers.
-#[derive(Drop)]
+#[derive(Clone, Copy)]
 pub struct Order {
     pub txid: [u8; 35],
     pub payer: usize,
@@ -40,7 +42,7 @@ pub struct Order {
 }
 
 // Debit is the open debit.
-#[derive(Drop)]
+#[derive(Clone, Copy)]
 pub struct Cover {
     pub available: u64,
     pub reserved: u64,
@@ -49,7 +51,7 @@ pub struct Cover {
 }
 
 // The first count orders are in use, in arrival order.
-#[derive(Drop)]
+#[derive(Clone, Copy)]
 pub struct Book {
     pub clock: u32,
     pub covers: [Cover; 32],

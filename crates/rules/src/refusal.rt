@@ -1,21 +1,21 @@
 // The answers of the checks that are made on a book, a case for each refusal.
 
 // 6: the report buffer.
-#[derive(Drop)]
+#[derive(Clone, Copy)]
 pub enum Buffer {
     Enough,
     Short,
 }
 
 // 11: the ticket's time.
-#[derive(Drop)]
+#[derive(Clone, Copy)]
 pub enum Timing {
     InTime,
     Early,
 }
 
 // 12 to 16: who and what is named.
-#[derive(Drop)]
+#[derive(Clone, Copy)]
 pub enum Naming {
     Known,
     NoParticipant,
@@ -26,7 +26,7 @@ pub enum Naming {
 }
 
 // 17, 18, 26, 19: whether this may be done.
-#[derive(Drop)]
+#[derive(Clone, Copy)]
 pub enum Permission {
     Granted,
     WrongParty,
@@ -36,7 +36,7 @@ pub enum Permission {
 }
 
 // 20 to 22: whether there is cover and room.
-#[derive(Drop)]
+#[derive(Clone, Copy)]
 pub enum Backing {
     Backed,
     TooLittle,

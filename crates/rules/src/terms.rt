@@ -1,7 +1,7 @@
 // What each kind of ticket asks for before its step is taken.
 
 // What it names: nothing, a sender, an order to be opened, or an order that is held.
-#[derive(Drop)]
+#[derive(Clone, Copy)]
 pub enum Subject {
     Nothing,
     Sender,
@@ -10,7 +10,7 @@ pub enum Subject {
 }
 
 // Who answers for it.
-#[derive(Drop)]
+#[derive(Clone, Copy)]
 pub enum Party {
     Anyone,
     Payer,
@@ -18,7 +18,7 @@ pub enum Party {
 }
 
 // The status and mark that its order must have.
-#[derive(Drop)]
+#[derive(Clone, Copy)]
 pub enum Needs {
     Anything,
     Waiting,
@@ -27,7 +27,7 @@ pub enum Needs {
 }
 
 // What it does with available cover: nothing, brings more in, draws on it, sets it to the opening covers, confirms that.
-#[derive(Drop)]
+#[derive(Clone, Copy)]
 pub enum Flow {
     Nothing,
     Brings,
@@ -37,7 +37,7 @@ pub enum Flow {
 }
 
 // Timely: it comes less than 864,000 seconds after the order's settlement. Within: its amount is at most the order's.
-#[derive(Drop)]
+#[derive(Clone, Copy)]
 pub struct Terms {
     pub subject: Subject,
     pub party: Party,

@@ -10,7 +10,7 @@ use fields::Found;
 use ticket::kinds::Kind;
 
 // The order that a ticket is about, as far as it is looked at.
-#[derive(Drop)]
+#[derive(Clone, Copy)]
 pub struct About {
     pub payer: usize,
     pub payee: usize,
@@ -19,7 +19,7 @@ pub struct About {
 }
 
 // Of what was found for a ticket, all that is looked at.
-#[derive(Drop)]
+#[derive(Clone, Copy)]
 pub struct Facts {
     // the ticket's; its time is the clock
     pub kind: Kind,
@@ -42,7 +42,7 @@ pub struct Facts {
 }
 
 // What becomes of the order and of the book: nothing, a new order, another status of the order it is about, a cut.
-#[derive(Drop)]
+#[derive(Clone, Copy)]
 pub enum Does {
     Nothing,
     Opens,
@@ -51,21 +51,21 @@ pub enum Does {
 }
 
 // Who moves, and how. Who stays put is participant 0.
-#[derive(Drop)]
+#[derive(Clone, Copy)]
 pub struct Mover {
     pub who: usize,
     pub how: Move,
 }
 
 // A report: to whom, and its code, 0 where there is none.
-#[derive(Drop)]
+#[derive(Clone, Copy)]
 pub struct Notice {
     pub to: usize,
     pub code: u8,
 }
 
 // Of a refused ticket all but the refusal is nothing.
-#[derive(Drop)]
+#[derive(Clone, Copy)]
 pub struct Verdict {
     pub refusal: u8,
     pub does: Does,

@@ -4,14 +4,14 @@ ghost use Rattle.xml.specs.Bytes.{is_first};
 ghost use Rattle.scan.specs.AttributeParts.{ValueBegun, AttributeRead};
 
 // Where a part of an attribute ends: the place behind it; or the place where it isn't one.
-#[derive(Drop)]
+#[derive(Clone, Copy)]
 pub enum AttributeEnd {
     At(usize),
     Broken(usize),
 }
 
 // An attribute: where its name begins and ends, where its value begins, and the place of its closing quote.
-#[derive(Drop)]
+#[derive(Clone, Copy)]
 pub enum AttributeAt {
     Read {
         name: usize,

@@ -1,5 +1,7 @@
 // Places in a text: the byte at a place, the classes of bytes, and where a run of bytes of one class ends. Nothing is asked of a place:
 // behind the text's end the byte is 0, and a run is empty. Texts, values and the names of tags are read four bytes a turn.
+#![tactic(auto)]
+
 mod attributes;
 
 ghost use Rattle.std.specs.Prelude.{◌≡◌, cond, ◌+◌, ◌-◌, ltb, get_or, drop};

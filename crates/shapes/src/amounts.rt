@@ -10,7 +10,7 @@ const MOST_COVER: u64 = 1_000_000_000_000_000_000;
 const MOST_ORDER: u64 = 99_999_999_999;
 
 // Most is 0 where a kind lists no amount.
-#[derive(Drop)]
+#[derive(Clone, Copy)]
 pub struct Amounts {
     pub least: u64,
     pub most: u64,

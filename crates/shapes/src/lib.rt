@@ -1,6 +1,8 @@
 // Refusals 7 and 8, by what a ticket's kind names: nothing, a sender, an order that is held, a new order. A code that was found is well
 // formed, and is not tested again. Codes are tested first, so that nothing of the other tests is held meanwhile. Each class has one
 // function; that a kind of a class has the class's form is a law over the kinds (`cover-formed` and its like).
+#![tactic(auto)]
+
 pub mod amounts;
 mod blanks;
 mod known;

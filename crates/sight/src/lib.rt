@@ -2,6 +2,8 @@
 // are below 256 comes from the slice itself, so that words tell codes apart; `see` asks nothing about it. Nothing reads a ticket without
 // a book: `reading` of `ticket` is the definition of 7 to 10, and `see`, which is lent the rows of a book, equals it together with 11.
 // With no rows at clock 0, as `cases` calls it, it is `reading` alone.
+#![tactic(auto)]
+
 mod subjects;
 mod values;
 
@@ -18,7 +20,7 @@ use ticket::kinds::{Kind, Kinded};
 use ticket::{kinds, layout};
 
 // A ticket that 7 to 11 do not refuse. What its kind does not ask for is nothing.
-#[derive(Drop)]
+#[derive(Clone, Copy)]
 pub struct Seen {
     pub kind: Kind,
     pub time: u32,
@@ -28,7 +30,7 @@ pub struct Seen {
     pub route: Found,
 }
 
-#[derive(Drop)]
+#[derive(Clone, Copy)]
 pub enum Sight {
     Read(Seen),
     Refused(u8),

@@ -20,7 +20,7 @@ use ticket::layout;
 use ticket::shapes::{Account, Shape};
 
 // Sender, order and route of a ticket that 7 and 8 do not refuse.
-#[derive(Drop)]
+#[derive(Clone, Copy)]
 pub enum Formed {
     With(Found, Found, Found),
     Refused(u8),

@@ -1,5 +1,7 @@
 // Tags: what stands behind a tag's name. Its attributes are read from the left, each up to its closing quote; where there are two or more,
 // their names are compared. Most tags have no attribute, and end at the first byte that is looked at.
+#![tactic(auto)]
+
 ghost use Rattle.std.specs.Prelude.{◌≡◌, List, ℕ, ◌≤◌, length, drop};
 ghost use Rattle.xml.specs.Tree.{Attribute};
 ghost use Rattle.xml.specs.Scanning.{attributes_of, attributed, tag_behind};
@@ -8,7 +10,7 @@ ghost use Rattle.tags.specs.Tagged.{AttributeEnded, RepeatsTold, Tagged};
 use scan::AttributeEnd;
 
 // Where a tag ends: the place behind > or />; or the place where it isn't a tag, or where it would end if no name stood twice.
-#[derive(Drop)]
+#[derive(Clone, Copy)]
 pub enum TagEnd {
     Opens(usize),
     Closes(usize),

@@ -1,11 +1,11 @@
 // Answers of refusals 9 and 10: whether a ticket's amount is one that its kind takes.
-#[derive(Drop)]
+#[derive(Clone, Copy)]
 pub enum Stated {
     Amount(u64),
     Zero,
 }
 
-#[derive(Drop)]
+#[derive(Clone, Copy)]
 pub enum Limit {
     Within,
     Above,

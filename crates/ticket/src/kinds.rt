@@ -2,7 +2,7 @@
 ghost use Rattle.std.specs.Prelude.{◌≡◌};
 ghost use Rattle.ticket.specs.Kind.{flagged, yes_or_no, kinded};
 
-#[derive(Drop)]
+#[derive(Clone, Copy)]
 pub enum Kind {
     CoverIn,
     CoverOut,
@@ -18,7 +18,7 @@ pub enum Kind {
     Tick,
 }
 
-#[derive(Drop)]
+#[derive(Clone, Copy)]
 pub enum Kinded {
     As(Kind),
     Unknown,

@@ -1,6 +1,8 @@
 // A ticket of 108 bytes: where its fields lie, its kind, its TxId, and the answers of refusals 7 to 10. What these look at is in specs/;
 // the code that asks it is in `shapes` and `sight`. What is read of a ticket is numbers only (`Fields`): sender, payee or payer, and TxId
 // are parts of the caller's slice, since an enum can't hold an array, and nothing is copied.
+#![tactic(auto)]
+
 pub mod amounts;
 pub mod forms;
 pub mod kinds;
@@ -13,7 +15,7 @@ ghost use Rattle.ticket.specs.TicketReading.{txid_part};
 use kinds::Kind;
 
 // What the book goes by. Sender, payee or payer, and TxId are parts of the ticket's own bytes.
-#[derive(Drop)]
+#[derive(Clone, Copy)]
 pub struct Fields {
     pub kind: Kind,
     pub time: u32,
@@ -21,7 +23,7 @@ pub struct Fields {
 }
 
 // Of a ticket by itself: its fields, or a refusal from 7 to 10.
-#[derive(Drop)]
+#[derive(Clone, Copy)]
 pub enum Reading {
     Read(Fields),
     Refused(u8),

@@ -5,3 +5,4 @@
 // among them, so holds of verdicts. Without code a chain in another order is refused in seconds. Must-fail edits of the order are of the
 // definition: in the code a swap of two checks gives its places other names, and the refusal would show nothing. That the code has the
 // definition's order is its contract.
+#![tactic(auto)]
