@@ -1,0 +1,10 @@
+-- `checks::funds_check` meets its contract. Assumes nothing.
+use Rattle.checks.proofs.funds_check.Goals as goal
+
+pub returns-then-short : goal.returns-then-short
+returns-then-short c =
+    simp c.if-short.auto.true-raw
+
+pub returns : goal.returns
+returns c =
+    simp c.if-short.auto.false-raw

@@ -1,0 +1,10 @@
+-- `checks::party_check` meets its contract. Assumes nothing.
+use Rattle.checks.proofs.party_check.Goals as goal
+
+pub returns-then-right : goal.returns-then-right
+returns-then-right c =
+    simp c.if-right.auto.true-raw
+
+pub returns : goal.returns
+returns c =
+    simp c.if-right.auto.false-raw

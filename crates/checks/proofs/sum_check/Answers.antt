@@ -1,0 +1,10 @@
+-- `checks::sum_check` meets its contract. Assumes nothing.
+use Rattle.checks.proofs.sum_check.Goals as goal
+
+pub returns-then-above : goal.returns-then-above
+returns-then-above c =
+    simp c.if-above.auto.true-raw
+
+pub returns : goal.returns
+returns c =
+    simp c.if-above.auto.false-raw

@@ -1,0 +1,48 @@
+-- `foreign_steps::zolfigar_steps` meets its contract. Assumes nothing.
+use mathlib.Core.Path.{sym, ◌∙◌}
+use native.Mathlib.Omega.{arith}
+use Rattle.std.specs.Prelude.{◌≤◌, length}
+use Rattle.fields.proofs.FromFront.{to_end}
+use Rattle.foreign_steps.proofs.Stepping.{refused-stepped, roomless-stepped, accepted-stepped, first-within}
+use Rattle.foreign_steps.proofs.zolfigar_steps.Goals.{After-book-1}
+use Rattle.foreign_steps.proofs.zolfigar_steps.Goals as goal
+
+-- the tickets lie within the file
+within c (c c After-book-1) → let o = c.before.before.before.before.before in
+    o.«open».result.first ≤ length o.before.before.before.before.args.file.now
+within c =
+    let o = c.before.before.before.before.before in
+    let a = o.before.before.before.before.args in
+    first-within a.file.now a.answers.now a.reports.now o.«open».result
+    o.«open».ensures.opened c.before.before.before.if1.false
+
+pub returns-then-o-ne0 : goal.returns-then-o-ne0
+returns-then-o-ne0 c =
+    let a = c.args in
+    refused-stepped a.file.now a.answers.now a.reports.now (goal.at.returns-then-o-ne0 c).After-open-o.«open».result (goal.at.returns-then-o-ne0 c).After-open-o.«open».ensures.opened
+    c.if-o-ne0.true
+
+pub returns-then-lacks_room : goal.returns-then-lacks_room
+returns-then-lacks_room c =
+    let a = c.args in
+    roomless-stepped a.file.now a.answers.now a.reports.now (goal.at.returns-then-lacks_room c).After-open-o.«open».result (goal.at.returns-then-lacks_room c).After-open-o.«open».ensures.opened
+    c.if-o-ne0.false (sym c.lacks_room.ensures ∙ c.if-lacks_room.true)
+
+pub slice_bounds-run-count : goal.slice_bounds-run-count
+slice_bounds-run-count c =
+    let w = within c in omega arith
+
+pub slice_bounds-run-start : goal.slice_bounds-run-start
+slice_bounds-run-start c =
+    let w = within c in omega arith
+
+pub run-ran-requires : goal.run-ran-requires
+run-ran-requires c =
+    (goal.at.run-ran-requires c).After-open-o.«open».ensures.sound
+
+pub returns : goal.returns
+returns c =
+    let a = c.args in
+    accepted-stepped a.file.now a.answers.now a.reports.now (goal.at.returns c).After-open-o.«open».result
+    (goal.at.returns c).After-open-o.«open».ensures.opened c.if-o-ne0.false (sym c.lacks_room.ensures ∙ c.if-lacks_room.false)
+    (rw (to_end a.file.now (goal.at.returns c).After-open-o.«open».result.first) at c.run-ran.ensures)

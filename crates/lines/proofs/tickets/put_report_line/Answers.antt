@@ -1,0 +1,18 @@
+-- `lines::tickets::put_report_line` meets its contract. Assumes nothing.
+use native.Mathlib.Omega.{arith}
+use Rattle.lines.proofs.Longest.{report-line-most}
+use borrow.Author.Rules.{rules}
+use Rattle.lines.proofs.tickets.put_report_line.Goals as goal
+
+pub put_line-requires : goal.put_line-requires
+put_line-requires c =
+    let a = c.args in
+    let most = report-line-most a.r (search rules) (search rules) (search rules) in
+    omega arith
+
+pub returns : goal.returns
+returns c =
+    let a = c.args in
+    let most = report-line-most a.r (search rules) (search rules) (search rules) in
+    let e = c.put_line.ensures.end in
+    (c.put_line.ensures, omega arith)

@@ -1,0 +1,22 @@
+use mathlib.Core.Path.{◌≡◌, ◌∙◌, ap}
+use Prim.Native.Nat.{◌-◌}
+use native.Mathlib.Numerals.{add-one}
+use native.Mathlib.Omega.{arith}
+use lib.ListN.{length-set}
+use Rattle.rules.specs.Cut.{cut_to}
+use borrow.Author.Rules.{rules}
+use Rattle.moves.proofs.cut.cut_covers.Goals as goal
+
+pub cut_cover-requires : goal.cut_cover-requires
+cut_cover-requires c =
+    c.requires.1 c.loop-p.p c.loop-p-test.true
+
+pub loop-p-preserved : goal.loop-p-preserved
+loop-p-preserved c =
+    (search rules, length-set c.loop-p.after c.loop-p.p _ ∙ c.loop-p.invariant.1, simp (add-one, c.loop-p.invariant.2, c.cut_cover.ensures))
+
+pub returns : goal.returns
+returns c =
+    let a = c.args in
+    let end : c.loop-p.p ≡ a.t1.size = omega arith in
+    c.loop-p.invariant.2 ∙ ap (cut_to a.t1 a.t2) end

@@ -1,0 +1,42 @@
+-- `moves::told::put_told` meets its contract. Assumes nothing.
+use mathlib.Core.Path.{refl, ◌∙◌, ap}
+use mathlib.Core.List.{List}
+use Prim.Native.Nat.{ℕ, ◌+◌, ◌*◌}
+use lib.Seq.{sets}
+use Rattle.report.specs.ReportLayout.{report_bytes}
+use Rattle.report.proofs.ReportLaws.{put_one, put_two}
+use borrow.Author.Rules.{rules}
+use Rattle.moves.proofs.told.put_told.Goals as goal
+
+pub put_report-requires : goal.put_report-requires
+put_report-requires c =
+    rw c.in-One.is at c.requires
+
+pub put_report-requires-in-Two : goal.put_report-requires-in-Two
+put_report-requires-in-Two c =
+    let h = rw c.in-Two.is at c.requires in search rules
+
+pub put_report-requires-in-Two-2 : goal.put_report-requires-in-Two-2
+put_report-requires-in-Two-2 c =
+    let h = rw c.in-Two.is at c.requires in
+    search rules
+
+pub returns-in-Nobody : goal.returns-in-Nobody
+returns-in-Nobody c =
+    rw c.in-Nobody.is (refl, search rules)
+
+pub returns-in-One : goal.returns-in-One
+returns-in-One c =
+    let a = c.args in
+    rw c.in-One.is (c.put_report.ensures ∙ put_one a.buffer.now (12 * a.n) _, search rules)
+
+pub returns-in-Two : goal.returns-in-Two
+returns-in-Two c =
+    let a = c.args in
+    let r = c.told-in-Two-1.given.0 in
+    rw c.in-Two.is (
+      c.put_report-in-Two-2.ensures
+          ∙ ap (λ (l : List ℕ). sets l (12 * (a.n + 1)) (report_bytes r.1.0)) c.put_report-in-Two.ensures
+          ∙ put_two a.buffer.now a.n r.0 r.1.0,
+      search rules,
+    )

@@ -1,0 +1,7 @@
+-- `prolog::is_letter` meets its contract: the test is the definition's. Assumes nothing.
+use mathlib.Core.Path.{refl}
+use Rattle.prolog.proofs.is_letter.Goals as goal
+
+pub returns : goal.returns
+returns c =
+    refl

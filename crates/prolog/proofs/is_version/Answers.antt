@@ -1,0 +1,8 @@
+-- `prolog::is_version` meets its contract. Assumes nothing.
+use mathlib.Core.Path.{ap₂}
+use mathlib.Core.Bool.{◌&&◌}
+use Rattle.prolog.proofs.is_version.Goals as goal
+
+pub returns : goal.returns
+returns c =
+    ap₂ ◌&&◌ c.same_bytes.ensures c.same_bytes-2.ensures

@@ -1,0 +1,7 @@
+-- `scan::is_first` meets its contract: the test is the definition's. Assumes nothing.
+use mathlib.Core.Path.{refl}
+use Rattle.scan.proofs.is_first.Goals as goal
+
+pub returns : goal.returns
+returns c =
+    refl

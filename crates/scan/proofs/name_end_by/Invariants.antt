@@ -1,0 +1,14 @@
+-- `scan::name_end_by` meets its contract. The loop's invariant: the run from i on ends where the run from the first place on does. In each
+-- turn four bytes are there. Assumes nothing.
+use mathlib.Core.Path.{◌≡◌}
+use Prim.Native.Nat.{◌-◌}
+use lib.ListN.{length}
+use Rattle.xml.specs.Bytes.{is_name}
+use Rattle.scan.proofs.Runs.{run_end}
+use Rattle.scan.proofs.name_end_by.Given as goal
+
+abbrev pub invariant-loop-i : goal.invariant-loop-i
+invariant-loop-i l = run_end is_name l.text l.at ≡ run_end is_name l.text l.i
+
+abbrev pub decreases-loop-i : goal.decreases-loop-i
+decreases-loop-i l = length l.text - l.i

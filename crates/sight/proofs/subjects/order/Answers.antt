@@ -1,0 +1,37 @@
+-- `sight::subjects::order` meets its contract. Assumes nothing.
+use mathlib.Core.Path.{◌≡◌, sym, ◌∙◌}
+use Rattle.ticket.specs.Shape.{shape_of}
+use Rattle.ticket.specs.declared.kinds.Kind.TheVariants.{Order}
+use Rattle.ticket.specs.declared.shapes.Shape.TheVariants.{Formed}
+use Rattle.rules.specs.declared.terms.Subject.TheVariants.{NewOrder}
+use Rattle.shapes.proofs.Forms.{formed-kind}
+use Rattle.sight.proofs.Seeing.{sight-malformed, sight-wrong, sight-named}
+use Rattle.sight.proofs.subjects.order.Goals.{In-Formed}
+use Rattle.sight.proofs.subjects.order.Goals as goal
+
+-- 7 passed
+formed c (c c In-Formed) → shape_of c.before.before.before.before.args.t.now ≡ Formed Order
+formed c =
+    let shape = c.before.before in
+    let s = shape.before.before in
+    formed-kind NewOrder Order s.args.t.now s.requires.0 _ (sym shape.order.ensures ∙ c.enum_told.given.1)
+
+pub returns-in_default : goal.returns-in_default
+returns-in_default c = (λ c clock.
+    let shape = c.before.before in
+    let a = shape.before.before.args in
+    sym (sight-malformed clock a.t.now a.sender a.order a.route (sym shape.order.ensures ∙ c.enum-told2.given.1))) c -- FIXME
+
+pub returns-in_default-account : goal.returns-in_default-account
+returns-in_default-account c = (λ c clock.
+    let account = c.before.before in
+    let a = account.before.before.before.before.before.args in
+    sym (sight-wrong clock a.t.now a.sender a.order a.route Order (formed account.before)
+    (sym account.account.ensures ∙ c.enum-told4.given.1))) c -- FIXME
+
+pub returns : goal.returns
+returns c = (λ c clock.
+    let account = c.before.before in
+    let a = account.before.before.before.before.before.args in
+    sym (sight-named clock a.t.now a.sender a.order a.route Order (formed account.before)
+    (sym account.account.ensures ∙ c.enum-told3.given.1))) c -- FIXME

@@ -1,0 +1,10 @@
+-- `sight::values::stated` meets its contract. Assumes nothing.
+use Rattle.sight.proofs.values.stated.Goals as goal
+
+pub returns-then-short : goal.returns-then-short
+returns-then-short c =
+    simp (c.if-short.auto.true-raw, ← c.u64_at-n.ensures)
+
+pub returns : goal.returns
+returns c =
+    simp (c.if-short.auto.false-raw, ← c.u64_at-n.ensures)
