@@ -3,8 +3,8 @@ use Rattle.checks.proofs.sum_check.Goals as goal
 
 pub returns-then-above : goal.returns-then-above
 returns-then-above c =
-    simp c.if-above.auto.true-raw
+    simp c.if-above.true-raw
 
 pub returns : goal.returns
 returns c =
-    simp c.if-above.auto.false-raw
+    simp c.if-above.false-raw

@@ -16,15 +16,14 @@ module _ (c : Else-not-shaped) where
   s = c.args.s.now
 
   shape : iban_shape s ≡ true
-  shape = sym c.shaped.ensures ∙ not-false _ c.if-not-shaped.auto.false-raw
+  shape = sym c.shaped.ensures ∙ not-false _ c.if-not-shaped.false-raw
 
   whole : unpadded s ≡ s
   whole = shape-whole s shape
 
-
 pub returns-then-not-shaped : goal.returns-then-not-shaped
 returns-then-not-shaped c =
-    let none = sym c.shaped.ensures ∙ not-true _ c.if-not-shaped.auto.true-raw in (rw none, rw none)
+    let none = sym c.shaped.ensures ∙ not-true _ c.if-not-shaped.true-raw in (rw none, rw none)
 
 pub divided-requires : goal.divided-requires
 divided-requires c =

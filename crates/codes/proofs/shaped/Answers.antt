@@ -21,7 +21,6 @@ module _ (c : Else-s-gt34) where
   told : (front : Bool) → iban_front s ≡ front → (front && all_in CapitalOrDigit s) ≡ iban_shape s
   told front e = ap (λ (b : Bool). b && all_in CapitalOrDigit s) (sym e) ∙ shape-told s (omega arith) (omega arith)
 
-
 pub returns-then-s-lt5 : goal.returns-then-s-lt5
 returns-then-s-lt5 c =
     simp (lt-leb _ _ c.if-s-lt5.true)
@@ -32,8 +31,8 @@ returns-then-s-gt34 c =
 
 pub returns-then-not-iban_front : goal.returns-then-not-iban_front
 returns-then-not-iban_front c =
-    told (goal.at.returns-then-not-iban_front c).Else-s-gt34 _ (sym c.iban_front.ensures ∙ not-true _ c.if-not-iban_front.auto.true-raw)
+    told (goal.at.returns-then-not-iban_front c).Else-s-gt34 _ (sym c.iban_front.ensures ∙ not-true _ c.if-not-iban_front.true-raw)
 
 pub returns : goal.returns
 returns c =
-    c.spelt.ensures ∙ told (goal.at.returns c).Else-s-gt34 _ (sym c.iban_front.ensures ∙ not-false _ c.if-not-iban_front.auto.false-raw)
+    c.spelt.ensures ∙ told (goal.at.returns c).Else-s-gt34 _ (sym c.iban_front.ensures ∙ not-false _ c.if-not-iban_front.false-raw)

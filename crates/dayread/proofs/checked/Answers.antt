@@ -38,46 +38,39 @@ both : (f : List ℕ) (n : ℕ) (c : Outcome) → c ≡ refused_header n → ref
 both f n c e is = rw e (is, record { few = omega arith; participants = omega arith; short = omega arith; routes = omega arith })
 
 -- 1 passed
-head c (c c After-check_counts) → headed (given c) ≡ As (header c)
-head c = sym c.before.before.before.before.read-header.ensures ∙ c.before.before.h.given.1
+head : (c : After-check_counts) → headed (given c) ≡ As (header c)
+head c = sym c.read_header.ensures ∙ c.in-As.is
 
 -- 2 passed
-range c (c c In-Within) → ranged (header c.before.before) ≡ Within
-range c = sym c.before.before.check-counts.ensures ∙ c.enum-told2.given.1
+range : (c : In-Within) → ranged (header (FIXME After-check_counts)) ≡ Within
+range c = sym c.check_counts.ensures ∙ c.in-Within.is
 
 -- 3 passed
-place c (c c In-Right) → let k = c.before.before.before.before.before in placed (header k) (length (given k)) ≡ Right
-place c = sym c.before.before.check-places.ensures ∙ c.enum-told4.given.1
+place : (c : In-Right) → placed (header (FIXME After-check_counts)) (length (given (FIXME After-check_counts))) ≡ Right
+place c = sym c.check_places.ensures ∙ c.in-Right.is
 
 -- where the sections lie
-placing c (c c In-Right) → let k = c.before.before.before.before.before in InPlace (header k) (length (given k))
-placing c = let k = c.before.before.before.before.before in in_place (header k) (length (given k)) (place c)
+placing : (c : In-Right) → InPlace (header (FIXME After-check_counts)) (length (given (FIXME After-check_counts)))
+placing c = in_place (header (FIXME After-check_counts)) (length (given (FIXME After-check_counts))) (place c)
 
-
-ranging c (c c In-Right) → CountsInRange (header c.before.before.before.before.before).counts
-ranging c = counts-in-range (header c.before.before.before.before.before) (range c.before.before.before)
+ranging : (c : In-Right) → CountsInRange (header (FIXME After-check_counts)).counts
+ranging c = counts-in-range (header (FIXME After-check_counts)) (range (FIXME In-Within))
 
 -- the file from refusal 4 on
-from-participants c (c c After-check_participants)
-    → let k = c.before.before.before.before.before.before.before.before in
-    day_file (given k) ≡ file_enrolled (header k) (given k) c.check-participants.result
+from-participants : (c : After-check_participants)
+    → day_file (given (FIXME After-check_counts)) ≡ file_enrolled (header (FIXME After-check_counts)) (given (FIXME After-check_counts)) c.check_participants.result
 from-participants c =
-    let e = c.before.before.before in
-    let k = e.before.before.before.before.before in
-    file-placed (given k) (header k) (head k) (range e.before.before.before) (place e)
-    ∙ ap (file_enrolled (header k) (given k)) (sym c.check-participants.ensures)
+    file-placed (given (FIXME After-check_counts)) (header (FIXME After-check_counts)) (head (FIXME After-check_counts)) (range (FIXME In-Within)) (place (FIXME In-Right))
+    ∙ ap (file_enrolled (header (FIXME After-check_counts)) (given (FIXME After-check_counts))) (sym c.check_participants.ensures)
 
 -- the file from refusal 5 on
-from-routes c (c c After-check_routes)
-    → let k = c.before.before.before.before.before.before.before.before.before.before.before in
-    day_file (given k) ≡ file_routed (header k) (given k) c.check-routes.result
+from-routes : (c : After-check_routes)
+    → day_file (given (FIXME After-check_counts)) ≡ file_routed (header (FIXME After-check_counts)) (given (FIXME After-check_counts)) c.check_routes.result
 from-routes c =
-    let p = c.before.before.before in
-    let k = p.before.before.before.before.before.before.before.before in
-    from-participants p
-    ∙ ap (file_enrolled (header k) (given k)) c.before.enum-told6.given.1
-    ∙ ap (file_routed (header k) (given k)) {x = routed (header k).counts.participants (header k).offsets.routes
-    (header k).counts.routes (given k)} (sym c.check-routes.ensures)
+    from-participants (FIXME After-check_participants)
+    ∙ ap (file_enrolled (header (FIXME After-check_counts)) (given (FIXME After-check_counts))) c.in-Right-check_participants.is
+    ∙ ap (file_routed (header (FIXME After-check_counts)) (given (FIXME After-check_counts))) {x = routed (header (FIXME After-check_counts)).counts.participants (header (FIXME After-check_counts)).offsets.routes
+    (header (FIXME After-check_counts)).counts.routes (given (FIXME After-check_counts))} (sym c.check_routes.ensures)
 
 pub returns-in_default : goal.returns-in_default
 returns-in_default c =

@@ -19,7 +19,6 @@ module _ (c : After-judge_texts-arg-1) where
   five : FivePlaced start.args.kept.now (length start.args.text.now)
   five = five-placed _ _ (sym placed.before.all_Placed.ensures ∙ not-false _ placed.if3.left)
 
-
 pub returns-then-fault-ne0 : goal.returns-then-fault-ne0
 returns-then-fault-ne0 c = (λ c seen k.
     let a = c.before.before.before.before.before.args in

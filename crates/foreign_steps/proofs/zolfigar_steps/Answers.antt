@@ -8,13 +8,11 @@ use Rattle.foreign_steps.proofs.zolfigar_steps.Goals.{After-book-1}
 use Rattle.foreign_steps.proofs.zolfigar_steps.Goals as goal
 
 -- the tickets lie within the file
-within c (c c After-book-1) → let o = c.before.before.before.before.before in
-    o.«open».result.first ≤ length o.before.before.before.before.args.file.now
+within : (c : After-book-1) → (FIXME After-open-o).«open».result.first ≤ length c.args.file.now
 within c =
-    let o = c.before.before.before.before.before in
-    let a = o.before.before.before.before.args in
-    first-within a.file.now a.answers.now a.reports.now o.«open».result
-    o.«open».ensures.opened c.before.before.before.if1.false
+    let a = c.args in
+    first-within a.file.now a.answers.now a.reports.now (FIXME After-open-o).«open».result
+    (FIXME After-open-o).«open».ensures.opened c.if-o-ne0.false
 
 pub returns-then-o-ne0 : goal.returns-then-o-ne0
 returns-then-o-ne0 c =

@@ -5,8 +5,8 @@ use Rattle.index.proofs.bics_of.Goals.{In-loop-p}
 use Rattle.index.proofs.bics_of.Goals as goal
 
 -- a field is as wide as its row wants
-wide-field c (c c In-loop-p) → length (participant_in c.before.before.args.t1 c.before.loop.p).bic ≡ 11
-wide-field c = c.before.before.requires.1 c.before.loop.p c.loop-test.true
+wide-field : (c : In-loop-p) → length (participant_in c.args.participants c.loop-p.p).bic ≡ 11
+wide-field c = c.requires.1 c.loop-p.p c.loop-p-test.true
 
 pub loop-p-init : goal.loop-p-init
 loop-p-init c =

@@ -9,17 +9,16 @@ use Rattle.index.proofs.keys_of.Goals as goal
 -- the order at hand: its payer is a participant, and its fields are as wide as its row wants
 module _ (c : In-loop-i) where
   abbrev at-hand : Order
-  at-hand = order_of c.args.t2 c.loop-i.i
+  at-hand = order_of c.args.orders c.loop-i.i
 
   paid-by : at-hand.payer < 32
   paid-by = c.requires.1 c.loop-i.i c.loop-i-test.true
 
-  wide-bic : length (participant_in c.args.t1 at-hand.payer).bic ≡ 11
+  wide-bic : length (participant_in c.args.participants at-hand.payer).bic ≡ 11
   wide-bic = c.requires.2 c.loop-i.i c.loop-i-test.true
 
   wide-txid : length at-hand.txid ≡ 35
   wide-txid = c.requires.3 c.loop-i.i c.loop-i-test.true
-
 
 pub loop-i-init : goal.loop-i-init
 loop-i-init c =

@@ -5,8 +5,8 @@ use Rattle.index.proofs.route_bics_of.Goals.{In-loop-i}
 use Rattle.index.proofs.route_bics_of.Goals as goal
 
 -- a field is as wide as its row wants
-wide-field c (c c In-loop-i) → length (row_of c.before.before.args.t1 c.before.loop.i).bic ≡ 11
-wide-field c = c.before.before.requires.1 c.before.loop.i c.loop-test.true
+wide-field : (c : In-loop-i) → length (row_of c.args.routes c.loop-i.i).bic ≡ 11
+wide-field c = c.requires.1 c.loop-i.i c.loop-i-test.true
 
 pub loop-i-init : goal.loop-i-init
 loop-i-init c =

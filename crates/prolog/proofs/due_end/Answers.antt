@@ -12,7 +12,7 @@ use Rattle.prolog.proofs.due_end.Goals.{After-is_due}
 use Rattle.prolog.proofs.due_end.Goals as goal
 
 -- where an attribute was read
-module _ (c : In-Read-2) where
+module _ (c :: In-Read-2) where
   abbrev whole : List ℕ
   whole = c.args.text.now
 
@@ -25,16 +25,14 @@ module _ (c : In-Read-2) where
   found : AttributeThere whole from name c.in-Read.end c.in-Read.value c.in-Read.close
   found = there whole from c.attribute_at.ensures c.in-Read.is
 
-
 -- and the test of it
-module _ (c : After-is_due) where
+module _ (c :: After-is_due) where
   as-due : c.is_due.result
       ≡ due_test c.args.due
       (attribute_from (whole (FIXME In-Read-2)) (from (FIXME In-Read-2))
       (name (FIXME In-Read-2)))
   as-due =
       tested (whole (FIXME In-Read-2)) (from (FIXME In-Read-2)) c.attribute_at.ensures c.in-Read.is (is_due c.args.due) c.is_due.ensures
-
 
 pub returns-in_default : goal.returns-in_default
 returns-in_default c =

@@ -4,14 +4,14 @@ use Rattle.prolog.proofs.prolog_end.Goals as goal
 
 pub returns-then-not-is_declared : goal.returns-then-not-is_declared
 returns-then-not-is_declared c =
-    not-begun c.args.text.now c.is_declared.ensures c.if-not-is_declared.auto.true-raw
+    not-begun c.args.text.now c.is_declared.ensures c.if-not-is_declared.true-raw
 
 pub returns-then-version-eq5 : goal.returns-then-version-eq5
 returns-then-version-eq5 c =
     no-version
     c.args.text.now
     c.is_declared.ensures
-    c.if-not-is_declared.auto.false-raw
+    c.if-not-is_declared.false-raw
     c.due_end-version.ensures
     c.if-version-eq5.true
     c.space_end.ensures
@@ -21,7 +21,7 @@ returns c =
     declared-read
     c.args.text.now
     c.is_declared.ensures
-    c.if-not-is_declared.auto.false-raw
+    c.if-not-is_declared.false-raw
     FIXME.c.Closed-at.result
     c.due_end-version.ensures
     c.if-version-eq5.false

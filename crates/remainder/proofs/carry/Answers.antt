@@ -5,8 +5,7 @@ use native.Mathlib.Omega.{arith}
 use Rattle.remainder.proofs.carry.Goals.{Start}
 use Rattle.remainder.proofs.carry.Goals as goal
 
-
-product c (c c Start) → c.args.carried * c.args.power ≤ 96 * 10 ^ 7
+product : (c : Start) → c.args.carried * c.args.power ≤ 96 * 10 ^ 7
 product c = mul-le-mul {n₁ = c.args.carried} {n₂ = 96} (omega arith) c.requires.1
 
 pub overflow_mul-carried : goal.overflow_mul-carried

@@ -10,14 +10,13 @@ use Rattle.remainder.proofs.put.Goals.{After-power_of-2}
 use Rattle.remainder.proofs.put.Goals as goal
 
 -- the group that is whole
-group-small c (c c After-power_of-2)
-    → let a = c.before.before.before.before.args in
-    a.held.number * c.power-of3.result + a.number / c.before.power-of2.result < 10 ^ 7
+group-small : (c : After-power_of-2)
+    → let a = c.args in
+    a.held.number * c.power_of-2.result + a.number / c.power_of-power.result < 10 ^ 7
 group-small c =
-    let start = c.before.before.before.before in
-    let a = start.args in
-    group-fits a.held a.number a.digits start.requires.0 (omega arith) start.requires.2 start.requires.3
-    c.before.power-of2.ensures.0 c.power-of3.ensures.0
+    let a = c.args in
+    group-fits a.held a.number a.digits c.requires.0 (omega arith) c.requires.2 c.requires.3
+    c.power_of-power.ensures.0 c.power_of-2.ensures.0
 
 pub behind-requires : goal.behind-requires
 behind-requires c =

@@ -19,11 +19,11 @@ put_u16-requires c =
 
 pub put_u64-requires : goal.put_u64-requires
 put_u64-requires c =
-    let kept = simp length-set at c.put_u16.auto.0 in omega arith
+    let kept = simp length-set at c.put_u16.auto.s in omega arith
 
 pub shape_of-buffer : goal.shape_of-buffer
 shape_of-buffer c =
-    c.put_u64.auto.0 ∙ c.put_u16.auto.0 ∙ simp length-set
+    c.put_u64.auto.s ∙ c.put_u16.auto.s ∙ simp length-set
 
 pub returns : goal.returns
 returns c =

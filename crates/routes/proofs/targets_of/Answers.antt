@@ -25,4 +25,4 @@ loop-i-preserved c =
 pub returns : goal.returns
 returns c =
     let end : c.loop-i.i ≡ 64 = omega arith in
-    (c.loop-i.invariant.3 ∙ ap (kinds_to c.args.t1) end, c.loop-i.invariant.4 ∙ ap (numbers_to c.args.t1) end)
+    (c.loop-i.invariant.3 ∙ ap (kinds_to c.args.routes) end, c.loop-i.invariant.4 ∙ ap (numbers_to c.args.routes) end)

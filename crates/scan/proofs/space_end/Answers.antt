@@ -8,12 +8,12 @@ use Rattle.scan.proofs.space_end.Goals as goal
 pub returns-then-not-is_space : goal.returns-then-not-is_space
 returns-then-not-is_space c =
     let s = c.args.text.now in
-    sym (c.loop-i.invariant ∙ run-stops is_space s c.loop-i.i (search rules) c.is_space.ensures c.if-not-is_space.auto.true-raw)
+    sym (c.loop-i.invariant ∙ run-stops is_space s c.loop-i.i (search rules) c.is_space.ensures c.if-not-is_space.true-raw)
 
 pub loop-i-preserved : goal.loop-i-preserved
 loop-i-preserved c =
     let s = c.args.text.now in
-    c.loop-i.invariant ∙ run_on is_space s c.loop-i.i (search rules) c.is_space.ensures c.if-not-is_space.auto.false-raw
+    c.loop-i.invariant ∙ run_on is_space s c.loop-i.i (search rules) c.is_space.ensures c.if-not-is_space.false-raw
 
 pub returns : goal.returns
 returns c =

@@ -17,11 +17,11 @@ returns-then-not-is_value c =
     let there : i + 3 < length s = omega (arith, c.loop-i-test.true, c.but_three-last.ensures) in
     sym
     (c.loop-i.invariant
-    ∙ run-stops is_value s i (omega (arith, there)) c.is_value.ensures c.if-not-is_value.auto.true-raw)
+    ∙ run-stops is_value s i (omega (arith, there)) c.is_value.ensures c.if-not-is_value.true-raw)
 
 pub overflow_add-i : goal.overflow_add-i
 overflow_add-i c =
-    omega (arith, c.loop-i-test.true, c.but_three-last.ensures, FIXME.t.before.before.before.before.ranges)
+    omega (arith, c.loop-i-test.true, c.but_three-last.ensures, c.ranges)
 
 pub bounds-text-i-in-loop-i : goal.bounds-text-i-in-loop-i
 bounds-text-i-in-loop-i c =
@@ -29,7 +29,7 @@ bounds-text-i-in-loop-i c =
 
 pub overflow_add-result : goal.overflow_add-result
 overflow_add-result c =
-    omega (arith, c.loop-i-test.true, c.but_three-last.ensures, FIXME.t.before.before.before.before.ranges)
+    omega (arith, c.loop-i-test.true, c.but_three-last.ensures, c.ranges)
 
 pub returns-then-not-is_value-2 : goal.returns-then-not-is_value-2
 returns-then-not-is_value-2 c =
@@ -38,12 +38,12 @@ returns-then-not-is_value-2 c =
     let there : i + 3 < length s = omega (arith, c.loop-i-test.true, c.but_three-last.ensures) in
     sym
     (c.loop-i.invariant
-    ∙ run_on is_value s i (omega (arith, there)) c.is_value.ensures c.if-not-is_value.auto.false-raw
-    ∙ run-stops is_value s (i + 1) (omega (arith, there)) c.is_value-in-loop-i.ensures c.if-not-is_value-2.auto.true-raw)
+    ∙ run_on is_value s i (omega (arith, there)) c.is_value.ensures c.if-not-is_value.false-raw
+    ∙ run-stops is_value s (i + 1) (omega (arith, there)) c.is_value-in-loop-i.ensures c.if-not-is_value-2.true-raw)
 
 pub overflow_add-i-in-loop-i : goal.overflow_add-i-in-loop-i
 overflow_add-i-in-loop-i c =
-    omega (arith, c.loop-i-test.true, c.but_three-last.ensures, FIXME.t.before.before.before.before.ranges)
+    omega (arith, c.loop-i-test.true, c.but_three-last.ensures, c.ranges)
 
 pub bounds-text-i-in-loop-i-2 : goal.bounds-text-i-in-loop-i-2
 bounds-text-i-in-loop-i-2 c =
@@ -51,7 +51,7 @@ bounds-text-i-in-loop-i-2 c =
 
 pub overflow_add-result-then-not-is_value-3 : goal.overflow_add-result-then-not-is_value-3
 overflow_add-result-then-not-is_value-3 c =
-    omega (arith, c.loop-i-test.true, c.but_three-last.ensures, FIXME.t.before.before.before.before.ranges)
+    omega (arith, c.loop-i-test.true, c.but_three-last.ensures, c.ranges)
 
 pub returns-then-not-is_value-3 : goal.returns-then-not-is_value-3
 returns-then-not-is_value-3 c =
@@ -60,13 +60,13 @@ returns-then-not-is_value-3 c =
     let there : i + 3 < length s = omega (arith, c.loop-i-test.true, c.but_three-last.ensures) in
     sym
     (c.loop-i.invariant
-    ∙ run_on is_value s i (omega (arith, there)) c.is_value.ensures c.if-not-is_value.auto.false-raw
-    ∙ run-on-at is_value s i 1 (omega (arith, there)) c.is_value-in-loop-i.ensures c.if-not-is_value-2.auto.false-raw
-    ∙ run-stops is_value s (i + 2) (omega (arith, there)) c.is_value-in-loop-i-2.ensures c.if-not-is_value-3.auto.true-raw)
+    ∙ run_on is_value s i (omega (arith, there)) c.is_value.ensures c.if-not-is_value.false-raw
+    ∙ run-on-at is_value s i 1 (omega (arith, there)) c.is_value-in-loop-i.ensures c.if-not-is_value-2.false-raw
+    ∙ run-stops is_value s (i + 2) (omega (arith, there)) c.is_value-in-loop-i-2.ensures c.if-not-is_value-3.true-raw)
 
 pub overflow_add-i-in-loop-i-2 : goal.overflow_add-i-in-loop-i-2
 overflow_add-i-in-loop-i-2 c =
-    omega (arith, c.loop-i-test.true, c.but_three-last.ensures, FIXME.t.before.before.before.before.ranges)
+    omega (arith, c.loop-i-test.true, c.but_three-last.ensures, c.ranges)
 
 pub bounds-text-i-in-loop-i-3 : goal.bounds-text-i-in-loop-i-3
 bounds-text-i-in-loop-i-3 c =
@@ -74,7 +74,7 @@ bounds-text-i-in-loop-i-3 c =
 
 pub overflow_add-result-then-not-is_value-4 : goal.overflow_add-result-then-not-is_value-4
 overflow_add-result-then-not-is_value-4 c =
-    omega (arith, c.loop-i-test.true, c.but_three-last.ensures, FIXME.t.before.before.before.before.ranges)
+    omega (arith, c.loop-i-test.true, c.but_three-last.ensures, c.ranges)
 
 pub returns-then-not-is_value-4 : goal.returns-then-not-is_value-4
 returns-then-not-is_value-4 c =
@@ -83,14 +83,14 @@ returns-then-not-is_value-4 c =
     let there : i + 3 < length s = omega (arith, c.loop-i-test.true, c.but_three-last.ensures) in
     sym
     (c.loop-i.invariant
-    ∙ run_on is_value s i (omega (arith, there)) c.is_value.ensures c.if-not-is_value.auto.false-raw
-    ∙ run-on-at is_value s i 1 (omega (arith, there)) c.is_value-in-loop-i.ensures c.if-not-is_value-2.auto.false-raw
-    ∙ run-on-at is_value s i 2 (omega (arith, there)) c.is_value-in-loop-i-2.ensures c.if-not-is_value-3.auto.false-raw
-    ∙ run-stops is_value s (i + 3) there c.is_value-in-loop-i-3.ensures c.if-not-is_value-4.auto.true-raw)
+    ∙ run_on is_value s i (omega (arith, there)) c.is_value.ensures c.if-not-is_value.false-raw
+    ∙ run-on-at is_value s i 1 (omega (arith, there)) c.is_value-in-loop-i.ensures c.if-not-is_value-2.false-raw
+    ∙ run-on-at is_value s i 2 (omega (arith, there)) c.is_value-in-loop-i-2.ensures c.if-not-is_value-3.false-raw
+    ∙ run-stops is_value s (i + 3) there c.is_value-in-loop-i-3.ensures c.if-not-is_value-4.true-raw)
 
 pub overflow_add-i-in-loop-i-3 : goal.overflow_add-i-in-loop-i-3
 overflow_add-i-in-loop-i-3 c =
-    omega (arith, c.loop-i-test.true, c.but_three-last.ensures, FIXME.t.before.before.before.before.ranges)
+    omega (arith, c.loop-i-test.true, c.but_three-last.ensures, c.ranges)
 
 pub loop-i-smaller : goal.loop-i-smaller
 loop-i-smaller c =
@@ -102,10 +102,10 @@ loop-i-preserved c =
     let i = c.loop-i.i in
     let there : i + 3 < length s = omega (arith, c.loop-i-test.true, c.but_three-last.ensures) in
     c.loop-i.invariant
-    ∙ run_on is_value s i (omega (arith, there)) c.is_value.ensures c.if-not-is_value.auto.false-raw
-    ∙ run-on-at is_value s i 1 (omega (arith, there)) c.is_value-in-loop-i.ensures c.if-not-is_value-2.auto.false-raw
-    ∙ run-on-at is_value s i 2 (omega (arith, there)) c.is_value-in-loop-i-2.ensures c.if-not-is_value-3.auto.false-raw
-    ∙ run-on-at is_value s i 3 there c.is_value-in-loop-i-3.ensures c.if-not-is_value-4.auto.false-raw
+    ∙ run_on is_value s i (omega (arith, there)) c.is_value.ensures c.if-not-is_value.false-raw
+    ∙ run-on-at is_value s i 1 (omega (arith, there)) c.is_value-in-loop-i.ensures c.if-not-is_value-2.false-raw
+    ∙ run-on-at is_value s i 2 (omega (arith, there)) c.is_value-in-loop-i-2.ensures c.if-not-is_value-3.false-raw
+    ∙ run-on-at is_value s i 3 there c.is_value-in-loop-i-3.ensures c.if-not-is_value-4.false-raw
 
 pub returns : goal.returns
 returns c =

@@ -29,8 +29,8 @@ is-enough n = go (ltb n 6528) (λ e. ltb-false n 6528 e)
     go false h e = h refl
 
 -- the buffer is long enough
-long-enough c (c c In-Enough) → 6528 ≤ length c.before.before.before.before.before.args.buffer.now
-long-enough c = is-enough _ (sym c.before.before.buffer-of.ensures ∙ c.enum_told.given.1)
+long-enough : (c : In-Enough) → 6528 ≤ length c.args.buffer.now
+long-enough c = is-enough _ (sym c.buffer_of.ensures ∙ c.in-Enough.is)
 
 pub returns-in_default : goal.returns-in_default
 returns-in_default c =

@@ -34,7 +34,6 @@ module _ (c : In-loop-at) where
       let w = s.wide in
       omega (arith, row_within x.width i x.n below)
 
-
 pub bounds-heads-bucket : goal.bounds-heads-bucket
 bounds-heads-bucket c =
     let s = c.requires in let l = s.inside in let h = s.headed in omega arith

@@ -16,14 +16,14 @@ use Rattle.dayrows.proofs.chains.bic_repeats.Goals.{After-bic_bucket-bucket}
 use Rattle.dayrows.proofs.chains.bic_repeats.Goals as goal
 
 -- the row at hand ends within the file
-row_ends c (c c In-loop-i)
-    → let x = c.before.before.before.args in x.start + x.width * c.before.loop.i + 11 ≤ length x.f.now
+row_ends : (c : In-loop-i)
+    → let x = c.args in x.start + x.width * c.loop-i.i + 11 ≤ length x.f.now
 row_ends c =
-    let x = c.before.before.before.args in
-    let p = c.before.before.before.requires in
+    let x = c.args in
+    let p = c.requires in
     let wide = p.0 in
     let rows = p.2 in
-    omega (arith, row_within x.width c.before.loop.i x.n c.loop-test.true)
+    omega (arith, row_within x.width c.loop-i.i x.n c.loop-i-test.true)
 
 -- its bucket
 module _ (c : After-bic_bucket-bucket) where
@@ -38,7 +38,6 @@ module _ (c : After-bic_bucket-bucket) where
 
   bucket-is : c.bic_bucket-bucket.result ≡ bic_bucket (part 11 at f)
   bucket-is = c.bic_bucket-bucket.ensures.0 ∙ ap (λ (v : ℕ). bic_bucket (take v (drop at f))) (add-sub_cancel_left at 11)
-
 
 pub loop-i-init : goal.loop-i-init
 loop-i-init c =
@@ -113,8 +112,8 @@ loop-i-preserved c =
     let x = (l (goal.at.loop-i-preserved c).After-bic_bucket-bucket).before.before.before.args in (
       search rules,
       record {
-        headed = c.enchain.auto.0 ∙ w.headed;
-        linked = c.enchain.auto.1.0 ∙ w.linked;
+        headed = c.enchain.auto.heads ∙ w.headed;
+        linked = c.enchain.auto.links ∙ w.linked;
         chained =
             enchained w.chained w.headed (let k = w.linked in let t = (l (goal.at.loop-i-preserved c).After-bic_bucket-bucket).loop-test.true in omega arith) (bucket-is (goal.at.loop-i-preserved c).After-bic_bucket-bucket)
             c.bic_bucket-bucket.ensures.1 c.enchain.ensures.0 c.enchain.ensures.1;

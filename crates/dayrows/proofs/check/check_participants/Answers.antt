@@ -20,13 +20,12 @@ abbrev repeated : ℕ → List ℕ → ℕ → Bool
 repeated start f i = bic_among start participant_length i (bic_in start participant_length f i) f
 
 -- all rows are looked at
-all c (c c After-bic_repeats) → let a = c.before.before.before.before.args in
-    (c.before.before.loop.ok && not c.bic-repeats.result) ≡ participants_ok a.start a.n a.f.now
+all : (c : After-bic_repeats) → let a = c.args in
+    (c.loop-i.ok && not c.bic_repeats.result) ≡ participants_ok a.start a.n a.f.now
 all c =
-    let l = c.before.before in
-    let a = l.before.before.args in
-    let end c l.loop.i ≡ a.n = omega arith in
-    ap₂ (λ (b q c Bool). b && not q) (l.loop.invariant.1 ∙ ap (all_to (right a.start a.f.now)) end) c.bic-repeats.ensures
+    let a = c.args in
+    let end : c.loop-i.i ≡ a.n = omega arith in
+    ap₂ (λ (b q : Bool). b && not q) (c.loop-i.invariant.1 ∙ ap (all_to (right a.start a.f.now)) end) c.bic_repeats.ensures
     ∙ sym (all_apart (right a.start a.f.now) (repeated a.start a.f.now) a.n)
 
 pub loop-i-preserved : goal.loop-i-preserved

@@ -21,10 +21,9 @@ module _ (c : Else-not-all_in-2) where
         least = c.if-n-lt4.false;
         most = c.if-n-gt12.false;
         (FIXME Else-s-point-ne46) = c.if-s-point-ne46.false;
-        (FIXME Else-not-all_in) = digits-class (whole_part s) ∙ sym c.all_in.ensures ∙ not-false _ c.if-not-all_in.auto.false-raw;
-        last = digits-class (last_part s) ∙ sym c.all_in-2.ensures ∙ not-false _ c.if-not-all_in-2.auto.false-raw;
+        (FIXME Else-not-all_in) = digits-class (whole_part s) ∙ sym c.all_in.ensures ∙ not-false _ c.if-not-all_in.false-raw;
+        last = digits-class (last_part s) ∙ sym c.all_in-2.ensures ∙ not-false _ c.if-not-all_in-2.false-raw;
       }
-
 
 pub returns-then-n-lt4 : goal.returns-then-n-lt4
 returns-then-n-lt4 c =
@@ -41,12 +40,12 @@ returns-then-s-point-ne46 c =
 pub returns-then-not-all_in : goal.returns-then-not-all_in
 returns-then-not-all_in c =
     whole-wrong c.args.s.now
-    (sym c.all_in.ensures ∙ not-true _ c.if-not-all_in.auto.true-raw)
+    (sym c.all_in.ensures ∙ not-true _ c.if-not-all_in.true-raw)
 
 pub returns-then-not-all_in-2 : goal.returns-then-not-all_in-2
 returns-then-not-all_in-2 c =
     last-wrong c.args.s.now
-    (sym c.all_in-2.ensures ∙ not-true _ c.if-not-all_in-2.auto.true-raw)
+    (sym c.all_in-2.ensures ∙ not-true _ c.if-not-all_in-2.true-raw)
 
 pub digits_behind-whole-requires : goal.digits_behind-whole-requires
 digits_behind-whole-requires c =

@@ -34,16 +34,15 @@ module _ (c : Else-not-euro) where
   start = (FIXME Start)
 
   euro-yes : start.args.euro ≡ true
-  euro-yes = not-false _ c.if-not-euro.auto.false-raw
-
+  euro-yes = not-false _ c.if-not-euro.false-raw
 
 -- so is the amount
-amount-yes c (c c Else-cents-eq0) → amount_in (start c.before.before).args.amount.now ≡ 0 → ⊥
-amount-yes c z = c.if2.false (c.before.amount-of.ensures ∙ z)
+amount-yes : (c : Else-cents-eq0) → amount_in (start (FIXME Else-not-euro)).args.amount.now ≡ 0 → ⊥
+amount-yes c z = c.if-cents-eq0.false (c.amount_of-cents.ensures ∙ z)
 
 -- and each code in turn
-sender-yes c (c c Else-zolfigar_bic_ok-eq0) → is_bic (bic_field (start c.before.before.before.before.before.before).args.sender.now) ≡ true
-sender-yes c = told-yes is_bic c.before.zolfigar-bic-ok.ensures c.before.before.before.bic-field.ensures c.if3.false
+sender-yes : (c : Else-zolfigar_bic_ok-eq0) → is_bic (bic_field (start (FIXME Else-not-euro)).args.sender.now) ≡ true
+sender-yes c = told-yes is_bic c.zolfigar_bic_ok.ensures c.bic_field-payer.ensures c.if-zolfigar_bic_ok-eq0.false
 
 module _ (c : Else-zolfigar_bic_ok-eq0-2) where
   abbrev to-sender : tie.Else3
@@ -58,18 +57,15 @@ module _ (c : Else-zolfigar_bic_ok-eq0-2) where
   payee-yes : is_bic (bic_field args.args.payee.now) ≡ true
   payee-yes = told-yes is_bic c.zolfigar_bic_ok-2.ensures c.bic_field-paid.ensures c.if-zolfigar_bic_ok-eq0-2.false
 
+txid-yes : (c : Else-zolfigar_txid_ok-eq0) → is_txid (args (FIXME Else-zolfigar_bic_ok-eq0-2)).args.txid.now ≡ true
+txid-yes c = told-yes is_txid c.zolfigar_txid_ok.ensures refl c.if-zolfigar_txid_ok-eq0.false
 
-
-txid-yes c (c c Else-zolfigar_txid_ok-eq0) → is_txid (args c.before.before).args.txid.now ≡ true
-txid-yes c = told-yes is_txid c.before.zolfigar-txid-ok.ensures refl c.if5.false
-
-
-iban-yes c (c c Else-zolfigar_iban_ok-eq0) → is_iban (args c.before.before.before.before).args.iban.now ≡ true
-iban-yes c = told-yes is_iban c.before.zolfigar-iban-ok.ensures refl c.if6.false
+iban-yes : (c : Else-zolfigar_iban_ok-eq0) → is_iban (args (FIXME Else-zolfigar_bic_ok-eq0-2)).args.iban.now ≡ true
+iban-yes c = told-yes is_iban c.zolfigar_iban_ok.ensures refl c.if-zolfigar_iban_ok-eq0.false
 
 pub returns-then-not-euro : goal.returns-then-not-euro
 returns-then-not-euro c =
-    refuses _ (attributes-wrong _ _ _ _ _ _ _ (not-true _ c.if-not-euro.auto.true-raw))
+    refuses _ (attributes-wrong _ _ _ _ _ _ _ (not-true _ c.if-not-euro.true-raw))
 
 pub returns-then-cents-eq0 : goal.returns-then-cents-eq0
 returns-then-cents-eq0 c =

@@ -8,12 +8,12 @@ use Rattle.draft.proofs.writing.put_ticket.Goals as goal
 
 pub shape_of-ticket : goal.shape_of-ticket
 shape_of-ticket c =
-    let k₆ = c.put_padded-2.auto.0 in
-    let k₅ = c.put_padded.auto.0 in
-    let k₄ = c.put_bytes-2.auto.0 in
-    let k₃ = c.put_bytes.auto.0 in
-    let k₂ = c.put_u64-2.auto.0 in
-    let k₁ = c.put_u64.auto.0 in
+    let k₆ = c.put_padded-2.auto.ticket in
+    let k₅ = c.put_padded.auto.ticket in
+    let k₄ = c.put_bytes-2.auto.ticket in
+    let k₃ = c.put_bytes.auto.ticket in
+    let k₂ = c.put_u64-2.auto.s in
+    let k₁ = c.put_u64.auto.s in
     simp length-set (omega arith)
 
 pub returns : goal.returns

@@ -27,36 +27,30 @@ abbrev bytes : tie.At-loop invariant-loop decreases-loop → List ℕ
 bytes l = l.before.before.before.before.args.s.now
 
 -- their value has the shape of an IBAN
-shape c (l c At-loop-next) → iban_shape (unpadded (bytes l)) ≡ true
-shape l = l.before.before.before.before.requires
+shape : (c :: At-loop-next) → iban_shape (unpadded (bytes c)) ≡ true
+shape c = c.requires
 
 -- a character stands at i
-inside c (c c In-loop-next) → let l = c.before.before in l.loop.i < length (unpadded (bytes l))
+inside : (c : In-loop-next) → c.loop-next.i < length (unpadded (bytes (FIXME At-loop-next)))
 inside c =
-    let l = c.before.before in
-    used-within (bytes l) l.loop.i (ne_eqb (get_or (bytes l) l.loop.i 0) 0 (λ z. c.if1.true (c.before.byte.ensures ∙ z)))
+    used-within (bytes (FIXME At-loop-next)) c.loop-next.i (ne_eqb (get_or (bytes (FIXME At-loop-next)) c.loop-next.i 0) 0 (λ z. c.loop-next-test.true (c.byte.ensures ∙ z)))
 
 -- none does
-passed c (c c After-loop-next) → let l = c.before.before in Walked (bytes l) l.loop.held (length (unpadded (bytes l)))
+passed : (c : After-loop-next) → Walked (bytes (FIXME At-loop-next)) c.loop-next.held (length (unpadded (bytes (FIXME At-loop-next))))
 passed c =
-    let l = c.before.before in
-    let v = unpadded (bytes l) in
-    subst (Walked (bytes l) l.loop.held)
-    (value-stops CapitalOrDigit (bytes l) (shape-spelt v (shape l)) l.loop.i l.loop.invariant.within
-    (sym c.before.byte.ensures ∙ c.if1.false))
-    l.loop.invariant
+    let v = unpadded (bytes (FIXME At-loop-next)) in
+    subst (Walked (bytes (FIXME At-loop-next)) c.loop-next.held)
+    (value-stops CapitalOrDigit (bytes (FIXME At-loop-next)) (shape-spelt v (shape (FIXME At-loop-next))) c.loop-next.i c.loop-next.invariant.within
+    (sym c.byte.ensures ∙ c.loop-next-test.false))
+    c.loop-next.invariant
 
 -- the first four are held behind the others
-all_held c (c c After-put)
-    → let l = c.before.before.before.before.before in
-    Holds c.put2.result (digits (rearranged (unpadded (bytes l))))
+all_held : (c : After-put)
+    → Holds c.put.result (digits (rearranged (unpadded (bytes (FIXME At-loop-next)))))
 all_held c =
-    let front = c.before in
-    let left = front.before.before in
-    let l = left.before.before in
-    subst (λ (h c Held). Holds h (digits (rearranged (unpadded (bytes l)))))
-    (sym c.put2.ensures)
-    (walk_ends (bytes l) front.front.result (shape l) (passed left) front.front.ensures.0)
+    subst (λ (h : Held). Holds h (digits (rearranged (unpadded (bytes (FIXME At-loop-next))))))
+    (sym c.put.ensures)
+    (walk_ends (bytes (FIXME At-loop-next)) c.front.result (shape (FIXME At-loop-next)) (passed (FIXME After-loop-next)) c.front.ensures.0)
 
 pub loop-next-init : goal.loop-next-init
 loop-next-init c =

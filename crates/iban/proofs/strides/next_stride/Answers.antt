@@ -7,10 +7,9 @@ use Rattle.iban.proofs.strides.next_stride.Goals.{After-byte-b}
 use Rattle.iban.proofs.strides.next_stride.Goals as goal
 
 -- the two bytes that are looked at first
-ahead c (c c After-byte-b) → let a = c.before.before.before.args in Ahead a.s.now a.i c.byte.result
+ahead : (c : After-byte-b) → let a = c.args in Ahead a.s.now a.i c.byte-b.result
 ahead c =
-    let start = c.before.before.before in
-    record { spelt = start.requires.0; within = start.requires.1; next = c.byte.ensures }
+    record { spelt = c.requires.0; within = c.requires.1; next = c.byte-b.ensures }
 
 pub bounds-s-i : goal.bounds-s-i
 bounds-s-i c =

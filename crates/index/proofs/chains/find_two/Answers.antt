@@ -23,7 +23,6 @@ module _ (c : In-loop-at) where
   row_ends : 2 * i + 2 ≤ length l.before.before.before.before.before.before.args.rows.now
   row_ends = let h = below in let k = l.loop.inv.0.long in omega arith
 
-
 pub bounds-heads-bucket : goal.bounds-heads-bucket
 bounds-heads-bucket c =
     let s = c.requires in let l = s.inside in let h = s.headed in omega arith

@@ -18,8 +18,8 @@ pub loop-i-preserved : goal.loop-i-preserved
 loop-i-preserved c =
     let few = c.loop-i-test.true in (
       search rules,
-      c.enchain.auto.0 ∙ c.loop-i.invariant.1,
-      c.enchain.auto.1.0 ∙ c.loop-i.invariant.2,
+      c.enchain.auto.heads ∙ c.loop-i.invariant.1,
+      c.enchain.auto.links ∙ c.loop-i.invariant.2,
       enchained c.loop-i.invariant.3 c.loop-i.invariant.1 (let h = c.loop-i.invariant.2 in omega arith)
           (c.key_bucket-bucket.ensures.0
           ∙ ap row_bucket (sym (part-seven (7 * c.loop-i.i) c.args.rows.now (omega arith))))

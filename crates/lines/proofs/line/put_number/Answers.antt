@@ -11,7 +11,7 @@ put_decimal-requires c =
 
 pub shape_of-text : goal.shape_of-text
 shape_of-text c =
-    c.put_decimal.auto.0 ∙ simp length-set
+    c.put_decimal.auto.text ∙ simp length-set
 
 pub returns : goal.returns
 returns c =

@@ -16,7 +16,7 @@ put_number-end-requires c =
 
 pub loop-i-preserved : goal.loop-i-preserved
 loop-i-preserved c =
-    number_more c.loop-i.invariant (search rules) c.put_number-end.ensures c.put_number-end.auto.0
+    number_more c.loop-i.invariant (search rules) c.put_number-end.ensures c.put_number-end.auto.text
 
 pub bounds-text-end : goal.bounds-text-end
 bounds-text-end c =

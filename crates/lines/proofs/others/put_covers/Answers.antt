@@ -18,7 +18,7 @@ pub loop-p-preserved : goal.loop-p-preserved
 loop-p-preserved c =
     (
       search rules,
-      rw (add-one c.loop-p.p) (filled-behind c.loop-p.invariant.1 c.put_cover-at.ensures.0 c.put_cover-at.auto.0),
+      rw (add-one c.loop-p.p) (filled-behind c.loop-p.invariant.1 c.put_cover-at.ensures.0 c.put_cover-at.auto.text),
       search rules,
     )
 

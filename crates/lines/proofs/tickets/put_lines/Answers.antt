@@ -12,14 +12,13 @@ use Rattle.lines.proofs.tickets.put_lines.Goals.{After-answer_at-a}
 use Rattle.lines.proofs.tickets.put_lines.Goals as goal
 
 -- the ticket's reports are among those that all tickets count
-counted c (c c After-answer_at-a)
-    → let l = c.before.before in let a = l.before.before.before.before.args in
-    l.loop.from + c.answer_at.result.reports ≤ start_of a.answers.now a.taken
+counted : (c : After-answer_at-a)
+    → let a = c.args in
+    c.loop-i.from + c.answer_at-a.result.reports ≤ start_of a.answers.now a.taken
 counted c =
-    let l = c.before.before in
-    let a = l.before.before.before.before.args in
-    let e = ap (λ (x c Answer). x.reports) c.answer_at.ensures in
-    let w = start-within a.answers.now a.taken l.loop.i (search rules) in
+    let a = c.args in
+    let e = ap (λ (x : Answer). x.reports) c.answer_at-a.ensures in
+    let w = start-within a.answers.now a.taken c.loop-i.i (search rules) in
     omega arith
 
 pub loop-i-init : goal.loop-i-init
@@ -47,7 +46,7 @@ loop-i-preserved c =
     let most = c.put_ticket-at.ensures.1 in (
       search rules,
       omega arith,
-      rw (add-one c.loop-i.i) (filled-behind {b = text} c.loop-i.invariant.2 w c.put_ticket-at.auto.0),
+      rw (add-one c.loop-i.i) (filled-behind {b = text} c.loop-i.invariant.2 w c.put_ticket-at.auto.text),
       omega arith,
     )
 

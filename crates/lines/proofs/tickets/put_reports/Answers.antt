@@ -17,7 +17,7 @@ put_report_line-end-requires c =
 pub loop-i-preserved : goal.loop-i-preserved
 loop-i-preserved c =
     let w = rw c.report_at.ensures at c.put_report_line-end.ensures.0 in
-    (search rules, rw (add-one c.loop-i.i) (filled-behind c.loop-i.invariant.1 w c.put_report_line-end.auto.0), search rules)
+    (search rules, rw (add-one c.loop-i.i) (filled-behind c.loop-i.invariant.1 w c.put_report_line-end.auto.text), search rules)
 
 pub shape_of-text : goal.shape_of-text
 shape_of-text c =

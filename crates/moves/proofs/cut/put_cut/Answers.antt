@@ -24,7 +24,7 @@ loop-p-preserved c =
     let a = c.args in
     let is = c.cut_told.ensures in (
       search rules,
-      c.put_told-m.auto.0 ∙ c.loop-p.invariant.1,
+      c.put_told-m.auto.buffer ∙ c.loop-p.invariant.1,
       c.put_told-m.ensures.1
           ∙ ap (λ (rs : List Report). c.loop-p.m + length rs) is
           ∙ count-on a.t3 a.t4 c.loop-p.p a.n c.loop-p.m c.loop-p.invariant.2,

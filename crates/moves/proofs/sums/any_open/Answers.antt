@@ -16,4 +16,4 @@ loop-p-preserved c =
 pub returns : goal.returns
 returns c =
     let end : c.loop-p.p ≡ c.args.size = omega arith in
-    c.loop-p.invariant.1 ∙ ap (any_to (λ q. is_open (cover_of c.args.t1 q))) end
+    c.loop-p.invariant.1 ∙ ap (any_to (λ q. is_open (cover_of c.args.covers q))) end

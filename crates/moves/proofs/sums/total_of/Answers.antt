@@ -36,4 +36,4 @@ loop-p-preserved c =
 pub returns : goal.returns
 returns c =
     let end : c.loop-p.p ≡ c.args.size = omega arith in
-    c.loop-p.invariant.1 ∙ ap (λ (k : ℕ). total_of k c.args.t1) end
+    c.loop-p.invariant.1 ∙ ap (λ (k : ℕ). total_of k c.args.covers) end

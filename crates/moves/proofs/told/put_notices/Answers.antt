@@ -35,8 +35,7 @@ module _ (c : After-report_by) where
       c.args.i c.args.amount))
   told-some =
       let a = c.args in
-      some a.told a.also a.i a.amount c.if-none.auto.false-raw
-
+      some a.told a.also a.i a.amount c.if-none.false-raw
 
 -- it is written
 module _ (c : After-put_report) where
@@ -53,11 +52,10 @@ module _ (c : After-put_report) where
       ∙ ap (λ (r : Report). sets a.buffer.now (12 * a.n) (report_bytes r)) c.report_by.ensures
       ∙ put_one a.buffer.now (12 * a.n) _
 
-
 pub returns-then-none : goal.returns-then-none
 returns-then-none c =
     let a = c.args in
-    rw (told_none a.told a.also a.i a.amount c.if-none.auto.true-raw) (refl, search rules)
+    rw (told_none a.told a.also a.i a.amount c.if-none.true-raw) (refl, search rules)
 
 pub put_report-requires : goal.put_report-requires
 put_report-requires c =
@@ -66,19 +64,19 @@ put_report-requires c =
 pub returns-then-alone : goal.returns-then-alone
 returns-then-alone c =
     let a = c.args in
-    rw (told-one a.told a.also a.i a.amount c.if-none.auto.false-raw c.if-alone.auto.true-raw) (first-text (goal.at.returns-then-alone c).After-put_report, search rules)
+    rw (told-one a.told a.also a.i a.amount c.if-none.false-raw c.if-alone.true-raw) (first-text (goal.at.returns-then-alone c).After-put_report, search rules)
 
 pub put_report-requires-2 : goal.put_report-requires-2
 put_report-requires-2 c =
     let a = c.args in
-    let two = ap length (told-two a.told a.also a.i a.amount c.if-none.auto.false-raw c.if-alone.auto.false-raw) in
+    let two = ap length (told-two a.told a.also a.i a.amount c.if-none.false-raw c.if-alone.false-raw) in
     let p = c.requires.3 in
     search rules
 
 pub returns : goal.returns
 returns c =
     let a = c.args in
-    rw (told-two a.told a.also a.i a.amount c.if-none.auto.false-raw c.if-alone.auto.false-raw) (
+    rw (told-two a.told a.also a.i a.amount c.if-none.false-raw c.if-alone.false-raw) (
       c.put_report-2.ensures
           ∙ ap (λ (r : Report). sets c.put_report.new.0 (12 * (a.n + 1)) (report_bytes r)) c.report_by-2.ensures
           ∙ ap (λ (l : List ℕ). sets l (12 * (a.n + 1)) (report_bytes (report_by a.also a.i a.amount))) (first-text (goal.at.returns c).After-put_report)

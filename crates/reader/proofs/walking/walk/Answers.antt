@@ -17,7 +17,7 @@ use Rattle.reader.proofs.walking.walk.Goals.{After-long_tag_end}
 use Rattle.reader.proofs.walking.walk.Goals as goal
 
 -- where the root's tag's end was found
-module _ (c : After-long_tag_end) where
+module _ (c :: After-long_tag_end) where
   abbrev whole : List ℕ
   whole = c.args.text.now
 
@@ -42,7 +42,6 @@ module _ (c : After-long_tag_end) where
   tagged : Tagged whole name-behind tag_read c.long_tag_end.result
   tagged = c.long_tag_end.ensures word
 
-
 pub returns-then-byte-ne60 : goal.returns-then-byte-ne60
 returns-then-byte-ne60 c =
     root-no-tag c.args.text.now c.args.start (λ e. c.if-byte-ne60.true (c.byte.ensures ∙ e))
@@ -56,7 +55,7 @@ pub returns-then-not-is_first : goal.returns-then-not-is_first
 returns-then-not-is_first c =
     let t = c.args.text.now in
     let less = sym c.byte.ensures ∙ c.if-byte-ne60.false in
-    root-no-name t c.args.start less (no-first t _ c.is_first.ensures c.byte-2.ensures c.if-not-is_first.auto.true-raw)
+    root-no-name t c.args.start less (no-first t _ c.is_first.ensures c.byte-2.ensures c.if-not-is_first.true-raw)
 
 pub within-requires : goal.within-requires
 within-requires c =

@@ -16,7 +16,7 @@ use Rattle.reader.proofs.walking.within.Goals.{After-tag_end}
 use Rattle.reader.proofs.walking.within.Goals as goal
 
 -- where a tag's end was found
-module _ (c : After-tag_end) where
+module _ (c :: After-tag_end) where
   abbrev whole : List ℕ
   whole =
       c.args.text.now
@@ -46,7 +46,6 @@ module _ (c : After-tag_end) where
 
   tagged : Tagged whole name-behind tag_read c.tag_end.result
   tagged = c.tag_end.ensures word
-
 
 pub loop-depth-init : goal.loop-depth-init
 loop-depth-init c =
@@ -172,7 +171,7 @@ returns-then-not-is_first c =
     let tag = c.text_end-tag.ensures in
     let less = sym c.byte.ensures ∙ c.if-byte-ne60.false in
     let other = no_slash t _ c.byte-b.ensures c.if-b-eq47.false in
-    no_name g pos tag less other (no-first t _ c.is_first.ensures c.byte-b.ensures c.if-not-is_first.auto.true-raw)
+    no_name g pos tag less other (no-first t _ c.is_first.ensures c.byte-b.ensures c.if-not-is_first.true-raw)
 
 pub returns-then-depth-eq-DEEPEST : goal.returns-then-depth-eq-DEEPEST
 returns-then-depth-eq-DEEPEST c =
@@ -182,7 +181,7 @@ returns-then-depth-eq-DEEPEST c =
     let tag = c.text_end-tag.ensures in
     let less = sym c.byte.ensures ∙ c.if-byte-ne60.false in
     let other = no_slash t _ c.byte-b.ensures c.if-b-eq47.false in
-    let head = first t _ c.is_first.ensures c.byte-b.ensures c.if-not-is_first.auto.false-raw in
+    let head = first t _ c.is_first.ensures c.byte-b.ensures c.if-not-is_first.false-raw in
     too-deep g pos tag less other head refl c.if-depth-eq-DEEPEST.true
 
 pub meet-row-requires : goal.meet-row-requires

@@ -10,10 +10,10 @@ abbrev pub invariant-loop-depth : goal.invariant-loop-depth
 invariant-loop-depth l = record {
       going : Going l.text l.start l.at l.depth l.starts l.ends l.rows l.kept;
       within : l.at ≤ length l.text;
-      l.starts : length l.starts ≡ 16;
-      l.ends : length l.ends ≡ 16;
-      l.rows : length l.rows ≡ 16;
-      l.kept : length l.kept ≡ 40;
+      starts : length l.starts ≡ 16;
+      ends : length l.ends ≡ 16;
+      rows : length l.rows ≡ 16;
+      kept : length l.kept ≡ 40;
     }
 
 abbrev pub decreases-loop-depth : goal.decreases-loop-depth

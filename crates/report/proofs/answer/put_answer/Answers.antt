@@ -13,11 +13,11 @@ put_u16-requires c =
 
 pub bounds-buffer-at-2 : goal.bounds-buffer-at-2
 bounds-buffer-at-2 c =
-    let kept = simp length-set at c.put_u16.auto.0 in omega arith
+    let kept = simp length-set at c.put_u16.auto.s in omega arith
 
 pub shape_of-buffer : goal.shape_of-buffer
 shape_of-buffer c =
-    simp length-set (simp length-set at c.put_u16.auto.0)
+    simp length-set (simp length-set at c.put_u16.auto.s)
 
 pub returns : goal.returns
 returns c =

@@ -5,7 +5,7 @@ use Rattle.scan.proofs.attributes.attribute_at.Goals as goal
 pub returns-then-not-begins : goal.returns-then-not-begins
 returns-then-not-begins c =
     let a = c.args in
-    no_name a.text.now a.at c.space_end-name.ensures c.begins.ensures c.if-not-begins.auto.true-raw
+    no_name a.text.now a.at c.space_end-name.ensures c.begins.ensures c.if-not-begins.true-raw
 
 pub returns-in_default : goal.returns-in_default
 returns-in_default c =
@@ -15,7 +15,7 @@ returns-in_default c =
     a.at
     c.space_end-name.ensures
     c.begins.ensures
-    c.if-not-begins.auto.false-raw
+    c.if-not-begins.false-raw
     c.value_at.ensures
     c.in_default.is
 
@@ -27,7 +27,7 @@ returns-then-byte-ne34 c =
     a.at
     c.space_end-name.ensures
     c.begins.ensures
-    c.if-not-begins.auto.false-raw
+    c.if-not-begins.false-raw
     c.value_at.ensures
     c.in-At.is
     c.value_end-close.ensures
@@ -42,7 +42,7 @@ returns c =
     a.at
     c.space_end-name.ensures
     c.begins.ensures
-    c.if-not-begins.auto.false-raw
+    c.if-not-begins.false-raw
     c.value_at.ensures
     c.in-At.is
     c.value_end-close.ensures

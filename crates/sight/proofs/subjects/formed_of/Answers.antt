@@ -78,7 +78,6 @@ module _ (c : After-subject_of-subject) where
       ∙ ap (λ (f : Found). sight_of clock t sender f r) e₂
       ∙ ap (λ (f : Found). sight_of clock t sender order f) e₃
 
-
 pub cover-requires : goal.cover-requires
 cover-requires c =
     (

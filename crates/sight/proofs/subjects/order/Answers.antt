@@ -10,11 +10,9 @@ use Rattle.sight.proofs.subjects.order.Goals.{In-Formed}
 use Rattle.sight.proofs.subjects.order.Goals as goal
 
 -- 7 passed
-formed c (c c In-Formed) → shape_of c.before.before.before.before.args.t.now ≡ Formed Order
+formed : (c : In-Formed) → shape_of c.args.t.now ≡ Formed Order
 formed c =
-    let shape = c.before.before in
-    let s = shape.before.before in
-    formed-kind NewOrder Order s.args.t.now s.requires.0 _ (sym shape.order.ensures ∙ c.enum_told.given.1)
+    formed-kind NewOrder Order c.args.t.now c.requires.0 _ (sym c.order.ensures ∙ c.in-Formed.is)
 
 pub returns-in_default : goal.returns-in_default
 returns-in_default c = (λ c clock.

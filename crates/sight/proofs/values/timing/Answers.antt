@@ -3,8 +3,8 @@ use Rattle.sight.proofs.values.timing.Goals as goal
 
 pub returns-then-early : goal.returns-then-early
 returns-then-early c =
-    simp c.if-early.auto.true-raw
+    simp c.if-early.true-raw
 
 pub returns : goal.returns
 returns c =
-    simp c.if-early.auto.false-raw
+    simp c.if-early.false-raw

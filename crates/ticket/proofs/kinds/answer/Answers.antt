@@ -12,4 +12,4 @@ returns-in-2 c =
 
 pub returns-in_default : goal.returns-in_default
 returns-in_default c =
-    simp (no_other 1 _ c.in_default.rest.0.1, no_other 2 _ c.in_default.rest.1)
+    simp (no_other 1 _ c.in_default.in_default-own.rest.0.1, no_other 2 _ c.in_default.in_default-own.rest.1)
