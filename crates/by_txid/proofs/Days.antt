@@ -90,9 +90,9 @@ old_day =
 
 abbrev old_lines : List ℕ
 old_lines =
-    text "T 0 0 0 0\n_t 1 0 0 0\n_t 2 0 1 1\n_r 1 1 0 400\n_t 3 0 1 1\n_r 0 1 1 100\n_t 4 0 2 0\n_r 0 2 0 400\n_r 1 2 0 400\n"
-    ++ text "T 5 0 1 0\n_r 1 3 1 100\n_t 6 0 1 0\n_r 1 5 0 400\n_t 7 0 1 0\n_r 0 6 0 300\n_t 8 0 1 0\n_r 0 6 0 300\n"
-    ++ text "T 9 16 0 0\n_t 10 7 0 0\n_t 11 17 0 0\n_c 0 900 0 0\n_c 1 600 0 0\n"
+    text "T 0 0 0 0\nT 1 0 0 0\nT 2 0 1 1\nR 1 1 0 400\nT 3 0 1 1\nR 0 1 1 100\nT 4 0 2 0\nR 0 2 0 400\nR 1 2 0 400\n"
+    ++ text "T 5 0 1 0\nR 1 3 1 100\nT 6 0 1 0\nR 1 5 0 400\nT 7 0 1 0\nR 0 6 0 300\nT 8 0 1 0\nR 0 6 0 300\n"
+    ++ text "T 9 16 0 0\nT 10 7 0 0\nT 11 17 0 0\nC 0 900 0 0\nC 1 600 0 0\n"
 
 -- an order that is refused by 20 and sent again
 abbrev sent_again : List ℕ
@@ -105,7 +105,7 @@ sent_again =
     ∷ [])
 
 abbrev sent_again_lines : List ℕ
-sent_again_lines = text "T 0 0 0 0\n_t 1 20 0 0\n_t 2 0 1 1\n_r 1 1 0 100\n_t 3 0 2 0\n_r 0 2 0 100\n_r 1 2 0 100\n_c 0 900 0 0\n_c 1 100 0 0\n"
+sent_again_lines = text "T 0 0 0 0\nT 1 20 0 0\nT 2 0 1 1\nR 1 1 0 100\nT 3 0 2 0\nR 0 2 0 100\nR 1 2 0 100\nC 0 900 0 0\nC 1 100 0 0\n"
 
 -- an order of A to B, and one of B to a payee, both with one TxId
 abbrev two_payers : List ℕ → List ℕ
@@ -122,7 +122,7 @@ abbrev answered : List ℕ → List ℕ
 answered payer = two_banks (cover_in_ticket 0 bic_a 1000 ∷ order_ticket 1 bic_a bic_b 100 tx1 iban_d ∷ yes_ticket 2 bic_b payer tx1 ∷ [])
 
 abbrev settled_lines : List ℕ
-settled_lines = text "T 0 0 0 0\n_t 1 0 1 1\n_r 1 1 0 100\n_t 2 0 2 0\n_r 0 2 0 100\n_r 1 2 0 100\n_c 0 900 0 0\n_c 1 100 0 0\n"
+settled_lines = text "T 0 0 0 0\nT 1 0 1 1\nR 1 1 0 100\nT 2 0 2 0\nR 0 2 0 100\nR 1 2 0 100\nC 0 900 0 0\nC 1 100 0 0\n"
 
 abbrev days : List Row
 days =
@@ -132,21 +132,21 @@ days =
     ∷ named "and with the payers named" sent_again sent_again_lines
     -- what is no such list
     ∷ by_txid "of two payers with one TxId the second is refused by 13 by TxId alone" (two_payers bic_a)
-    (text "T 0 0 0 0\n_t 1 0 0 0\n_t 2 0 1 1\n_r 1 1 0 100\n_t 3 13 0 0\n_c 0 900 100 0\n_c 1 500 0 0\n")
+    (text "T 0 0 0 0\nT 1 0 0 0\nT 2 0 1 1\nR 1 1 0 100\nT 3 13 0 0\nC 0 900 100 0\nC 1 500 0 0\n")
     ∷ named "and accepted by payer and TxId" (two_payers bic_a)
-    (text "T 0 0 0 0\n_t 1 0 0 0\n_t 2 0 1 1\n_r 1 1 0 100\n_t 3 0 1 1\n_r 0 1 1 100\n_c 0 900 100 0\n_c 1 400 100 0\n")
+    (text "T 0 0 0 0\nT 1 0 0 0\nT 2 0 1 1\nR 1 1 0 100\nT 3 0 1 1\nR 0 1 1 100\nC 0 900 100 0\nC 1 400 100 0\n")
     ∷ by_txid "of two payers of one payee as well" (two_payers bic_b)
-    (text "T 0 0 0 0\n_t 1 0 0 0\n_t 2 0 1 1\n_r 1 1 0 100\n_t 3 13 0 0\n_c 0 900 100 0\n_c 1 500 0 0\n")
+    (text "T 0 0 0 0\nT 1 0 0 0\nT 2 0 1 1\nR 1 1 0 100\nT 3 13 0 0\nC 0 900 100 0\nC 1 500 0 0\n")
     ∷ named "and accepted by payer and TxId, the payer its own payee" (two_payers bic_b)
-    (text "T 0 0 0 0\n_t 1 0 0 0\n_t 2 0 1 1\n_r 1 1 0 100\n_t 3 0 1 1\n_r 1 1 1 100\n_c 0 900 100 0\n_c 1 400 100 0\n")
+    (text "T 0 0 0 0\nT 1 0 0 0\nT 2 0 1 1\nR 1 1 0 100\nT 3 0 1 1\nR 1 1 1 100\nC 0 900 100 0\nC 1 400 100 0\n")
     ∷ by_txid "a yes that names the payer is refused by 7 by TxId alone" (answered bic_a)
-    (text "T 0 0 0 0\n_t 1 0 1 1\n_r 1 1 0 100\n_t 2 7 0 0\n_c 0 900 100 0\n_c 1 0 0 0\n")
+    (text "T 0 0 0 0\nT 1 0 1 1\nR 1 1 0 100\nT 2 7 0 0\nC 0 900 100 0\nC 1 0 0 0\n")
     ∷ by_pair "and accepted by payer and TxId" (answered bic_a) settled_lines
     ∷ by_txid "one that names nobody is accepted by TxId alone" (answered nobody) settled_lines
     ∷ by_pair "and refused by 7 by payer and TxId" (answered nobody)
-    (text "T 0 0 0 0\n_t 1 0 1 1\n_r 1 1 0 100\n_t 2 7 0 0\n_c 0 900 100 0\n_c 1 0 0 0\n")
+    (text "T 0 0 0 0\nT 1 0 1 1\nR 1 1 0 100\nT 2 7 0 0\nC 0 900 100 0\nC 1 0 0 0\n")
     ∷ by_pair "one that names another is refused by 16 by payer and TxId" (answered bic_b)
-    (text "T 0 0 0 0\n_t 1 0 1 1\n_r 1 1 0 100\n_t 2 16 0 0\n_c 0 900 100 0\n_c 1 0 0 0\n")
+    (text "T 0 0 0 0\nT 1 0 1 1\nR 1 1 0 100\nT 2 16 0 0\nC 0 900 100 0\nC 1 0 0 0\n")
     ∷ []
 
 pub days-met : AllMet days

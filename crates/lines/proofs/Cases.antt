@@ -21,19 +21,19 @@ cases =
       shows = "D: tickets";
       rule = λ answers. lines_to 0 4 answers (told 1 1 ++ told 0 2 ++ told 1 2 ++ told 0 2);
       given = 0 ∷ 0 ∷ 0 ∷ 0 ∷ 0 ∷ 0 ∷ 1 ∷ 1 ∷ 0 ∷ 0 ∷ 2 ∷ 0 ∷ 0 ∷ 0 ∷ 1 ∷ 0 ∷ [];
-      due = text "T 0 0 0 0\n_t 1 0 1 1\n_r 1 1 0 400\n_t 2 0 2 0\n_r 0 2 0 400\n_r 1 2 0 400\n_t 3 0 1 0\n_r 0 2 0 400\n";
+      due = text "T 0 0 0 0\nT 1 0 1 1\nR 1 1 0 400\nT 2 0 2 0\nR 0 2 0 400\nR 1 2 0 400\nT 3 0 1 0\nR 0 2 0 400\n";
     }
     ∷ record {
       shows = "E: two of its tickets, refusal and reports, numbered from 2 on";
       rule = λ answers. lines_to 2 2 answers (told 0 4 ++ told 1 4 ++ told 0 4);
       given = 18 ∷ 0 ∷ 2 ∷ 0 ∷ 0 ∷ 0 ∷ 1 ∷ 0 ∷ [];
-      due = text "T 2 18 2 0\n_r 0 4 0 400\n_r 1 4 0 400\n_t 3 0 1 0\n_r 0 4 0 400\n";
+      due = text "T 2 18 2 0\nR 0 4 0 400\nR 1 4 0 400\nT 3 0 1 0\nR 0 4 0 400\n";
     }
     ∷ record {
       shows = "D: covers";
       rule = λ _. covers_to (has 600 ∷ has 400 ∷ has 7 ∷ []) 2;
       given = [];
-      due = text "C 0 600 0 0\n_c 1 400 0 0\n";
+      due = text "C 0 600 0 0\nC 1 400 0 0\n";
     }
     ∷ record { shows = "refused"; rule = λ _. refusal_line 5; given = []; due = text "F 5\n" }
     ∷ record { shows = "zero"; rule = λ _. decimal 0; given = []; due = text "0" }

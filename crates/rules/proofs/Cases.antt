@@ -34,7 +34,7 @@ marked_cases =
     ∷ yes_ticket 24 bic_b bic_a tx1
     ∷ inquiry_ticket 30 bic_a bic_a tx1
     ∷ []))
-    "T 0 0 0 0\n_t 1 0 1 1\n_r 1 1 0 400\n_t 2 0 2 0\n_r 0 2 0 400\n_r 1 2 0 400\n_t 3 0 1 0\n_r 0 2 0 400\n_c 0 600 0 0\n_c 1 400 0 0\n"
+    "T 0 0 0 0\nT 1 0 1 1\nR 1 1 0 400\nT 2 0 2 0\nR 0 2 0 400\nR 1 2 0 400\nT 3 0 1 0\nR 0 2 0 400\nC 0 600 0 0\nC 1 400 0 0\n"
     ∷ day "E: a yes at 25"
     (two_banks
     (cover_in_ticket 0 bic_a 1000
@@ -42,13 +42,13 @@ marked_cases =
     ∷ yes_ticket 25 bic_b bic_a tx1
     ∷ inquiry_ticket 30 bic_a bic_a tx1
     ∷ []))
-    "T 0 0 0 0\n_t 1 0 1 1\n_r 1 1 0 400\n_t 2 18 2 0\n_r 0 4 0 400\n_r 1 4 0 400\n_t 3 0 1 0\n_r 0 4 0 400\n_c 0 1000 0 0\n_c 1 0 0 0\n"
+    "T 0 0 0 0\nT 1 0 1 1\nR 1 1 0 400\nT 2 18 2 0\nR 0 4 0 400\nR 1 4 0 400\nT 3 0 1 0\nR 0 4 0 400\nC 0 1000 0 0\nC 1 0 0 0\n"
     ∷ day "an IBAN that begins LV81 is refused by 8"
     (two_banks
     (cover_in_ticket 0 bic_a 1000
     ∷ order_ticket 5 bic_a bic_b 400 tx1 (text "LV81BANK0000435195001")
     ∷ []))
-    "T 0 0 0 0\n_t 1 8 0 0\n_c 0 1000 0 0\n_c 1 0 0 0\n"
+    "T 0 0 0 0\nT 1 8 0 0\nC 0 1000 0 0\nC 1 0 0 0\n"
     -- 02, slip 1
     ∷ day "case D's IBAN with BANK in small letters is refused by 8, the same ticket with capitals accepted"
     (two_banks
@@ -56,19 +56,19 @@ marked_cases =
     ∷ order_ticket 5 bic_a bic_b 400 tx1 small_iban_d
     ∷ order_ticket 5 bic_a bic_b 400 tx1 iban_d
     ∷ []))
-    "T 0 0 0 0\n_t 1 8 0 0\n_t 2 0 1 1\n_r 1 1 0 400\n_c 0 600 400 0\n_c 1 0 0 0\n"
+    "T 0 0 0 0\nT 1 8 0 0\nT 2 0 1 1\nR 1 1 0 400\nC 0 600 400 0\nC 1 0 0 0\n"
     ∷ day "an order equal to available is accepted"
     (two_banks (cover_in_ticket 0 bic_a 1000 ∷ order_ticket 5 bic_a bic_b 1000 tx1 iban_d ∷ []))
-    "T 0 0 0 0\n_t 1 0 1 1\n_r 1 1 0 1000\n_c 0 0 1000 0\n_c 1 0 0 0\n"
+    "T 0 0 0 0\nT 1 0 1 1\nR 1 1 0 1000\nC 0 0 1000 0\nC 1 0 0 0\n"
     ∷ day "one cent more is refused by 20"
     (two_banks (cover_in_ticket 0 bic_a 1000 ∷ order_ticket 5 bic_a bic_b 1001 tx1 iban_d ∷ []))
-    "T 0 0 0 0\n_t 1 20 0 0\n_c 0 1000 0 0\n_c 1 0 0 0\n"
+    "T 0 0 0 0\nT 1 20 0 0\nC 0 1000 0 0\nC 1 0 0 0\n"
     ∷ day "confirm 0 of an open debit is accepted"
     (file_bytes (bank_opening bic_a 100 ∷ []) [] (cover_in_ticket 0 bic_a 30 ∷ cut_ticket 1 ∷ confirm_ticket 2 bic_a 0 ∷ []))
-    "T 0 0 0 0\n_t 1 0 1 0\n_r 0 10 65535 70\n_t 2 0 0 0\n_c 0 30 0 0\n"
+    "T 0 0 0 0\nT 1 0 1 0\nR 0 10 65535 70\nT 2 0 0 0\nC 0 30 0 0\n"
     ∷ day "held 50 confirmed by 49 is refused by 21"
     (file_bytes (bank_opening bic_a 100 ∷ []) [] (cover_in_ticket 0 bic_a 150 ∷ cut_ticket 1 ∷ confirm_ticket 2 bic_a 49 ∷ []))
-    "T 0 0 0 0\n_t 1 0 1 0\n_r 0 11 65535 50\n_t 2 21 0 0\n_c 0 100 0 50\n"
+    "T 0 0 0 0\nT 1 0 1 0\nR 0 11 65535 50\nT 2 21 0 0\nC 0 100 0 50\n"
     ∷ day "yes twice, the second refused by 18"
     (two_banks
     (cover_in_ticket 0 bic_a 1000
@@ -76,7 +76,7 @@ marked_cases =
     ∷ yes_ticket 6 bic_b bic_a tx1
     ∷ yes_ticket 7 bic_b bic_a tx1
     ∷ []))
-    "T 0 0 0 0\n_t 1 0 1 1\n_r 1 1 0 400\n_t 2 0 2 0\n_r 0 2 0 400\n_r 1 2 0 400\n_t 3 18 0 0\n_c 0 600 0 0\n_c 1 400 0 0\n"
+    "T 0 0 0 0\nT 1 0 1 1\nR 1 1 0 400\nT 2 0 2 0\nR 0 2 0 400\nR 1 2 0 400\nT 3 18 0 0\nC 0 600 0 0\nC 1 400 0 0\n"
     ∷ day "a refused file prints its refusal alone" (text "short") "F 1\n"
     ∷ []
 

@@ -75,7 +75,7 @@ limits =
     ∷ order_ticket 5 bic_a bic_b 99_999_999_999 tx1 iban_d
     ∷ order_ticket 6 bic_a bic_b 100_000_000_000 tx2 iban_d
     ∷ []))
-    "T 0 0 0 0\n_t 1 0 1 1\n_r 1 1 0 99999999999\n_t 2 10 0 0\n_c 0 100000000001 99999999999 0\n_c 1 0 0 0\n"
+    "T 0 0 0 0\nT 1 0 1 1\nR 1 1 0 99999999999\nT 2 10 0 0\nC 0 100000000001 99999999999 0\nC 1 0 0 0\n"
     ∷ day "10^18 in all by cover in, reserved counted: all of it, and one cent more refused by 22"
     (two_banks
     (cover_in_ticket 0 bic_a 999_999_999_999_999_999
@@ -84,7 +84,7 @@ limits =
     ∷ cover_in_ticket 3 bic_b 1
     ∷ cover_in_ticket 4 bic_a 1
     ∷ []))
-    "T 0 0 0 0\n_t 1 0 1 1\n_r 1 1 0 400\n_t 2 22 0 0\n_t 3 0 0 0\n_t 4 22 0 0\n_c 0 999999999999999599 400 0\n_c 1 1 0 0\n"
+    "T 0 0 0 0\nT 1 0 1 1\nR 1 1 0 400\nT 2 22 0 0\nT 3 0 0 0\nT 4 22 0 0\nC 0 999999999999999599 400 0\nC 1 1 0 0\n"
     ∷ day "10^18 in all by a confirmed debit: all of it, and one cent more refused by 22"
     (file_bytes
     (bank_opening bic_a 100 ∷ bank bic_b ∷ [])
@@ -95,5 +95,5 @@ limits =
     ∷ confirm_ticket 3 bic_a 70
     ∷ confirm_ticket 4 bic_a 69
     ∷ []))
-    "T 0 0 0 0\n_t 1 0 1 0\n_r 0 10 65535 70\n_t 2 0 0 0\n_t 3 22 0 0\n_t 4 0 0 0\n_c 0 99 0 0\n_c 1 999999999999999901 0 0\n"
+    "T 0 0 0 0\nT 1 0 1 0\nR 0 10 65535 70\nT 2 0 0 0\nT 3 22 0 0\nT 4 0 0 0\nC 0 99 0 0\nC 1 999999999999999901 0 0\n"
     ∷ []

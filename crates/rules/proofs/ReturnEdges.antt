@@ -27,13 +27,13 @@ recalled name tickets due =
     ∷ yes_ticket 6 bic_b bic_a tx1
     ∷ recall_ticket 7 bic_a 1 bic_a tx1
     ∷ tickets))
-    (text "T 0 0 0 0\n_t 1 0 1 1\n_r 1 1 0 400\n_t 2 0 2 0\n_r 0 2 0 400\n_r 1 2 0 400\n_t 3 0 1 0\n_r 1 5 0 400\n" ++ text due)
+    (text "T 0 0 0 0\nT 1 0 1 1\nR 1 1 0 400\nT 2 0 2 0\nR 0 2 0 400\nR 1 2 0 400\nT 3 0 1 0\nR 1 5 0 400\n" ++ text due)
 
 abbrev pub return_edges : List Row
 return_edges =
     recalled "a return of 1 cent: the charge stays with the payee, and an inquiry repeats what was returned"
     (return_ticket 8 bic_b 1 bic_a tx1 ∷ inquiry_ticket 9 bic_a bic_a tx1 ∷ [])
-    "T 4 0 1 0\n_r 0 6 0 1\n_t 5 0 1 0\n_r 0 6 0 1\n_c 0 601 0 0\n_c 1 399 0 0\n"
+    "T 4 0 1 0\nR 0 6 0 1\nT 5 0 1 0\nR 0 6 0 1\nC 0 601 0 0\nC 1 399 0 0\n"
     ∷ recalled "a return of one cent less than the order: the rest can't be returned, declined or recalled"
     (return_ticket 8 bic_b 399 bic_a tx1
     ∷ inquiry_ticket 9 bic_a bic_a tx1
@@ -41,16 +41,16 @@ return_edges =
     ∷ decline_ticket 11 bic_b 1 bic_a tx1
     ∷ recall_ticket 12 bic_a 1 bic_a tx1
     ∷ [])
-    "T 4 0 1 0\n_r 0 6 0 399\n_t 5 0 1 0\n_r 0 6 0 399\n_t 6 18 0 0\n_t 7 18 0 0\n_t 8 18 0 0\n_c 0 999 0 0\n_c 1 1 0 0\n"
+    "T 4 0 1 0\nR 0 6 0 399\nT 5 0 1 0\nR 0 6 0 399\nT 6 18 0 0\nT 7 18 0 0\nT 8 18 0 0\nC 0 999 0 0\nC 1 1 0 0\n"
     ∷ recalled "a return of one cent more than the order is refused by 19, and one of all of it accepted"
     (return_ticket 8 bic_b 401 bic_a tx1 ∷ return_ticket 9 bic_b 400 bic_a tx1 ∷ inquiry_ticket 10 bic_a bic_a tx1 ∷ [])
-    "T 4 19 0 0\n_t 5 0 1 0\n_r 0 6 0 400\n_t 6 0 1 0\n_r 0 6 0 400\n_c 0 1000 0 0\n_c 1 0 0 0\n"
+    "T 4 19 0 0\nT 5 0 1 0\nR 0 6 0 400\nT 6 0 1 0\nR 0 6 0 400\nC 0 1000 0 0\nC 1 0 0 0\n"
     ∷ recalled "20 looks at the return's amount: of 300 available 301 are refused and 300 accepted"
     (cover_out_ticket 8 bic_b 100 ∷ return_ticket 9 bic_b 301 bic_a tx1 ∷ return_ticket 10 bic_b 300 bic_a tx1 ∷ [])
-    "T 4 0 0 0\n_t 5 20 0 0\n_t 6 0 1 0\n_r 0 6 0 300\n_c 0 900 0 0\n_c 1 0 0 0\n"
+    "T 4 0 0 0\nT 5 20 0 0\nT 6 0 1 0\nR 0 6 0 300\nC 0 900 0 0\nC 1 0 0 0\n"
     ∷ recalled "above the order and above what is available is 19"
     (cover_out_ticket 8 bic_b 100 ∷ return_ticket 9 bic_b 401 bic_a tx1 ∷ return_ticket 10 bic_b 400 bic_a tx1 ∷ [])
-    "T 4 0 0 0\n_t 5 19 0 0\n_t 6 20 0 0\n_c 0 600 0 0\n_c 1 300 0 0\n"
+    "T 4 0 0 0\nT 5 19 0 0\nT 6 20 0 0\nC 0 600 0 0\nC 1 300 0 0\n"
     ∷ day_of "payer and payee the same: nothing moves, and 19 and 20 are looked at all the same"
     (file_bytes
     (bank bic_a ∷ [])
@@ -65,6 +65,6 @@ return_edges =
     ∷ return_ticket 7 bic_a 30 bic_a tx1
     ∷ inquiry_ticket 8 bic_a bic_a tx1
     ∷ []))
-    (text "T 0 0 0 0\n_t 1 0 1 1\n_r 0 1 0 60\n_t 2 0 2 0\n_r 0 2 0 60\n_r 0 2 0 60\n_t 3 0 1 0\n_r 0 5 0 60\n"
-    ++ text "T 4 0 0 0\n_t 5 19 0 0\n_t 6 20 0 0\n_t 7 0 1 0\n_r 0 6 0 30\n_t 8 0 1 0\n_r 0 6 0 30\n_c 0 30 0 0\n")
+    (text "T 0 0 0 0\nT 1 0 1 1\nR 0 1 0 60\nT 2 0 2 0\nR 0 2 0 60\nR 0 2 0 60\nT 3 0 1 0\nR 0 5 0 60\n"
+    ++ text "T 4 0 0 0\nT 5 19 0 0\nT 6 20 0 0\nT 7 0 1 0\nR 0 6 0 30\nT 8 0 1 0\nR 0 6 0 30\nC 0 30 0 0\n")
     ∷ []
