@@ -105,7 +105,7 @@ key_edges =
     (order_ticket 5 bic_a bic_b 400 tx1 iban_d
     ∷ yes_ticket 6 bic_b [] tx1
     ∷ yes_ticket 6 bic_b (text "AAAALV22") tx1
-    ∷ inquiry_ticket 6 bic_a (text "aaaa_lv22_xxx") tx1
+    ∷ inquiry_ticket 6 bic_a (text "aaaaLV22XXX") tx1
     ∷ cover_with_payer
     ∷ [])
     (text "T 2 0 1 1\nR 1 1 0 400\nT 3 7 0 0\nT 4 7 0 0\nT 5 7 0 0\nT 6 7 0 0\nC 0 600 400 0\nC 1 1000 0 0\n")
