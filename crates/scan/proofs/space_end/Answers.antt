@@ -1,5 +1,4 @@
 use mathlib.Core.Path.{sym, ◌∙◌}
-use Prim.Native.Nat.{◌-◌}
 use borrow.Author.Rules.{rules}
 use Rattle.xml.specs.Bytes.{is_space}
 use Rattle.scan.proofs.Runs.{run_on, run-stops, run-over}
