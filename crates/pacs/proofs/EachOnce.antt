@@ -187,6 +187,7 @@ rises-below m n s h ends = ends
 rises-below m n s h (goes {k = k} low more) = let z : m ≤ k = omega arith in goes z more
 
 rises-from : (n j : ℕ) (s : List ℕ) → Rises n s → Has j s → n ≤ j
+rises-from n j [] r h = elim h [ ]
 rises-from n j s (goes low more) (at_first e) = omega arith
 rises-from n j s (goes {k = k} {more = rest} low more) (at-later h) = let z = rises-from (suc k) j rest more h in omega arith
 
@@ -325,6 +326,7 @@ pub record ChildOf (c : Content) (parent j : ℕ) : Type 0 where
 
 child-has : (x : Element) (c : Content) (parent : ℕ) → Child x c → row_of parent (name x) < outside
     → Has (row_of parent (name x)) (child_rows c parent)
+child-has x (last_text s) parent h low = elim h [ ]
 child-has x (text_then s e c) parent (next p) low =
     let rows : row_of parent (name x) ≡ row_of parent (name e) = ap (λ (k : Element). row_of parent (name k)) p in
     rw (ne_eqb (row_of parent (name e)) skipped (λ h. omega arith)) (at_first rows)

@@ -212,6 +212,7 @@ part_of a b c p q =
     }
 
 child-part : (x : Element) (c : Content) (parent : ℕ) → Child x c → Part (met x parent) (met_in c parent)
+child-part x (last_text s) parent h = elim h [ ]
 child-part x (text_then s e c) parent (next same) =
     record {
       front = [];
@@ -249,6 +250,7 @@ stands-part root x names (below {y = y} {names = around} st h) =
 
 -- an element among a part is among the whole, and so are two of them
 among-left : (m : Named) (a b : List Named) → Among m a → Among m (a ++ b)
+among-left m [] b h = elim h [ ]
 among-left m (k ∷ a) b (first same) = first same
 among-left m (k ∷ a) b (later h) = later (among-left m a b h)
 
@@ -261,6 +263,7 @@ among-part m part whole p h =
     subst (Among m) (sym p.is) (among-right m p.front (part ++ p.back) (among-left m part p.back h))
 
 ahead-left : (m k : Named) (a b : List Named) → Ahead m k a → Ahead m k (a ++ b)
+ahead-left m k [] b h = elim h [ ]
 ahead-left m k (j ∷ a) b (before same h) = before same (among-left k a b h)
 ahead-left m k (j ∷ a) b (behind h) = behind (ahead-left m k a b h)
 
@@ -269,6 +272,7 @@ ahead-right m k [] b h = h
 ahead-right m k (j ∷ a) b h = behind (ahead-right m k a b h)
 
 ahead-across : (m k : Named) (a b : List Named) → Among m a → Among k b → Ahead m k (a ++ b)
+ahead-across m k [] b g h = elim g [ ]
 ahead-across m k (j ∷ a) b (first same) h = before same (among-right k a b h)
 ahead-across m k (j ∷ a) b (later g) h = behind (ahead-across m k a b g h)
 
@@ -298,6 +302,7 @@ child-met x c parent h low =
 siblings-ahead : (x y : Element) (c : Content) (parent : ℕ) → Siblings x y c → row_of parent (name x) < outside
     → row_of parent (name y) < outside
     → Ahead (named_at x (row_of parent (name x))) (named_at y (row_of parent (name y))) (met_in c parent)
+siblings-ahead x y (last_text s) parent h lowx lowy = elim h [ ]
 siblings-ahead x y (text_then s e c) parent (next_of same h) lowx lowy =
     ahead-across
     (named_at x (row_of parent (name x)))
@@ -355,6 +360,7 @@ text-low names n is = go (row-range (row_at names) n)
     go (inr h) = never (sym is ∙ ap is_text_row h)
 
 not_plain : (y : Element) (c : Content) → Child y c → is_plain c ≡ false
+not_plain y (last_text s) h = elim h [ ]
 not_plain y (text_then s e c) (next same) = refl
 not_plain y (text_then s e c) (further h) = refl
 
@@ -441,6 +447,7 @@ pub met-stands : (root : Element) (m : Named) → Among m (met root outside) →
 met-stands root m h = origin-of root root [] top m h
 
 child-cases : (x y : Element) (c : Content) → Child x c → Child y c → (x ≡ y) ⊎ (Siblings x y c ⊎ Siblings y x c)
+child-cases x y (last_text s) h k = elim h [ ]
 child-cases x y (text_then s e c) (next p) (next q) = inl (p ∙ sym q)
 child-cases x y (text_then s e c) (next p) (further k) = inr (inl (next_of p k))
 child-cases x y (text_then s e c) (further h) (next q) = inr (inr (next_of q h))

@@ -59,6 +59,7 @@ in_all n [] e = let z = eqb-true n outside e in omega arith
 in_all n (m ∷ more) e = let z = in_all (suc n) more (due n m more e).rest in omega arith
 
 pub placed : (n : ℕ) (ms : List Named) (m : Named) → in_order n ms ≡ true → Among m ms → Placed n ms m
+placed n [] m e h = elim h [ ]
 placed n (k ∷ more) m e (first same) =
     let d = due n k more e in
     let row : m.row ≡ n = ap (λ (x : Named). x.row) same ∙ d.row in
@@ -145,6 +146,7 @@ row-met n (m ∷ more) r e low high = go (eqb n r) refl (λ further. row-met (su
         record { element = found.element; among = later found.among; row = found.row }
 
 pub ascending : (n : ℕ) (ms : List Named) (m k : Named) → in_order n ms ≡ true → Ahead m k ms → m.row < k.row
+ascending n [] m k e h = elim h [ ]
 ascending n (j ∷ more) m k e (before same h) =
     let d = due n j more e in
     let row : m.row ≡ n = ap (λ (x : Named). x.row) same ∙ d.row in
