@@ -4,53 +4,36 @@ use mathlib.Core.List.{List}
 use Prim.Native.Nat.{ℕ, ◌+◌, ◌-◌, ◌<◌}
 use native.Mathlib.Omega.{arith}
 use borrow.Author.Tests.{ne_eqb}
-use lib.ListN.{length, get_or}
+use lib.ListN.{length, get_or, take}
 use Rattle.fields.specs.Text.{unpadded}
 use Rattle.classes.proofs.Unpadding.{value-within}
 use Rattle.classes.specs.Class.{all_in}
 use Rattle.classes.specs.declared.Class.TheVariants.{Capital, Digit, CapitalOrDigit}
-use Rattle.iban.specs.Iban.{digits, rearranged, iban_shape}
+use Rattle.iban.specs.Iban.{digits, rearranged, read_decimal, iban_shape}
+use Rattle.remainder.specs.Held.{joined}
 use Rattle.remainder.specs.declared.Held.{Held}
 use Rattle.remainder.specs.declared.Divided.{Divided}
 use Rattle.iban.proofs.ShapeParts.{shape-least, shape-most, shape-country, shape-check, shape-spelt}
 use Rattle.iban.proofs.ValueBytes.{used-within, value-stops, value-part}
 use Rattle.iban.proofs.HeldDigits.{Holds, end-remainder, end-groups}
 use Rattle.iban.proofs.Walk.{Walked, stride-small, walk_begins, walk-fits, walk-strides, walk_ends, end_fits}
-use Rattle.iban.proofs.strides.divided.Goals.{At-loop-next}
-use Rattle.iban.proofs.strides.divided.Goals.{In-loop-next}
-use Rattle.iban.proofs.strides.divided.Goals.{After-loop-next}
-use Rattle.iban.proofs.strides.divided.Goals.{After-put}
 use Rattle.iban.proofs.strides.divided.Goals as goal
 
--- the bytes
-abbrev bytes : tie.At-loop invariant-loop decreases-loop → List ℕ
-bytes l = l.before.before.before.before.args.s.now
+-- the bytes of a field whose value has the shape of an IBAN
+module _ (s : List ℕ) (e : iban_shape (unpadded s) ≡ true) where
+  -- no character stands at i
+  passed : (h : Held) (i : ℕ) → Walked s h i → get_or s i 0 ≡ 0 → Walked s h (length (unpadded s))
+  passed h i w z = subst (Walked s h) (value-stops CapitalOrDigit s (shape-spelt (unpadded s) e) i w.within z) w
 
--- their value has the shape of an IBAN
-shape : (c :: At-loop-next) → iban_shape (unpadded (bytes c)) ≡ true
-shape c = c.requires
+  -- the first four are held behind the others
+  all_held : (h held : Held) (i n : ℕ) → Walked s held i → get_or s i 0 ≡ 0 → n ≡ read_decimal (digits (take 4 s)) → h ≡ joined held n 6
+      → Holds h (digits (rearranged (unpadded s)))
+  all_held h held i n w z en eh =
+      subst (λ (k : Held). Holds k (digits (rearranged (unpadded s)))) (sym eh) (walk_ends s n e (passed held i w z) en)
 
 -- a character stands at i
-inside : (c : In-loop-next) → c.loop-next.i < length (unpadded (bytes (FIXME At-loop-next)))
-inside c =
-    used-within (bytes (FIXME At-loop-next)) c.loop-next.i (ne_eqb (get_or (bytes (FIXME At-loop-next)) c.loop-next.i 0) 0 (λ z. c.loop-next-test.true (c.byte.ensures ∙ z)))
-
--- none does
-passed : (c : After-loop-next) → Walked (bytes (FIXME At-loop-next)) c.loop-next.held (length (unpadded (bytes (FIXME At-loop-next))))
-passed c =
-    let v = unpadded (bytes (FIXME At-loop-next)) in
-    subst (Walked (bytes (FIXME At-loop-next)) c.loop-next.held)
-    (value-stops CapitalOrDigit (bytes (FIXME At-loop-next)) (shape-spelt v (shape (FIXME At-loop-next))) c.loop-next.i c.loop-next.invariant.within
-    (sym c.byte.ensures ∙ c.loop-next-test.false))
-    c.loop-next.invariant
-
--- the first four are held behind the others
-all_held : (c : After-put)
-    → Holds c.put.result (digits (rearranged (unpadded (bytes (FIXME At-loop-next)))))
-all_held c =
-    subst (λ (h : Held). Holds h (digits (rearranged (unpadded (bytes (FIXME At-loop-next))))))
-    (sym c.put.ensures)
-    (walk_ends (bytes (FIXME At-loop-next)) c.front.result (shape (FIXME At-loop-next)) (passed (FIXME After-loop-next)) c.front.ensures.0)
+inside : (s : List ℕ) (i b : ℕ) → b ≡ get_or s i 0 → (b ≡ 0 → ⊥) → i < length (unpadded s)
+inside s i b e used = used-within s i (ne_eqb (get_or s i 0) 0 (λ z. used (e ∙ z)))
 
 pub loop-next-init : goal.loop-next-init
 loop-next-init c =
@@ -60,13 +43,13 @@ loop-next-init c =
 
 pub next_stride-next-requires : goal.next_stride-next-requires
 next_stride-next-requires c =
-    (shape-spelt (unpadded (bytes (goal.at.next_stride-next-requires c).At-loop-next)) (shape (goal.at.next_stride-next-requires c).At-loop-next), inside c)
+    (shape-spelt (unpadded c.args.s.now) c.requires, inside c.args.s.now c.loop-next.i c.byte.result c.byte.ensures c.loop-next-test.true)
 
 pub put-held-requires : goal.put-held-requires
 put-held-requires c =
-    let s = bytes (goal.at.put-held-requires c).At-loop-next in
+    let s = c.args.s.now in
     let r = c.next_stride-next.result in (
-      walk-fits s (shape-most (unpadded s) (shape (goal.at.put-held-requires c).At-loop-next)) c.loop-next.invariant,
+      walk-fits s (shape-most (unpadded s) c.requires) c.loop-next.invariant,
       c.powers-powers.ensures,
       c.next_stride-next.ensures.3,
       stride-small _ c.next_stride-next.ensures.2,
@@ -74,34 +57,34 @@ put-held-requires c =
 
 pub overflow_add-i : goal.overflow_add-i
 overflow_add-i c =
-    omega (arith, c.next_stride-next.ensures.1, shape-most (unpadded (bytes (goal.at.overflow_add-i c).At-loop-next)) (shape (goal.at.overflow_add-i c).At-loop-next))
+    omega (arith, c.next_stride-next.ensures.1, shape-most (unpadded c.args.s.now) c.requires)
 
 pub loop-next-smaller : goal.loop-next-smaller
 loop-next-smaller c =
-    omega (arith, c.next_stride-next.ensures.0, c.next_stride-next.ensures.1, inside (goal.at.loop-next-smaller c).In-loop-next)
+    omega (arith, c.next_stride-next.ensures.0, c.next_stride-next.ensures.1, inside c.args.s.now c.loop-next.i c.byte.result c.byte.ensures c.loop-next-test.true)
 
 pub loop-next-preserved : goal.loop-next-preserved
 loop-next-preserved c =
     let r = c.next_stride-next.result in
     let e = c.next_stride-next.ensures in
-    subst (λ (h : Held). Walked (bytes (goal.at.loop-next-preserved c).At-loop-next) h (c.loop-next.i + r.length))
+    subst (λ (h : Held). Walked c.args.s.now h (c.loop-next.i + r.length))
     (sym c.put-held.ensures)
-    (walk-strides (bytes (goal.at.loop-next-preserved c).At-loop-next) r c.loop-next.invariant e.2 e.3 e.1)
+    (walk-strides c.args.s.now r c.loop-next.invariant e.2 e.3 e.1)
 
 pub front-requires : goal.front-requires
 front-requires c =
-    let s = bytes (goal.at.front-requires c).At-loop-next in
+    let s = c.args.s.now in
     let v = unpadded s in
-    let least = shape-least v (shape (goal.at.front-requires c).At-loop-next) in (
+    let least = shape-least v c.requires in (
       omega (arith, value-within s),
-      ap (all_in Capital) (sym (value-part s 2 0 (omega arith))) ∙ shape-country v (shape (goal.at.front-requires c).At-loop-next),
-      ap (all_in Digit) (sym (value-part s 2 2 (omega arith))) ∙ shape-check v (shape (goal.at.front-requires c).At-loop-next),
+      ap (all_in Capital) (sym (value-part s 2 0 (omega arith))) ∙ shape-country v c.requires,
+      ap (all_in Digit) (sym (value-part s 2 2 (omega arith))) ∙ shape-check v c.requires,
     )
 
 pub put-requires : goal.put-requires
 put-requires c =
     (
-      walk-fits (bytes (goal.at.put-requires c).At-loop-next) (shape-most (unpadded (bytes (goal.at.put-requires c).At-loop-next)) (shape (goal.at.put-requires c).At-loop-next)) c.loop-next.invariant,
+      walk-fits c.args.s.now (shape-most (unpadded c.args.s.now) c.requires) c.loop-next.invariant,
       c.powers-powers.ensures,
       omega arith,
       c.front.ensures.1,
@@ -109,11 +92,11 @@ put-requires c =
 
 pub ended-requires : goal.ended-requires
 ended-requires c =
-    (end_fits (bytes (goal.at.ended-requires c).At-loop-next) (shape-most (unpadded (bytes (goal.at.ended-requires c).At-loop-next)) (shape (goal.at.ended-requires c).At-loop-next)) (all_held (goal.at.ended-requires c).After-put), c.powers-powers.ensures)
+    (end_fits c.args.s.now (shape-most (unpadded c.args.s.now) c.requires) (all_held c.args.s.now c.requires c.put.result c.loop-next.held c.loop-next.i c.front.result c.loop-next.invariant (sym c.byte.ensures ∙ c.loop-next-test.false) c.front.ensures.0 c.put.ensures), c.powers-powers.ensures)
 
 pub returns : goal.returns
 returns c =
     let h = c.put.result in (
-      ap (λ (d : Divided). d.remainder) c.ended.ensures ∙ end-remainder h _ (all_held (goal.at.returns c).After-put),
-      ap (λ (d : Divided). d.groups) c.ended.ensures ∙ end-groups h _ (all_held (goal.at.returns c).After-put),
+      ap (λ (d : Divided). d.remainder) c.ended.ensures ∙ end-remainder h _ (all_held c.args.s.now c.requires c.put.result c.loop-next.held c.loop-next.i c.front.result c.loop-next.invariant (sym c.byte.ensures ∙ c.loop-next-test.false) c.front.ensures.0 c.put.ensures),
+      ap (λ (d : Divided). d.groups) c.ended.ensures ∙ end-groups h _ (all_held c.args.s.now c.requires c.put.result c.loop-next.held c.loop-next.i c.front.result c.loop-next.invariant (sym c.byte.ensures ∙ c.loop-next-test.false) c.front.ensures.0 c.put.ensures),
     )

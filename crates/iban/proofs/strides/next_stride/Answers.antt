@@ -15,6 +15,10 @@ pub bounds-s-i : goal.bounds-s-i
 bounds-s-i c =
     omega (arith, c.requires.1, value-within c.args.s.now)
 
+pub overflow_add-i : goal.overflow_add-i
+overflow_add-i c =
+    omega (arith, c.requires.1, value-within c.args.s.now)
+
 pub one-requires : goal.one-requires
 one-requires c =
     first-spelt (ahead (goal.at.one-requires c).After-byte-b)
@@ -39,6 +43,10 @@ two-requires c =
 pub returns-then-a-b-2 : goal.returns-then-a-b-2
 returns-then-a-b-2 c =
     two-strode (ahead (goal.at.returns-then-a-b-2 c).After-byte-b) c.if-b-eq0.false c.two.result c.two.ensures
+
+pub overflow_add-i-2 : goal.overflow_add-i-2
+overflow_add-i-2 c =
+    omega (arith, two-within (ahead (goal.at.overflow_add-i-2 c).After-byte-b) c.if-b-eq0.false, value-within c.args.s.now)
 
 pub five_more-requires : goal.five_more-requires
 five_more-requires c =
