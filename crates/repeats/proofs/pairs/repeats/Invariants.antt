@@ -1,7 +1,6 @@
 -- `repeats::pairs::repeats` meets its contract. The loop's invariant: two of all have the same name where two of those left have.
 -- Assumes nothing.
 use mathlib.Core.Path.{◌≡◌}
-use Prim.Native.Nat.{◌-◌}
 use lib.ListN.{drop}
 use Rattle.repeats.specs.Repeats.{repeats_in}
 use Rattle.repeats.proofs.pairs.repeats.Given as goal

@@ -5,5 +5,6 @@ use Rattle.repeats.proofs.Ways.{bit-small}
 use Rattle.repeats.proofs.tree.has_bit.Goals as goal
 
 pub returns : goal.returns
+unfolding has_bit
 returns c =
     (refl, bit-small (has_bit c.args.b c.args.mask))
