@@ -7,10 +7,10 @@ use Rattle.tags.proofs.TagEnds.{repeated-tag, opening, neither, closing, slashed
 use Rattle.tags.proofs.ending.Goals as goal
 
 pub returns-then-repeated : goal.returns-then-repeated
-returns-then-repeated c = (λ c name more space behind read counted.
-    let r = c.before in
-    let a = r.before.before.args in
-    repeated-tag a.text.now a.at a.end r.repeated.ensures name more space behind read counted a.end c.if1.true) c -- FIXME
+returns-then-repeated c =
+    λ name more space behind read counted.
+    let a = c.args in
+    repeated-tag a.text.now a.at a.end c.repeated.ensures name more space behind read counted a.end c.if-repeated.true
 
 pub overflow_add-result : goal.overflow_add-result
 overflow_add-result c =
@@ -18,46 +18,16 @@ overflow_add-result c =
     omega (arith, byte-within a.text.now a.end 62 (sym c.byte-b.ensures ∙ c.if-b-eq62.true) (omega arith))
 
 pub returns-then-b-eq62 : goal.returns-then-b-eq62
-returns-then-b-eq62 c = (λ c name more space behind read counted.
-    let b = c.before in
-    let r = b.before.before in
-    let a = r.before.before.args in
-    opening
-    a.text.now
-    a.at
-    a.end
-    r.repeated.ensures
-    name
-    more
-    space
-    behind
-    read
-    counted
-    b.before.if1.false
-    b.byte.ensures
-    c.if2.true) c -- FIXME
+returns-then-b-eq62 c =
+    λ name more space behind read counted.
+    let a = c.args in
+    opening a.text.now a.at a.end c.repeated.ensures name more space behind read counted c.if-repeated.false c.byte-b.ensures c.if-b-eq62.true
 
 pub returns-then-b-ne47 : goal.returns-then-b-ne47
-returns-then-b-ne47 c = (λ c name more space behind read counted.
-    let b = c.before.before in
-    let r = b.before.before in
-    let a = r.before.before.args in
-    neither
-    a.text.now
-    a.at
-    a.end
-    r.repeated.ensures
-    name
-    more
-    space
-    behind
-    read
-    counted
-    b.before.if1.false
-    b.byte.ensures
-    a.end
-    c.before.if2.false
-    c.if3.true) c -- FIXME
+returns-then-b-ne47 c =
+    λ name more space behind read counted.
+    let a = c.args in
+    neither a.text.now a.at a.end c.repeated.ensures name more space behind read counted c.if-repeated.false c.byte-b.ensures a.end c.if-b-eq62.false c.if-b-ne47.true
 
 pub overflow_add-end : goal.overflow_add-end
 overflow_add-end c =
@@ -65,28 +35,10 @@ overflow_add-end c =
     omega (arith, byte-within a.text.now a.end 47 (sym c.byte-b.ensures ∙ c.if-b-ne47.false) (omega arith))
 
 pub returns-then-byte-ne62 : goal.returns-then-byte-ne62
-returns-then-byte-ne62 c = (λ c name more space behind read counted.
-    let d = c.before in
-    let b = d.before.before.before in
-    let r = b.before.before in
-    let a = r.before.before.args in
-    slashed
-    a.text.now
-    a.at
-    a.end
-    r.repeated.ensures
-    name
-    more
-    space
-    behind
-    read
-    counted
-    b.before.if1.false
-    b.byte.ensures
-    d.before.if3.false
-    d.byte2.ensures
-    a.end
-    c.if4.true) c -- FIXME
+returns-then-byte-ne62 c =
+    λ name more space behind read counted.
+    let a = c.args in
+    slashed a.text.now a.at a.end c.repeated.ensures name more space behind read counted c.if-repeated.false c.byte-b.ensures c.if-b-ne47.false c.byte.ensures a.end c.if-byte-ne62.true
 
 pub overflow_add-result-2 : goal.overflow_add-result-2
 overflow_add-result-2 c =
@@ -94,24 +46,7 @@ overflow_add-result-2 c =
     omega (arith, byte-within a.text.now (a.end + 1) 62 (sym c.byte.ensures ∙ c.if-byte-ne62.false) (omega arith))
 
 pub returns : goal.returns
-returns c = (λ c name more space behind read counted.
-    let d = c.before in
-    let b = d.before.before.before in
-    let r = b.before.before in
-    let a = r.before.before.args in
-    closing
-    a.text.now
-    a.at
-    a.end
-    r.repeated.ensures
-    name
-    more
-    space
-    behind
-    read
-    counted
-    b.before.if1.false
-    b.byte.ensures
-    d.before.if3.false
-    d.byte2.ensures
-    c.if4.false) c -- FIXME
+returns c =
+    λ name more space behind read counted.
+    let a = c.args in
+    closing a.text.now a.at a.end c.repeated.ensures name more space behind read counted c.if-repeated.false c.byte-b.ensures c.if-b-ne47.false c.byte.ensures c.if-byte-ne62.false

@@ -1,5 +1,4 @@
 use native.Mathlib.Omega.{arith}
-use Prim.Native.Nat.{◌-◌}
 use lib.ListN.{drop}
 use Rattle.xml.specs.Bytes.{is_space, run}
 use Rattle.tags.proofs.Attributes.{broken-there, ended-there, starts, all_read, misread-at, goes_on}
@@ -11,15 +10,12 @@ loop-from-init c =
     let a = c.args in starts a.text.now a.at c.space_end-next.ensures
 
 pub returns-in-Broken : goal.returns-in-Broken
-returns-in-Broken c = (λ c name.
-    let k = c.before in
-    let e = k.before.before in
-    let b = e.before.before in
-    let l = b.before in
-    let a = l.before.before.before.args in
+returns-in-Broken c =
+    λ name.
+    let a = c.args in
     let s = a.text.now in
-    let none = broken-there s l.loop.next e.attribute-end.ensures k.p2.given.1 in
-    misread-tag s a.at name k.p2.given.0.0 (misread-at s a.at l.loop.invariant b.begins.ensures e.before.if1.true none)) c -- FIXME
+    let none = broken-there s c.loop-from.next c.attribute_end.ensures c.in-Broken.is in
+    misread-tag s a.at name c.in-Broken.p (misread-at s a.at c.loop-from.invariant c.begins.ensures c.loop-from-test.true none)
 
 pub overflow_add-count : goal.overflow_add-count
 overflow_add-count c =
@@ -51,12 +47,11 @@ loop-from-preserved c =
     c.space_end-next-in-loop-from.ensures
 
 pub returns : goal.returns
-returns c = (λ c name.
-    let b = c.before.before in
-    let l = b.before in
-    let g = l.loop.invariant in
-    let a = l.before.before.before.args in
+returns c =
+    λ name.
+    let g = c.loop-from.invariant in
+    let a = c.args in
     let s = a.text.now in
-    c.ending.ensures name g.done (run is_space (drop l.loop.from s)) (omega (arith, g.behind, g.next-is))
-    (all_read s a.at g b.begins.ensures c.before.if1.false)
-    g.counted) c -- FIXME
+    c.ending.ensures name g.done (run is_space (drop c.loop-from.from s)) (omega (arith, g.behind, g.next-is))
+    (all_read s a.at g c.begins.ensures c.loop-from-test.false)
+    g.counted

@@ -11,10 +11,8 @@ overflow_add-result c =
     omega (arith, byte-within a.text.now a.at 62 (sym c.byte.ensures ∙ c.if-byte-eq62.true) (omega arith))
 
 pub returns-then-byte-eq62 : goal.returns-then-byte-eq62
-returns-then-byte-eq62 c = (λ c name.
-    let b = c.before in
-    let a = b.before.before.args in
-    short-tag a.text.now a.at name b.byte.ensures c.if1.true) c -- FIXME
+returns-then-byte-eq62 c =
+    λ name. short-tag c.args.text.now c.args.at name c.byte.ensures c.if-byte-eq62.true
 
 pub returns : goal.returns
 returns c =
