@@ -5,6 +5,7 @@ use native.Mathlib.Omega.{arith}
 use lib.ListN.{length-set}
 use Rattle.dayfile.specs.Roster.{target_kind, target_number}
 use borrow.Author.Rules.{rules}
+use Rattle.routes.specs.Ways.{kinds_of, numbers_of}
 use Rattle.routes.proofs.targets_of.Invariants.{kinds_to, numbers_to}
 use Rattle.routes.proofs.targets_of.Goals as goal
 
@@ -23,6 +24,7 @@ loop-i-preserved c =
     )
 
 pub returns : goal.returns
+unfolding kinds_of numbers_of
 returns c =
     let end : c.loop-i.i ≡ 64 = omega arith in
     (c.loop-i.invariant.3 ∙ ap (kinds_to c.args.routes) end, c.loop-i.invariant.4 ∙ ap (numbers_to c.args.routes) end)
