@@ -5,10 +5,8 @@ use Rattle.elements.proofs.EuroRead.{none-there, one-there}
 use Rattle.elements.proofs.currency.only_euro.Goals as goal
 
 pub returns-in_default : goal.returns-in_default
-returns-in_default c = (λ c fuel more space z read.
-    let r = c.before.before in
-    let a = r.before.before.args in
-    none-there a.text.now a.at r.attribute-at.ensures fuel more space z read c.enum_told.given.1) c -- FIXME
+returns-in_default c = λ fuel more space z read.
+    none-there c.args.text.now c.args.at c.attribute_at.ensures fuel more space z read c.in_default.is
 
 pub overflow_add-rest : goal.overflow_add-rest
 overflow_add-rest c =
@@ -29,14 +27,18 @@ three-valued-requires c =
     (h.value-ends, omega (arith, h.within))
 
 pub returns : goal.returns
-returns c = (λ c fuel more space z read.
-    let s = c.before in
-    let w = s.before in
-    let v = w.before in
-    let k = v.before.before in
-    let r = k.before.before in
-    let a = r.before.before.args in
-    one-there a.text.now a.at r.attribute-at.ensures fuel more space z read k.name.given.1 s.space-end.ensures
-    v.three.ensures
-    w.three2.ensures
-    c.begins.ensures) c -- FIXME
+returns c = λ fuel more space z read.
+    one-there
+    c.args.text.now
+    c.args.at
+    c.attribute_at.ensures
+    fuel
+    more
+    space
+    z
+    read
+    c.in-Read.is
+    c.space_end.ensures
+    c.three-named.ensures
+    c.three-valued.ensures
+    c.begins.ensures

@@ -11,9 +11,8 @@ one-or-none true = refl
 one-or-none false = refl
 
 pub returns-then-row-eq9 : goal.returns-then-row-eq9
-returns-then-row-eq9 c = (λ c fuel more space z e.
-    rw (eq-eqb _ _ c.before.if1.true)
-    (ap bool_byte (c.only-euro.ensures fuel more space z e) ∙ one-or-none (is_euro more))) c -- FIXME
+returns-then-row-eq9 c = λ fuel more space z e.
+    rw (eq-eqb _ _ c.if-row-eq9.true) (ap bool_byte (c.only_euro.ensures fuel more space z e) ∙ one-or-none (is_euro more))
 
 pub returns : goal.returns
-returns c = (λ c fuel more space z e. simp (ne_eqb _ _ c.if1.false)) c -- FIXME
+returns c = λ fuel more space z e. simp (ne_eqb _ _ c.if-row-eq9.false)
