@@ -1,5 +1,5 @@
 -- What a search along a chain of rows finds. Assumes nothing.
-use Rattle.std.proofs.Common.{◌≡◌, ℕ, zero, suc, ◌+◌, ◌*◌, ◌<◌, ◌≤◌, Bool, true, false, cond, eqb, List, length, get_or, sym, refl, ap, ◌∙◌, ap₂, add-one, arith, eq-eqb, eqb-true}
+use Rattle.std.proofs.Common.{◌≡◌, ℕ, zero, suc, ◌+◌, ◌-◌, ◌*◌, ◌<◌, ◌≤◌, Bool, true, false, cond, eqb, List, length, get_or, subst, sym, refl, ap, ◌∙◌, ap₂, add-one, arith, eq-eqb, eqb-true}
 use Rattle.fields.specs.Number.{part}
 use Rattle.fields.specs.Text.{same}
 use Rattle.fields.specs.Search.{found_or, first_to}
@@ -84,6 +84,10 @@ module _ (width n bucket : ℕ) (heads links rows field : List ℕ) (s : RowSear
     pub few : at ≤ n
     pub left : last_to row_holds n ≡ last_to row_holds at
     pub own : (i : ℕ) → at ≡ suc i → s.bucket_of i ≡ bucket
+
+  -- the row at hand
+  pub at-hand : (at : ℕ) → 0 < at → LeftBelow at → LeftBelow (at - 1 + 1)
+  at-hand at l w = let e : at ≡ at - 1 + 1 = omega arith in subst LeftBelow e w
 
   -- at the head, and at the link of a row that does not hold the field
   pub left-at-head : LeftBelow (get_or heads bucket 0)

@@ -7,11 +7,11 @@ pub returns : goal.returns
 returns c =
     let a = c.args in (
       ap (λ (n : ℕ). n % row_buckets)
-          (c.wrapping_add_u64.ensures
-          ∙ ap (λ (n : ℕ). added n a.g) (c.wrapping_add_u64-six.ensures
-          ∙ ap (λ (n : ℕ). added n a.f) (c.wrapping_add_u64-five.ensures
-          ∙ ap (λ (n : ℕ). added n a.e) (c.wrapping_add_u64-four.ensures
-          ∙ ap (λ (n : ℕ). added n a.d) (c.wrapping_add_u64-three.ensures
-          ∙ ap (λ (n : ℕ). added n a.c) c.wrapping_add_u64-two.ensures))))),
+          (c.wrapping_add_u64.ensures.value
+          ∙ ap (λ (n : ℕ). added n a.g) (c.wrapping_add_u64-six.ensures.value
+          ∙ ap (λ (n : ℕ). added n a.f) (c.wrapping_add_u64-five.ensures.value
+          ∙ ap (λ (n : ℕ). added n a.e) (c.wrapping_add_u64-four.ensures.value
+          ∙ ap (λ (n : ℕ). added n a.d) (c.wrapping_add_u64-three.ensures.value
+          ∙ ap (λ (n : ℕ). added n a.c) c.wrapping_add_u64-two.ensures.value))))),
       omega arith,
     )
