@@ -1,8 +1,8 @@
 -- Whether one of the rows along a chain has a BIC. Assumes nothing.
-use mathlib.Core.Path.{◌≡◌, refl, sym, ◌∙◌, ap}
+use mathlib.Core.Path.{◌≡◌, refl, sym, ◌∙◌, ap, subst}
 use mathlib.Core.Bool.{Bool, true, false, ◌||◌, cond, or-false}
 use mathlib.Core.List.{List}
-use Prim.Native.Nat.{ℕ, zero, suc, ◌+◌, ◌≤◌, ◌<◌}
+use Prim.Native.Nat.{ℕ, zero, suc, ◌+◌, ◌-◌, ◌*◌, ◌≤◌, ◌<◌}
 use native.Mathlib.Numerals.{add-one}
 use native.Mathlib.Omega.{arith}
 use borrow.Author.Tests.{eqb-true, eq-eqb}
@@ -12,6 +12,7 @@ use Rattle.fields.specs.Number.{part}
 use Rattle.fields.specs.Text.{same}
 use Rattle.fields.specs.UpTo.{any_to}
 use Rattle.fields.specs.Chains.{last_to}
+use Rattle.fields.proofs.Indexing.{row_within}
 use Rattle.fields.proofs.Same.{same_true}
 use Rattle.fields.proofs.Tests.{never}
 use Rattle.fields.proofs.Chaining.{last-few, last-passes}
@@ -47,6 +48,10 @@ module _ (start width n at bucket : ℕ) (f heads links : List ℕ) (s : BicSear
     pub few : top ≤ n
     pub left : bic_among start width n (part 11 at f) f ≡ (found || bic_among start width top (part 11 at f) f)
     pub own : (i : ℕ) → top ≡ suc i → bucket_of i ≡ bucket
+
+  -- the row at hand
+  pub comparing-at-hand : {found : Bool} (top : ℕ) → 0 < top → Comparing found top → Comparing found (top - 1 + 1)
+  comparing-at-hand {found} top l w = let e : top ≡ top - 1 + 1 = omega arith in subst (Comparing found) e w
 
   -- at the head, and at the link of a row that was compared
   pub comparing-at-head : Comparing false (get_or heads bucket 0)
@@ -93,3 +98,7 @@ module _ (start width n at bucket : ℕ) (f heads links : List ℕ) (s : BicSear
 pub more-repeats : {a b : Bool} (start width i : ℕ) (f : List ℕ) → a ≡ bic_repeats start width i f
     → b ≡ bic_among start width i (bic_in start width f i) f → (a || b) ≡ bic_repeats start width (i + 1) f
 more-repeats start width i f p q = simp (p, q, add-one i)
+
+-- a row of a section ends within the file
+pub row_ends : (start width n i end : ℕ) → 11 ≤ width → start + width * n ≤ end → i < n → start + width * i + 11 ≤ end
+row_ends start width n i end wide rows below = omega (arith, row_within width i n below)
