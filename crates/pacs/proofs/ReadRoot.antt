@@ -28,8 +28,8 @@ use Rattle.xml.specs.Tree.{
   Document,
 }
 use Rattle.xml.specs.Writing.{written_attributes, written_tag, written_end, written_element, written_content, written_prolog, written}
-use Rattle.xml.specs.WellFormed.{right_element, declares, right_prolog, depth, deepest, longest, well_formed}
-use Rattle.xml.specs.Scanning.{first_byte, attributes_of, opens, closes}
+use Rattle.xml.specs.WellFormed.{right_element, right_prolog, depth, deepest, longest, well_formed}
+use Rattle.xml.specs.Scanning.{first_byte}
 use Rattle.xml.proofs.Runs.{run_of, past_of, less-no-space, question-no-first, question-no-space, first-of-name}
 use Rattle.xml.proofs.Attributes.{attributes_of-read}
 use Rattle.xml.proofs.Parts.{

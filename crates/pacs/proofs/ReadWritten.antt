@@ -11,17 +11,16 @@ use mathlib.Core.Bool.{Bool, true, false}
 use mathlib.Core.List.{List, [], ◌∷◌, ◌++◌, append_assoc, append-nil}
 use native.Mathlib.Omega.{arith}
 use borrow.Author.Tests.{lt-ltb, eqb-true}
-use lib.Dec.{eqb, ltb}
-use lib.ListN.{length, take, drop}
+use lib.Dec.{eqb}
+use lib.ListN.{length}
 use lib.Seq.{take-append_seam, drop-append_seam}
-use Rattle.fields.specs.Text.{same}
 use Rattle.fields.proofs.Tests.{never}
 use Rattle.fields.proofs.Same.{same_refl}
-use Rattle.xml.specs.Bytes.{is_space, is_first, is_text, all_of, run, past}
+use Rattle.xml.specs.Bytes.{is_space, is_first, is_text, all_of, run}
 use Rattle.xml.specs.Tree.{Tag, Element, self_closing, nesting, Content, last_text, text_then}
 use Rattle.xml.specs.Writing.{written_tag, written_end, written_element, written_content}
 use Rattle.xml.specs.WellFormed.{right_tag, right_element, right_content, depth, depth_in, deepest}
-use Rattle.xml.specs.Scanning.{first_byte, tag_of, opens, closes}
+use Rattle.xml.specs.Scanning.{first_byte, tag_of}
 use Rattle.xml.proofs.Runs.{run_of, past_of, less-no-text, greater-no-space, slash-no-first, first-of-name}
 use Rattle.xml.proofs.Tags.{tag-opens, tag-closes}
 use Rattle.xml.proofs.Parts.{

@@ -15,7 +15,7 @@ use borrow.Author.Tests.{ltb-true}
 use lib.Dec.{eqb, ltb}
 use lib.ListN.{length, take, drop, take-append-drop}
 use lib.Seq.{drop-drop}
-use Rattle.fields.specs.Text.{text, same}
+use Rattle.fields.specs.Text.{same}
 use Rattle.fields.proofs.Tests.{and_left, and_right}
 use Rattle.fields.proofs.Same.{same_true}
 use Rattle.xml.specs.Bytes.{is_space, is_text, all_of, run, past}

@@ -1,7 +1,7 @@
 use borrow.Author.Rules.{rules}
 use mathlib.Core.Path.{sym, ◌∙◌, ap}
 use mathlib.Core.Bool.{Bool, ◌&&◌, and-true, and_assoc}
-use Prim.Native.Nat.{◌+◌, ◌-◌}
+use Prim.Native.Nat.{◌+◌}
 use lib.ListN.{get_or, drop, drop_of_length-le}
 use Rattle.xml.specs.Bytes.{is_encoding_byte, all_of}
 use Rattle.prolog.proofs.Encodings.{first-letter, none-empty, all_from}

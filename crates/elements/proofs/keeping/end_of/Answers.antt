@@ -5,9 +5,8 @@ use Rattle.scan.proofs.Runs.{end-within}
 use Rattle.elements.proofs.keeping.end_of.Goals as goal
 
 pub returns-then-reads : goal.returns-then-reads
-returns-then-reads c =
-    (
-      simp (c.if-reads.true, c.text_end.ensures),
-      omega arith,
-      omega (arith, c.text_end.ensures, end-within is_text c.args.text.now c.args.at c.requires),
-    )
+returns-then-reads c = (
+  simp (c.if-reads.true, c.text_end.ensures),
+  omega arith,
+  omega (arith, c.text_end.ensures, end-within is_text c.args.text.now c.args.at c.requires),
+)
