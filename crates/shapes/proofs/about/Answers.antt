@@ -2,10 +2,12 @@
 use mathlib.Core.Path.{sym, ap}
 use Rattle.rules.specs.declared.terms.Subject.TheVariants.{HeldOrder}
 use Rattle.shapes.specs.declared.amounts.Amounts.{Amounts}
+use Rattle.shapes.specs.Amounts.{amounts_of}
 use Rattle.shapes.proofs.Forms.{about-formed, shape_is}
 use Rattle.shapes.proofs.about.Goals as goal
 
 pub returns : goal.returns
+unfolding amounts_of
 returns c =
     let t = c.args.t.now in
     simp (

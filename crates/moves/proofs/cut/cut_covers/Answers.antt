@@ -14,9 +14,3 @@ cut_cover-requires c =
 pub loop-p-preserved : goal.loop-p-preserved
 loop-p-preserved c =
     (search rules, length-set c.loop-p.after c.loop-p.p _ ∙ c.loop-p.invariant.1, simp (add-one, c.loop-p.invariant.2, c.cut_cover.ensures))
-
-pub returns : goal.returns
-returns c =
-    let a = c.args in
-    let end : c.loop-p.p ≡ a.t1.size = omega arith in
-    c.loop-p.invariant.2 ∙ ap (cut_to a.t1 a.t2) end

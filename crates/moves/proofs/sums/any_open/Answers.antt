@@ -1,4 +1,3 @@
--- `moves::sums::any_open` meets its contract. The loop's invariant: whether one of the first p covers is open. Assumes nothing.
 use mathlib.Core.Path.{◌≡◌, ◌∙◌, ap}
 use Prim.Native.Nat.{◌-◌}
 use native.Mathlib.Numerals.{add-one}
