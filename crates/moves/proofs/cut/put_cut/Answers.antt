@@ -15,8 +15,8 @@ use Rattle.moves.proofs.cut.put_cut.Goals as goal
 pub put_told-m-requires : goal.put_told-m-requires
 put_told-m-requires c =
     let a = c.args in
-    let told : length (listed c.cut_told.result) ≤ 1 = rw c.cut_told.ensures (own-at-most-one a.t3 a.t4 c.loop-p.p) in
-    let first = each-at-most-one a.t3 a.t4 c.loop-p.p in
+    let told : length (listed c.cut_told.result) ≤ 1 = rw c.cut_told.ensures (own-at-most-one a.roster a.covers c.loop-p.p) in
+    let first = each-at-most-one a.roster a.covers c.loop-p.p in
     omega arith
 
 pub loop-p-preserved : goal.loop-p-preserved
@@ -27,17 +27,17 @@ loop-p-preserved c =
       c.put_told-m.auto.buffer ∙ c.loop-p.invariant.1,
       c.put_told-m.ensures.1
           ∙ ap (λ (rs : List Report). c.loop-p.m + length rs) is
-          ∙ count-on a.t3 a.t4 c.loop-p.p a.n c.loop-p.m c.loop-p.invariant.2,
+          ∙ count-on a.roster a.covers c.loop-p.p a.n c.loop-p.m c.loop-p.invariant.2,
       c.put_told-m.ensures.0
           ∙ ap (λ (rs : List Report). sets c.loop-p.buffer (12 * c.loop-p.m) (reports_bytes rs)) is
-          ∙ reports-on a.t3 a.t4 c.loop-p.p a.n c.loop-p.m a.buffer.now c.loop-p.buffer
+          ∙ reports-on a.roster a.covers c.loop-p.p a.n c.loop-p.m a.buffer.now c.loop-p.buffer
           c.loop-p.invariant.2 c.loop-p.invariant.3,
     )
 
 pub returns : goal.returns
 returns c =
     let a = c.args in
-    let end : c.loop-p.p ≡ a.t3.size = omega arith in (
-      c.loop-p.invariant.3 ∙ ap (λ (k : ℕ). sets a.buffer.now (12 * a.n) (reports_bytes (cut_reports_to a.t3 a.t4 k))) end,
-      c.loop-p.invariant.2 ∙ ap (λ (k : ℕ). a.n + length (cut_reports_to a.t3 a.t4 k)) end,
+    let end : c.loop-p.p ≡ a.roster.size = omega arith in (
+      c.loop-p.invariant.3 ∙ ap (λ (k : ℕ). sets a.buffer.now (12 * a.n) (reports_bytes (cut_reports_to a.roster a.covers k))) end,
+      c.loop-p.invariant.2 ∙ ap (λ (k : ℕ). a.n + length (cut_reports_to a.roster a.covers k)) end,
     )

@@ -20,13 +20,13 @@ first-within covers size p h = sum-prefix (λ q. whole (cover_of covers q)) p si
 pub whole-total-requires : goal.whole-total-requires
 whole-total-requires c =
     let a = c.args in
-    omega (arith, one-within a.t1 a.size c.loop-p.p c.loop-p-test.true)
+    omega (arith, one-within a.covers a.size c.loop-p.p c.loop-p-test.true)
 
 pub overflow_add-total : goal.overflow_add-total
 overflow_add-total c =
     let a = c.args in
-    let one = one-within a.t1 a.size c.loop-p.p c.loop-p-test.true in
-    let first = first-within a.t1 a.size c.loop-p.p c.loop-p.invariant.0 in
+    let one = one-within a.covers a.size c.loop-p.p c.loop-p-test.true in
+    let first = first-within a.covers a.size c.loop-p.p c.loop-p.invariant.0 in
     omega arith
 
 pub loop-p-preserved : goal.loop-p-preserved

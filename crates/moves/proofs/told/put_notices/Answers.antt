@@ -38,19 +38,12 @@ module _ (c : After-report_by) where
       some a.told a.also a.i a.amount c.if-none.false-raw
 
 -- it is written
-module _ (c : After-put_report) where
-  abbrev from : tie.Else1
-  from = (FIXME Else-none)
-
-  first-text : c.put_report.new.0
-      ≡ sets from.before.before.before.args.buffer.now (12 * from.before.before.before.args.n)
-      (reports_bytes (report_by from.before.before.before.args.told from.before.before.before.args.i
-      from.before.before.before.args.amount ∷ []))
-  first-text =
-      let a = from.before.before.before.args in
-      c.put_report.ensures
-      ∙ ap (λ (r : Report). sets a.buffer.now (12 * a.n) (report_bytes r)) c.report_by.ensures
-      ∙ put_one a.buffer.now (12 * a.n) _
+first-text : (c : After-put_report) → c.put_report.new.buffer ≡ sets c.args.buffer.now (12 * c.args.n) (reports_bytes (report_by c.args.told c.args.i c.args.amount ∷ []))
+first-text c =
+    let a = c.args in
+    c.put_report.ensures
+    ∙ ap (λ (r : Report). sets a.buffer.now (12 * a.n) (report_bytes r)) c.report_by.ensures
+    ∙ put_one a.buffer.now (12 * a.n) _
 
 pub returns-then-none : goal.returns-then-none
 returns-then-none c =
@@ -78,7 +71,7 @@ returns c =
     let a = c.args in
     rw (told-two a.told a.also a.i a.amount c.if-none.false-raw c.if-alone.false-raw) (
       c.put_report-2.ensures
-          ∙ ap (λ (r : Report). sets c.put_report.new.0 (12 * (a.n + 1)) (report_bytes r)) c.report_by-2.ensures
+          ∙ ap (λ (r : Report). sets c.put_report.new.buffer (12 * (a.n + 1)) (report_bytes r)) c.report_by-2.ensures
           ∙ ap (λ (l : List ℕ). sets l (12 * (a.n + 1)) (report_bytes (report_by a.also a.i a.amount))) (first-text (goal.at.returns c).After-put_report)
           ∙ put_two a.buffer.now a.n (report_by a.told a.i a.amount) (report_by a.also a.i a.amount),
       search rules,

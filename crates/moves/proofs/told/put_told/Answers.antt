@@ -33,10 +33,9 @@ returns-in-One c =
 pub returns-in-Two : goal.returns-in-Two
 returns-in-Two c =
     let a = c.args in
-    let r = c.told-in-Two-1.given.0 in
     rw c.in-Two.is (
       c.put_report-in-Two-2.ensures
-          ∙ ap (λ (l : List ℕ). sets l (12 * (a.n + 1)) (report_bytes r.1.0)) c.put_report-in-Two.ensures
-          ∙ put_two a.buffer.now a.n r.0 r.1.0,
+          ∙ ap (λ (l : List ℕ). sets l (12 * (a.n + 1)) (report_bytes c.in-Two.s)) c.put_report-in-Two.ensures
+          ∙ put_two a.buffer.now a.n c.in-Two.r c.in-Two.s,
       search rules,
     )
