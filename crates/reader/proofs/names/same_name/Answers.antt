@@ -1,5 +1,6 @@
 use Prim.Native.Nat.{◌+◌, ◌-◌, ◌≤◌}
-use mathlib.Core.Path.{refl, sym, ◌∙◌}
+use mathlib.Core.Path.{refl, sym, ap, ◌∙◌}
+use mathlib.Core.Bool.{not}
 use native.Mathlib.Omega.{arith}
 use lib.ListN.{length}
 use Rattle.fields.proofs.Same.{same-lengths}
@@ -26,7 +27,7 @@ same_four-requires c =
 pub returns-then-not-same_four : goal.returns-then-not-same_four
 returns-then-not-same_four c =
     let a = c.args in
-    sym (c.loop-i.invariant.0 ∙ ends_so a.a.now a.b.now c.loop-i.i (c.loop-i.i + 4) c.same_four.result c.same_four.ensures c.if-not-same_four.true-raw)
+    sym (c.loop-i.invariant.0 ∙ ends_so a.a.now a.b.now c.loop-i.i (c.loop-i.i + 4) c.same_four.result c.same_four.ensures (ap not c.if-not-same_four.true))
 
 pub overflow_add-i : goal.overflow_add-i
 overflow_add-i c =
@@ -39,7 +40,7 @@ loop-i-smaller c =
 pub loop-i-preserved : goal.loop-i-preserved
 loop-i-preserved c =
     let a = c.args in (
-      c.loop-i.invariant.0 ∙ goes_on a.a.now a.b.now c.loop-i.i (c.loop-i.i + 4) c.same_four.result c.same_four.ensures c.if-not-same_four.false-raw,
+      c.loop-i.invariant.0 ∙ goes_on a.a.now a.b.now c.loop-i.i (c.loop-i.i + 4) c.same_four.result c.same_four.ensures (ap not c.if-not-same_four.false),
       omega (arith, c.loop-i-test.true, c.loop-i.invariant.1),
     )
 
