@@ -1,4 +1,4 @@
--- The way through a text that the reader takes: a tag at a time, with the elements that are open. `read-written` and `Written-Read` in
+-- The way through a text that the reader takes: a tag at a time, with the elements that are open. `read-written` and `written_read` in
 -- proofs/ say that what it finds is the one document that the text is, so nobody has to believe it.
 --     Piece       an element that was read, with the text before it
 --     Frame       an open element: the text before it, its tag and row, and what it holds so far, each element with the text before it
