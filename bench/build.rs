@@ -1,4 +1,4 @@
-//! Links the proved book's static library, which `rt staticlib foreign_steps` makes.
+//! Links the proved book's static library, which `tools/build foreign_steps_c` makes.
 
 fn main() {
     let folder = std::path::Path::new(&std::env::var("CARGO_MANIFEST_DIR").expect("cargo sets it")).join("../target/staticlib");

@@ -6,9 +6,9 @@
  * nobody writes before the call returns; where `length` is 0 the pointer may be null. Nothing is written, kept or
  * allocated, and calls from several threads don't disturb each other.
  *
- * For the checks and an IBAN's groups link with libcodes.a, which `rt staticlib codes` writes; for an order as text with libreader.a, which `rt staticlib
- * reader` writes; for a day as text with libforeign_day.a, for its tickets as bytes with libforeign_steps.a, which `rt staticlib
- * foreign_day` and `rt staticlib foreign_steps` write. Any of them may be linked together. */
+ * For the checks and an IBAN's groups link with libcodes.a, which `tools/build codes_c` writes; for an order as text with libreader.a, which
+ * `tools/build reader_c` writes; for a day as text with libforeign_day.a, for its tickets as bytes with libforeign_steps.a, which
+ * `tools/build foreign_day_c` and `tools/build foreign_steps_c` write. They lie in target/staticlib/. Any of them may be linked together. */
 #ifndef ZOLFIGAR_H
 #define ZOLFIGAR_H
 

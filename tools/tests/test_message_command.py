@@ -12,7 +12,7 @@ from zolfigar import files, messages
 
 PLAIN = "order SALARY-41 from AAAALV22 to BBBBLV22 EUR 400.00 iban LV80BANK0000435195001"
 FREE = "order RENT-7/11'A' from BBBBLV22 to CCCCLT2X EUR 25.50 iban LT121000011101001000"
-NOT_BUILT = "the program messages, which reads messages, is not built: `rt check messages` proves and builds it"
+NOT_BUILT = "the program messages, which reads messages, is not built: `tools/build messages` proves and builds it"
 
 
 class Commands(unittest.TestCase):

@@ -14,12 +14,14 @@ from unittest import mock
 from tests import reader, scenes
 from zolfigar import files, run_command
 
+# It is called in the folder of the program's crate.
 RT = f"""#!/bin/sh
-test ! -e broken || {{ echo "fn f: not proved"; exit 1; }}
-mkdir -p target/bin
-case "$*" in
-"check clearing") cp program target/bin/clearing ;;
-"check messages") ln -sf {reader.READER.path} target/bin/messages ;;
+test ! -e ../../broken || {{ echo "fn f: not proved" >&2; exit 1; }}
+test "$*" = run || exit 2
+mkdir -p out
+case "$(pwd)" in
+*/crates/clearing) cp ../../program out/clearing ;;
+*/crates/messages) printf '#!/bin/sh\\nexec {reader.READER.path} "$@"\\n' >out/messages && chmod +x out/messages ;;
 *) exit 2 ;;
 esac
 """
@@ -39,10 +41,14 @@ class Run(unittest.TestCase):
         folder = tempfile.TemporaryDirectory()
         self.addCleanup(folder.cleanup)
         self.root = folder.name
-        for name, text in (("bin/rt", RT), ("program", PROGRAM)):
+        build = scenes.content("tools", "build").decode()
+        for name, text in (("bin/rt", RT), ("program", PROGRAM), ("tools/build", build)):
             os.makedirs(os.path.dirname(self.path(name)), exist_ok=True)
             files.write(self.path(name), text.encode())
             os.chmod(self.path(name), 0o755)
+        for name in ("clearing", "messages"):
+            os.makedirs(self.path(f"crates/{name}/src"))
+            files.write(self.path(f"crates/{name}/src/main.rt"), b"")
         os.makedirs(self.path("outputs"))
         for name in scenes.RUNNING + scenes.REFUSED:
             files.write(self.path(f"outputs/{name}.bin"), scenes.day_file(name))
@@ -94,19 +100,19 @@ class Run(unittest.TestCase):
         self.assertIn(f"{self.path('mine.day')}:1:11: {self.path('mine.xml')}:1:1: refused by 23 at byte 0: ", err)
 
     def test_building_shows_how_far_it_is(self):
-        """On a terminal, the last line that rt said of a crate."""
+        """On a terminal, the last line that rt said of how far it is."""
         shown = io.StringIO()
         with mock.patch.object(shown, "isatty", return_value=True), contextlib.redirect_stderr(shown):
-            said = run_command.followed(["fn f: proved\n", "rt: fields proved (10 s)\n"])
-        self.assertEqual(said, "fn f: proved\nrt: fields proved (10 s)\n")
-        self.assertEqual(shown.getvalue(), "\rrt: fields proved (10 s)\x1b[K\r\x1b[K")
+            said = run_command.followed(["rt: chose --jobs 2 for fields\n", "fn f: proved\n"])
+        self.assertEqual(said, "rt: chose --jobs 2 for fields\nfn f: proved\n")
+        self.assertEqual(shown.getvalue(), "\rrt: chose --jobs 2 for fields\x1b[K\r\x1b[K")
 
     def test_a_build_that_fails(self):
         files.write(self.path("broken"), b"")
         status, _, err = self.run_day(self.example("case-d"))
         self.assertEqual(status, 1)
-        self.assertIn("run: rt check clearing failed:\nfn f: not proved\n", err)
-        self.assertIn("run: rt check messages failed:\nfn f: not proved\n", self.run_day(self.example("messages"))[2])
+        self.assertIn("run: tools/build clearing failed:\nfn f: not proved\nbuild: FAILED: clearing\n", err)
+        self.assertIn("run: tools/build messages failed:\nfn f: not proved\n", self.run_day(self.example("messages"))[2])
 
     def test_an_output_that_is_not_the_expected_one(self):
         files.write(self.path("mine.day"), scenes.content("examples", "case-d.day"))
@@ -246,7 +252,8 @@ class Run(unittest.TestCase):
         self.assertIn(b"\n2026-11-15 * (0) AAAALV22 | cover in", files.read(self.path("target/run/case-d.journal")))
 
     def test_streams_that_are_closed(self):
-        shutil.copytree(os.path.join(scenes.ROOT, "tools"), self.path("tools"), ignore=shutil.ignore_patterns("tests"))
+        leave = shutil.ignore_patterns("tests")
+        shutil.copytree(os.path.join(scenes.ROOT, "tools"), self.path("tools"), ignore=leave, dirs_exist_ok=True)
         shutil.copy(os.path.join(scenes.ROOT, "VERSION"), self.path("VERSION"))
         environment = os.environ | {"PATH": self.path("bin") + os.pathsep + os.environ["PATH"]}
         building = "run: the clearing program is not built yet: proving and building it, which takes some minutes\n"
@@ -258,7 +265,7 @@ class Run(unittest.TestCase):
             self.assertEqual((ran.returncode, ran.stderr), due, streams)
 
     def test_without_the_kit(self):
-        with mock.patch.object(subprocess, "Popen", side_effect=FileNotFoundError(2, "No such file or directory")):
+        with mock.patch.object(shutil, "which", return_value=None):
             status, _, err = self.run_day(self.example("case-d"))
         said = "run: can't run rt, the Rattle kit's command: No such file or directory"
         self.assertEqual((status, err.splitlines()[-1]), (1, said))

@@ -13,7 +13,7 @@ USES = """examples:
 
 An order is printed as a day's text has it, and can be put there; docs/DAYS.md says how a day's text names the file instead. Lines,
 columns and bytes of a message that is refused are those of its file; bytes are counted from 0. The reader is the program messages:
-`rt check messages` proves and builds it. The exit status is 0 if all are orders, 1 if not, 2 for wrong usage."""
+`tools/build messages` proves and builds it. The exit status is 0 if all are orders, 1 if not, 2 for wrong usage."""
 
 
 class Words(argparse.Namespace):

@@ -120,7 +120,7 @@ class Reader(NamedTuple):
 def looked_for() -> None:
     if not os.path.exists(PROGRAM):
         raise files.Failed(
-            "the program messages, which reads messages, is not built: `rt check messages` proves and builds it"
+            "the program messages, which reads messages, is not built: `tools/build messages` proves and builds it"
         )
 
 

@@ -4,6 +4,7 @@ import argparse
 import datetime
 import os
 import shlex
+import shutil
 import subprocess
 import sys
 from collections.abc import Iterable, Iterator, Sequence
@@ -65,19 +66,17 @@ def arguments(words: Sequence[str]) -> Words:
 
 
 def program(root: str, name: str, what: str) -> str:
-    """A program, proved and built: rt does what is not done yet."""
+    """A program, proved and built: tools/build does what is not done yet."""
     built = os.path.join(root, "target", "bin", name)
     if not os.path.exists(built):
         sys.stderr.write(f"run: {what} is not built yet: proving and building it, which takes some minutes\n")
-    command = ["rt", "check", name]
-    try:
-        rt = subprocess.Popen(command, cwd=root, stdout=subprocess.PIPE, stderr=subprocess.STDOUT, text=True)
-    except OSError as error:
-        raise files.Failed(f"can't run rt, the Rattle kit's command: {files.reason(error)}") from error
-    with rt:
-        said = followed(rt.stdout or ())
-    if rt.returncode:
-        raise files.Failed(f"rt check {name} failed:\n{said[-4000:]}")
+    if shutil.which("rt") is None:
+        raise files.Failed("can't run rt, the Rattle kit's command: No such file or directory")
+    command = [os.path.join(root, "tools", "build"), "--told", name]
+    with subprocess.Popen(command, stdout=subprocess.PIPE, stderr=subprocess.STDOUT, text=True) as build:
+        said = followed(build.stdout or ())
+    if build.returncode:
+        raise files.Failed(f"tools/build {name} failed:\n{said[-4000:]}")
     return built
 
 
@@ -88,11 +87,11 @@ def reader(root: str) -> messages.Reader:
 
 
 def followed(stream: Iterable[str]) -> str:
-    """All that rt says; on a terminal its last line on a crate is shown meanwhile."""
+    """All that rt says; on a terminal its last line on how far it is is shown meanwhile."""
     said = []
     for line in stream:
         said.append(line)
-        if line.startswith("rt: "):
+        if line.startswith(("rt: ", "checked ")):
             progress.show(line.strip())
     progress.show("")
     return "".join(said)
