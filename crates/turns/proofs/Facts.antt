@@ -152,11 +152,11 @@ module _ {b : Book} {t : List ℕ} {e : Entry} {n₀ : ℕ} {text₀ : List ℕ}
             unconfirmed = unconfirmed;
             total = all;
           }) (facts_of (sought c e t))
-      facts-are {bank} {unconfirmed} {all} is-bank is_open sum =
+      facts-are {bank} {unconfirmed} {all} is-bank opens sum =
           ap facts_of
           (made c e t (txid_field t) sender order p i bank route way unconfirmed all refl sender-is order_is f.from f.at
           (is-bank ∙ ap (λ (x : Roster). is_bank x (order_of c.orders i).payee) ours) route-is way-is
-          (is_open
+          (opens
           ∙ ap (λ (z : Bool). cond (seeks_open (terms_of e.kind).flow) z false)
           (ap (λ (x : Roster). any_to (λ q. is_open (cover_of c.covers q)) x.size) ours ∙ open-sum c))
           (all-is sum))

@@ -25,10 +25,6 @@ pub returns-in-Recall : goal.returns-in-Recall
 returns-in-Recall c =
     rw c.in-Recall.is c.recall.ensures
 
-pub returns-in-Return : goal.returns-in-Return
-returns-in-Return c =
-    rw c.in-Return.is FIXME.c.Return-of.ensures
-
 pub returns-in-Decline : goal.returns-in-Decline
 returns-in-Decline c =
     rw c.in-Decline.is c.decline.ensures
