@@ -18,6 +18,7 @@ ghost use Rattle.codes.specs.Txid.{is_txid};
 use classes::Class;
 use remainder::Divided;
 
+#[tactic(auto, unfolding(crate::specs::Bic::is_bic))]
 #[unsafe(no_mangle)]
 pub extern "C" fn zolfigar_bic_ok(s: &[u8]) -> u8
     ensures { result ≡ answer (is_bic s.now) }
@@ -95,6 +96,7 @@ pub extern "C" fn zolfigar_iban_groups(s: &[u8]) -> u8
     taken.groups as u8
 }
 
+#[tactic(auto, unfolding(crate::specs::Txid::is_txid))]
 #[unsafe(no_mangle)]
 pub extern "C" fn zolfigar_txid_ok(s: &[u8]) -> u8
     ensures { result ≡ answer (is_txid s.now) }

@@ -3,7 +3,6 @@ use mathlib.Core.Path.{◌≡◌, sym, ◌∙◌}
 use mathlib.Core.Bool.{true}
 use mathlib.Core.List.{List}
 use Prim.Native.Nat.{ℕ}
-use borrow.Author.Tests.{not-true, not-false}
 use Rattle.fields.specs.Text.{unpadded}
 use Rattle.iban.specs.Iban.{iban_shape}
 use Rattle.iban.proofs.ShapeParts.{shape-whole}
@@ -16,14 +15,14 @@ module _ (c : Else-not-shaped) where
   s = c.args.s.now
 
   shape : iban_shape s ≡ true
-  shape = sym c.shaped.ensures ∙ not-false _ c.if-not-shaped.false-raw
+  shape = sym c.shaped.ensures ∙ c.if-not-shaped.false
 
   whole : unpadded s ≡ s
   whole = shape-whole s shape
 
 pub returns-then-not-shaped : goal.returns-then-not-shaped
 returns-then-not-shaped c =
-    let none = sym c.shaped.ensures ∙ not-true _ c.if-not-shaped.true-raw in (rw none, rw none)
+    let none = sym c.shaped.ensures ∙ c.if-not-shaped.true in (rw none, rw none)
 
 pub divided-requires : goal.divided-requires
 divided-requires c =

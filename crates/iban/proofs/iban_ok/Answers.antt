@@ -4,7 +4,6 @@ use mathlib.Core.Bool.{Bool, true, false, ◌&&◌}
 use mathlib.Core.List.{List}
 use Prim.Native.Nat.{ℕ}
 use native.Mathlib.Omega.{arith}
-use borrow.Author.Tests.{not-true, not-false}
 use lib.Dec.{eqb}
 use lib.ListN.{length}
 use Rattle.fields.specs.Text.{unpadded}
@@ -30,22 +29,22 @@ module _ (s : List ℕ) (h : length s ≡ 34) where
       ap (λ (b : Bool). b && eqb (over_groups (digits (rearranged v))) 1) (shape-padded s (omega arith) (omega arith)) ∙ sym (iban-by-groups v)
 
 fronted : (c : Else-not-iban_front) → iban_front c.args.s.now ≡ true
-fronted c = sym c.iban_front.ensures ∙ not-false _ c.if-not-iban_front.false-raw
+fronted c = sym c.iban_front.ensures ∙ c.if-not-iban_front.false
 
 spelt : (c : Else-not-all_padded) → all_in CapitalOrDigit (unpadded c.args.s.now) ≡ true
-spelt c = sym c.all_padded.ensures ∙ not-false _ c.if-not-all_padded.false-raw
+spelt c = sym c.all_padded.ensures ∙ c.if-not-all_padded.false
 
 pub returns-then-not-iban_front : goal.returns-then-not-iban_front
 returns-then-not-iban_front c =
     let s = c.args.s.now in
-    let front : iban_front s ≡ false = sym c.iban_front.ensures ∙ not-true _ c.if-not-iban_front.true-raw in
+    let front : iban_front s ≡ false = sym c.iban_front.ensures ∙ c.if-not-iban_front.true in
     sym (ap (λ (b : Bool). tests b (all_in CapitalOrDigit (unpadded s)) (over_groups (digits (rearranged (unpadded s))))) front)
     ∙ tested s c.requires
 
 pub returns-then-not-all_padded : goal.returns-then-not-all_padded
 returns-then-not-all_padded c =
     let s = c.args.s.now in
-    let other = sym c.all_padded.ensures ∙ not-true _ c.if-not-all_padded.true-raw in
+    let other = sym c.all_padded.ensures ∙ c.if-not-all_padded.true in
     sym (ap₂ (λ (a b : Bool). tests a b (over_groups (digits (rearranged (unpadded s))))) (fronted (goal.at.returns-then-not-all_padded c).Else-not-iban_front) other)
     ∙ tested s c.requires
 

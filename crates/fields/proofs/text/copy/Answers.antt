@@ -1,6 +1,6 @@
 use mathlib.Core.Path.{◌∙◌, ap, ap₂}
 use mathlib.Core.List.{List, ◌++◌, append-nil}
-use Prim.Native.Nat.{ℕ, ◌-◌}
+use Prim.Native.Nat.{ℕ}
 use lib.ListN.{get_or, set, length-set, drop_of_length-le}
 use lib.Seq.{take_all}
 use Rattle.fields.proofs.Stores.{filled_more}

@@ -1,6 +1,6 @@
 use mathlib.Core.Path.{sym, ◌∙◌, ap, ap₂}
 use mathlib.Core.Bool.{◌&&◌, and-true, and_assoc}
-use Prim.Native.Nat.{◌+◌, ◌-◌}
+use Prim.Native.Nat.{◌+◌}
 use lib.Dec.{eqb}
 use lib.ListN.{get_or, drop, drop_of_length-le}
 use Rattle.fields.specs.Text.{same}

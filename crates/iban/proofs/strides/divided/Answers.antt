@@ -1,7 +1,7 @@
 use mathlib.Core.Path.{◌≡◌, sym, subst, ◌∙◌, ap}
 use mathlib.Core.Bool.{true}
 use mathlib.Core.List.{List}
-use Prim.Native.Nat.{ℕ, ◌+◌, ◌-◌, ◌<◌}
+use Prim.Native.Nat.{ℕ, ◌+◌, ◌<◌}
 use native.Mathlib.Omega.{arith}
 use borrow.Author.Tests.{ne_eqb}
 use lib.ListN.{length, get_or, take}
@@ -82,13 +82,12 @@ front-requires c =
     )
 
 pub put-requires : goal.put-requires
-put-requires c =
-    (
-      walk-fits c.args.s.now (shape-most (unpadded c.args.s.now) c.requires) c.loop-next.invariant,
-      c.powers-powers.ensures,
-      omega arith,
-      c.front.ensures.1,
-    )
+put-requires c = (
+  walk-fits c.args.s.now (shape-most (unpadded c.args.s.now) c.requires) c.loop-next.invariant,
+  c.powers-powers.ensures,
+  omega arith,
+  c.front.ensures.1,
+)
 
 pub ended-requires : goal.ended-requires
 ended-requires c =

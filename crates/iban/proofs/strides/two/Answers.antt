@@ -19,9 +19,8 @@ overflow_add-result c =
     omega (arith, product _ _ c.worth.ensures.1 c.scale.ensures.1)
 
 pub returns : goal.returns
-returns c =
-    (
-      two-write _ c.args.a c.args.b refl (ap₂ ◌+◌ c.digits_of.ensures.0 c.digits_of-2.ensures.0)
-          (ap₂ ◌+◌ (ap₂ ◌*◌ c.worth.ensures.0 c.scale.ensures.0) c.worth-2.ensures.0),
-      omega arith,
-    )
+returns c = (
+  two-write _ c.args.a c.args.b refl (ap₂ ◌+◌ c.digits_of.ensures.0 c.digits_of-2.ensures.0)
+      (ap₂ ◌+◌ (ap₂ ◌*◌ c.worth.ensures.0 c.scale.ensures.0) c.worth-2.ensures.0),
+  omega arith,
+)

@@ -11,9 +11,8 @@ overflow_sub-result c =
     omega (arith, digit-bounds c.args.a c.requires.0, digit-bounds c.args.b c.requires.1)
 
 pub returns : goal.returns
-returns c =
-    (
-      digits-write _ (c.args.a ∷ c.args.b ∷ []) (simp (c.requires.0, c.requires.1)) refl refl
-          (omega arith),
-      omega arith,
-    )
+returns c = (
+  digits-write _ (c.args.a ∷ c.args.b ∷ []) (simp (c.requires.0, c.requires.1)) refl refl
+      (omega arith),
+  omega arith,
+)

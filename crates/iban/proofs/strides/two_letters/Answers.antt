@@ -10,8 +10,7 @@ overflow_sub-result c =
     omega (arith, capital-bounds c.args.a c.requires.0, capital-bounds c.args.b c.requires.1)
 
 pub returns : goal.returns
-returns c =
-    (
-      letters-write _ c.args.a c.args.b c.requires.0 c.requires.1 refl refl (omega arith),
-      omega arith,
-    )
+returns c = (
+  letters-write _ c.args.a c.args.b c.requires.0 c.requires.1 refl refl (omega arith),
+  omega arith,
+)

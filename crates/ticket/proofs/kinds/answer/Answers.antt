@@ -1,4 +1,5 @@
 -- `ticket::kinds::answer` meets its contract. Assumes nothing.
+use native.Mathlib.Omega.{arith}
 use Rattle.ticket.proofs.KindBytes.{no_other}
 use Rattle.ticket.proofs.kinds.answer.Goals as goal
 
@@ -12,4 +13,4 @@ returns-in-2 c =
 
 pub returns-in_default : goal.returns-in_default
 returns-in_default c =
-    simp (no_other 1 _ c.in_default.in_default-own.rest.0.1, no_other 2 _ c.in_default.in_default-own.rest.1)
+    simp (no_other 1 c.args.flag (λ e. omega (arith, e)), no_other 2 c.args.flag (λ e. omega (arith, e)))

@@ -1,4 +1,5 @@
 -- `ticket::kinds::kind_of` meets its contract: in each arm the kind is the one named. Assumes nothing.
+use native.Mathlib.Omega.{arith}
 use borrow.Author.Tests.{ne_eqb}
 use Rattle.ticket.proofs.kinds.kind_of.Goals as goal
 
@@ -49,15 +50,15 @@ returns-in-11 c =
 pub returns-in_default : goal.returns-in_default
 returns-in_default c =
     simp (
-      ne_eqb _ _ c.in_default.in_default-own.rest.0.0.0.0.0.0.0.0.0.0.1,
-      ne_eqb _ _ c.in_default.in_default-own.rest.0.0.0.0.0.0.0.0.0.1,
-      ne_eqb _ _ c.in_default.in_default-own.rest.0.0.0.0.0.0.0.0.1,
-      ne_eqb _ _ c.in_default.in_default-own.rest.0.0.0.0.0.0.0.1,
-      ne_eqb _ _ c.in_default.in_default-own.rest.0.0.0.0.0.0.1,
-      ne_eqb _ _ c.in_default.in_default-own.rest.0.0.0.0.0.1,
-      ne_eqb _ _ c.in_default.in_default-own.rest.0.0.0.0.1,
-      ne_eqb _ _ c.in_default.in_default-own.rest.0.0.0.1,
-      ne_eqb _ _ c.in_default.in_default-own.rest.0.0.1,
-      ne_eqb _ _ c.in_default.in_default-own.rest.0.1,
-      ne_eqb _ _ c.in_default.in_default-own.rest.1,
+      ne_eqb c.args.kind 1 (λ e. omega (arith, e)),
+      ne_eqb c.args.kind 2 (λ e. omega (arith, e)),
+      ne_eqb c.args.kind 3 (λ e. omega (arith, e)),
+      ne_eqb c.args.kind 4 (λ e. omega (arith, e)),
+      ne_eqb c.args.kind 5 (λ e. omega (arith, e)),
+      ne_eqb c.args.kind 6 (λ e. omega (arith, e)),
+      ne_eqb c.args.kind 7 (λ e. omega (arith, e)),
+      ne_eqb c.args.kind 8 (λ e. omega (arith, e)),
+      ne_eqb c.args.kind 9 (λ e. omega (arith, e)),
+      ne_eqb c.args.kind 10 (λ e. omega (arith, e)),
+      ne_eqb c.args.kind 11 (λ e. omega (arith, e)),
     )
