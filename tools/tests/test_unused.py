@@ -10,7 +10,7 @@ FILES = {
     "README.md": "`quoted` is what it proves. `open(file)` is for callers.\n",
     "docs/ARCHITECTURE.md": "`Cases.antt` has cases.\n",
     "crates/low/specs/Terms.antt": """-- Terms. `never` stands in a comment: never.
-use Prim.Native.Nat.{ℕ, _+_, _<_}
+use Prim.Native.Nat.{ℕ, ◌+◌, ◌<◌}
 use lib.ListN.{
   length,
   take as first
@@ -37,7 +37,7 @@ module _ (n : ℕ)
       local : ℕ
       local = n
 """,
-    "crates/low/proofs/Cases.antt": """use Rattle·low·specs.specs.Terms.{twice}
+    "crates/low/proofs/Cases.antt": """use Rattle.low.specs.Terms.{twice}
 
 pub one : twice 1 ≡ 2
 one = helped
@@ -49,19 +49,20 @@ other : twice 1 ≡ 2
 other = refl
 """,
     "crates/low/src/lib.rt": """pub mod parts;
-use parts::Shape;
-use parts::Size;
+use parts::{
+    Shape, Size,
+};
 pub use parts::size_of;
 pub use parts::handed_on;
-ghost use Rattle·low·specs.specs.Terms.{twice, inner};
+ghost use Rattle.low.specs.Terms.{twice, inner};
 
 pub fn open(file: &[u8]) -> usize
-    ensures { λ r. ⌜ r ≡ twice r ⌝ }
+    ensures { result ≡ twice result }
 {
     parts::reader(file)
 }
 
-#[no_mangle]
+#[unsafe(no_mangle)]
 pub extern "C" fn low_ok(s: &[u8]) -> u8 {
     size_of(Shape::Round)
 }
@@ -105,16 +106,28 @@ fn by_the_edit() -> usize {
 const LIMIT: u8 = 1;
 """,
     "crates/low/must-fail/other.edit": "# Another.\nfile: src/parts.rt\nold: edited()\nnew: by_the_edit()\n",
-    "crates/high/specs/Ways.antt": """use Rattle·low.specs.Terms as terms
-use Rattle·low.specs.declared.parts.Size.{Size}
+    "crates/high/specs/Ways.antt": """use Rattle.low.specs.Terms as terms
+use Rattle.low.specs.declared.parts.Size.{Size}
 
 abbrev pub way : Size
 way = terms.twice 1
 """,
-    "crates/high/proofs/f/Proof.antt": """use Rattle·high·specs.specs.Ways.{way}
+    "crates/high/proofs/g/Answers.antt": """use Rattle.high.specs.Ways.{way}
+use Rattle.high.proofs.g.Goals as goal
 
-pub f-spec : way
-f-spec = refl
+pub returns : goal.returns
+returns c = helper
+
+helper : way
+helper = refl
+
+spare : way
+spare = refl
+""",
+    "crates/high/proofs/f/Proof.antt": """use Rattle.high.specs.Ways.{way}
+
+pub f_spec : way
+f_spec = refl
 """,
 }
 
@@ -130,17 +143,18 @@ class Unused(unittest.TestCase):
         never, vain, own = "never used", "imported and not used", "pub for its own file alone"
         on = "pub use, and not used elsewhere"
         due = [
+            ("crates/high/proofs/g/Answers.antt", 10, "spare", never),
             ("crates/low/proofs/Cases.antt", 9, "other", never),
-            ("crates/low/specs/Terms.antt", 2, "_<_", vain),
+            ("crates/low/specs/Terms.antt", 2, "◌<◌", vain),
             ("crates/low/specs/Terms.antt", 3, "length", vain),
             ("crates/low/specs/Terms.antt", 7, "dec", vain),
             ("crates/low/specs/Terms.antt", 12, "inner", own),
             ("crates/low/specs/Terms.antt", 15, "never", never),
             ("crates/low/specs/Terms.antt", 18, "Pair", own),
-            ("crates/low/src/lib.rt", 3, "Size", vain),
-            ("crates/low/src/lib.rt", 4, "size_of", on),
-            ("crates/low/src/lib.rt", 5, "handed_on", on),
-            ("crates/low/src/lib.rt", 6, "inner", vain),
+            ("crates/low/src/lib.rt", 2, "Size", vain),
+            ("crates/low/src/lib.rt", 5, "size_of", on),
+            ("crates/low/src/lib.rt", 6, "handed_on", on),
+            ("crates/low/src/lib.rt", 7, "inner", vain),
             ("crates/low/src/parts.rt", 13, "inside", own),
             ("crates/low/src/parts.rt", 21, "handed_on", never),
             ("crates/low/src/parts.rt", 25, "left_over", never),

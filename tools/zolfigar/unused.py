@@ -1,7 +1,7 @@
 """Names of the crates that are defined and never used, imports that nothing needs, and `pub` that no other file needs.
 
 A name is used where something that is needed speaks of it. Needed from the start are: what the toolchain asks for (programs,
-exported functions, the `..-spec` of a Proof.antt), what a document names between backticks, the names that a must-fail edit
+exported functions, what is `pub` in Answers.antt and Invariants.antt, the `.._spec` of a Proof.antt), what a document names between backticks, the names that a must-fail edit
 writes, and of a proof file that README.md or docs/ARCHITECTURE.md names (`Cases.antt`) all that is `pub`. Fields and
 constructors are not looked at."""
 
@@ -19,10 +19,10 @@ STRING = re.compile(r'"(?:[^"\\\n]|\\.)*"')
 COMMENT = re.compile(r"(?m)(?<!\S)(?:--|//)(?: .*)?$")
 USE = re.compile(r"(?m)^(?:pub |ghost )?use [^\n{]*(?:\{[^}]*\})?.*$")
 PROOF_USE = re.compile(r"(?m)^(?:ghost )?use (\S+?)(?:\.\{([^}]*)\}| as (\S+?));?$")
-CODE_USE = re.compile(r"(?m)^(pub )?use ([\w:]+?)(?: as (\w+))?;$")
+CODE_USE = re.compile(r"(?m)^(pub )?use ([\w:]+?)(?:::\{([^{}]*)\})?( as \w+)?;$")
 DEFINED = re.compile(r"(?m)^( *)((?:abbrev |unfoldable |pub )*)(?:(?:record|data) (\S+) |([^\s(){},;.]+) (?=:))")
 LINE = re.compile(r"(?m)^( *)(\S+)")
-CODE_ITEM = re.compile(r'(?m)^(#\[no_mangle\]\n)?(pub )?(?:extern "" )?(?:fn|struct|enum|const) (\w+)')
+CODE_ITEM = re.compile(r'(?m)^(#\[unsafe\(no_mangle\)\]\n)?(pub )?(?:extern "" )?(?:fn|struct|enum|const) (\w+)')
 SIGNATURE = re.compile(r"(?ms)\A(?:[(<].*?(?=^\s*(?:ensures|requires|decreases)\b|\{$)|[^(<].*?(?=^\}|;$))")
 WORD = re.compile(r"\[\]|[^\s(){}\[\],;.:«»]+")
 CODE_WORD = re.compile(r"\w+")
@@ -76,13 +76,12 @@ def said(text: str) -> set[str]:
 
 def is_said(name: str, words: set[str]) -> bool:
     """Whether a name is among the words: of an operator the parts between its places."""
-    parts = name.split("_") if "_" in (name[0], name[-1]) else [name]
-    return name in words or all(part in words for part in parts if part)
+    return name in words or all(part in words for part in name.split("◌") if part)
 
 
 def module_of(path: str) -> str:
-    """A module's name, the same for its own crate as for others."""
-    return re.sub(r"^Rattle·(\w+)(?:·(?:specs|proofs))?\.", r"\1.", path)
+    """A module's name, from its crate's on."""
+    return path.removeprefix("Rattle.")
 
 
 class Source:
@@ -118,9 +117,12 @@ class Source:
     def proof_items(self) -> Iterator[Item]:
         free = set(self.free_lines())
         for start, body in self.bodies([start for start in DEFINED.finditer(self.text) if start.start() in free]):
-            name = start[3] or start[4]
-            is_asked, line = self.path.name == "Proof.antt" and name.endswith("-spec"), self.line(start.start())
-            yield Item(self.path, line, Name(self.module, name), "pub" in start[2].split(), is_asked, body)
+            name, is_pub = start[3] or start[4], "pub" in start[2].split()
+            is_answer = is_pub and self.path.name in ("Answers.antt", "Invariants.antt")
+            is_asked, line = is_answer or (self.path.name == "Proof.antt" and name.endswith("_spec")), self.line(
+                start.start()
+            )
+            yield Item(self.path, line, Name(self.module, name), is_pub, is_asked, body)
 
     def free_lines(self) -> Iterator[int]:
         """Where the lines begin that stand at the left side, or there in a `module`; others are part of a definition."""
@@ -146,13 +148,16 @@ class Source:
 
     def code_imports(self) -> Iterator[Import]:
         for use in CODE_USE.finditer(self.text):
-            name = use[3] or use[2].rpartition("::")[2]
-            self.aliases[name] = use[2]
-            found = Import(self.line(use.start()), name)
-            if use[1]:
-                self.handed_on.append(found)
-            else:
-                yield found
+            parts = (part.strip() for part in use[3].split(",")) if use[3] else [""]
+            for part in ["::".join(filter(None, (use[2], part))) for part in parts if part or not use[3]]:
+                path, _, own = f"{part}{use[4] or ''}".removesuffix("::self").partition(" as ")
+                name = own or path.rpartition("::")[2]
+                self.aliases[name] = path
+                found = Import(self.line(use.start()), name)
+                if use[1]:
+                    self.handed_on.append(found)
+                else:
+                    yield found
 
     def needless_imports(self) -> Iterator[Found]:
         words = said(USE.sub("", self.text) + self.edits)
