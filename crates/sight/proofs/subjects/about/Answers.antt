@@ -5,15 +5,12 @@ use Rattle.sight.proofs.Seeing.{sight-malformed, sight-formed}
 use Rattle.sight.proofs.subjects.about.Goals as goal
 
 pub returns-in_default : goal.returns-in_default
-returns-in_default c = (λ c clock route.
-    let shape = c.before.before in
-    let a = shape.before.before.args in
-    sym (sight-malformed clock a.t.now a.sender a.order route (sym shape.about.ensures ∙ c.enum-told2.given.1))) c -- FIXME
+returns-in_default c clock route =
+    let a = c.args in
+    sym (sight-malformed clock a.t.now a.sender a.order route (sym c.about.ensures ∙ c.in_default.is))
 
 pub returns : goal.returns
-returns c = (λ c clock route.
-    let shape = c.before.before in
-    let s = shape.before.before in
-    let a = s.args in
-    sym (sight-formed clock a.t.now a.sender a.order route HeldOrder a.kind s.requires.0 refl _
-    (sym shape.about.ensures ∙ c.enum_told.given.1))) c -- FIXME
+returns c clock route =
+    let a = c.args in
+    sym (sight-formed clock a.t.now a.sender a.order route HeldOrder a.kind c.requires.0 refl _
+    (sym c.about.ensures ∙ c.in-Formed.is))

@@ -5,15 +5,12 @@ use Rattle.sight.proofs.Seeing.{sight-malformed, sight-formed}
 use Rattle.sight.proofs.subjects.cover.Goals as goal
 
 pub returns-in_default : goal.returns-in_default
-returns-in_default c = (λ c clock order route.
-    let shape = c.before.before in
-    let a = shape.before.before.args in
-    sym (sight-malformed clock a.t.now a.sender order route (sym shape.cover.ensures ∙ c.enum-told2.given.1))) c -- FIXME
+returns-in_default c clock order route =
+    let a = c.args in
+    sym (sight-malformed clock a.t.now a.sender order route (sym c.cover.ensures ∙ c.in_default.is))
 
 pub returns : goal.returns
-returns c = (λ c clock order route.
-    let shape = c.before.before in
-    let s = shape.before.before in
-    let a = s.args in
-    sym (sight-formed clock a.t.now a.sender order route Sender a.kind s.requires.0 refl _
-    (sym shape.cover.ensures ∙ c.enum_told.given.1))) c -- FIXME
+returns c clock order route =
+    let a = c.args in
+    sym (sight-formed clock a.t.now a.sender order route Sender a.kind c.requires.0 refl _
+    (sym c.cover.ensures ∙ c.in-Formed.is))

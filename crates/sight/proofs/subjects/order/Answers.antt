@@ -15,21 +15,18 @@ formed c =
     formed-kind NewOrder Order c.args.t.now c.requires.0 _ (sym c.order.ensures ∙ c.in-Formed.is)
 
 pub returns-in_default : goal.returns-in_default
-returns-in_default c = (λ c clock.
-    let shape = c.before.before in
-    let a = shape.before.before.args in
-    sym (sight-malformed clock a.t.now a.sender a.order a.route (sym shape.order.ensures ∙ c.enum-told2.given.1))) c -- FIXME
+returns-in_default c clock =
+    let a = c.args in
+    sym (sight-malformed clock a.t.now a.sender a.order a.route (sym c.order.ensures ∙ c.in_default.is))
 
 pub returns-in_default-account : goal.returns-in_default-account
-returns-in_default-account c = (λ c clock.
-    let account = c.before.before in
-    let a = account.before.before.before.before.before.args in
-    sym (sight-wrong clock a.t.now a.sender a.order a.route Order (formed account.before)
-    (sym account.account.ensures ∙ c.enum-told4.given.1))) c -- FIXME
+returns-in_default-account c clock =
+    let a = c.args in
+    sym (sight-wrong clock a.t.now a.sender a.order a.route Order (formed (goal.at.returns-in_default-account c).In-Formed)
+    (sym c.account.ensures ∙ c.in_default-account.is))
 
 pub returns : goal.returns
-returns c = (λ c clock.
-    let account = c.before.before in
-    let a = account.before.before.before.before.before.args in
-    sym (sight-named clock a.t.now a.sender a.order a.route Order (formed account.before)
-    (sym account.account.ensures ∙ c.enum-told3.given.1))) c -- FIXME
+returns c clock =
+    let a = c.args in
+    sym (sight-named clock a.t.now a.sender a.order a.route Order (formed (goal.at.returns c).In-Formed)
+    (sym c.account.ensures ∙ c.in-Named.is))
