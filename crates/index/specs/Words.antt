@@ -5,7 +5,7 @@
 --     txid_words    a padded TxId's words: four times eight bytes, and the last three
 --     key_words     the words of an order's key: its payer's BIC, and its TxId
 -- Assumes nothing.
-use Rattle.std.specs.Prelude.{ℕ, ◌+◌, ◌*◌, ◌<◌, List, [], ◌∷◌, get_or, slice_index}
+use Rattle.std.specs.Prelude.{ℕ, ◌+◌, ◌*◌, ◌<◌, List, [], ◌∷◌, slice_index}
 use Rattle.fields.specs.Number.{part}
 
 -- past the end get_or gives 0, so no bound of the index is asked for

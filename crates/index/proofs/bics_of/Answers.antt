@@ -1,4 +1,4 @@
-use Rattle.std.proofs.Common.{◌≡◌, ◌-◌, length, refl, rules}
+use Rattle.std.proofs.Common.{◌≡◌, length, refl, rules}
 use Rattle.dayfile.specs.Roster.{participant_in}
 use Rattle.index.proofs.RowsFilling.{none_made, one-made, all_made}
 use Rattle.index.proofs.bics_of.Goals.{In-loop-p}

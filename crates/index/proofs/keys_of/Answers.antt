@@ -1,4 +1,4 @@
-use Rattle.std.proofs.Common.{◌≡◌, ◌-◌, ◌<◌, length, refl, rules}
+use Rattle.std.proofs.Common.{◌≡◌, ◌<◌, length, refl, rules}
 use Rattle.dayfile.specs.Roster.{participant_in}
 use Rattle.rules.specs.Book.{order_of}
 use Rattle.rules.specs.declared.Order.{Order}

@@ -1,8 +1,7 @@
 use mathlib.Core.Path.{◌≡◌, sym, ap, subst, subst₂}
 use mathlib.Core.Bool.{Bool, ◌||◌}
-use Prim.Native.Nat.{ℕ, ◌+◌, ◌-◌, ◌*◌, ◌≤◌, ◌<◌}
+use Prim.Native.Nat.{◌-◌}
 use native.Mathlib.Omega.{arith}
-use lib.ListN.{length}
 use Rattle.dayrows.proofs.BicChains.{Comparing, comparing-at-hand, comparing-at-head, comparing-at-link, compared-link-falls, all-compared, row_ends}
 use borrow.Author.Rules.{rules}
 use Rattle.dayrows.proofs.chains.bic_chained.Goals as goal

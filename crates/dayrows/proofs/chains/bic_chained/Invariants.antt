@@ -1,5 +1,4 @@
 -- `dayrows::chains::bic_chained` meets its contract. The loop's invariant: what is left of the search stands below `at`. Assumes nothing.
-use Prim.Native.Nat.{◌-◌}
 use Rattle.dayrows.specs.BicChains.{BicSearchable}
 use Rattle.dayrows.proofs.BicChains.{Comparing}
 use Rattle.dayrows.proofs.chains.bic_chained.Given as goal

@@ -1,4 +1,4 @@
-use Rattle.std.proofs.Common.{◌≡◌, ◌-◌, ◌*◌, sym, refl, ap, ◌∙◌, arith, rules}
+use Rattle.std.proofs.Common.{◌≡◌, ◌*◌, sym, refl, ap, ◌∙◌, arith, rules}
 use Rattle.index.specs.RowChains.{row_buckets, row_bucket}
 use Rattle.fields.proofs.Chaining.{none-chained, enchained}
 use Rattle.index.proofs.LittleEndian.{part-two}

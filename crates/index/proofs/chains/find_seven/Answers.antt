@@ -1,4 +1,4 @@
-use Rattle.std.proofs.Common.{◌≡◌, ℕ, ◌-◌, ◌+◌, ◌*◌, ◌<◌, ◌≤◌, length, sym, ◌∙◌, subst, arith, rules}
+use Rattle.std.proofs.Common.{◌≡◌, ◌-◌, ◌+◌, ◌*◌, ◌≤◌, length, sym, ◌∙◌, subst, arith, rules}
 use Rattle.index.proofs.RowChains.{LeftBelow, at-hand, left-at-head, left-at-link, link-falls, found-there, found_nowhere}
 use Rattle.index.proofs.chains.find_seven.Goals as goal
 

@@ -1,5 +1,5 @@
 -- `index::chains::find_two` meets its contract. The loop's invariant: what is left of the search stands below `at`. Assumes nothing.
-use Rattle.std.proofs.Common.{◌-◌, [], ◌∷◌}
+use Rattle.std.proofs.Common.{[], ◌∷◌}
 use Rattle.index.specs.RowChains.{RowSearchable}
 use Rattle.index.proofs.RowChains.{LeftBelow}
 use Rattle.index.proofs.chains.find_two.Given as goal
