@@ -1,8 +1,7 @@
-"""Commands' lines: a command that is interrupted while it loads, one without arguments, words that are empty or can't be printed."""
+"""Commands' lines: a command that is interrupted while it loads, words that are empty or can't be printed."""
 
 import os
 import subprocess
-import sys
 import tempfile
 import unittest
 
@@ -28,23 +27,9 @@ class Commands(unittest.TestCase):
         with tempfile.TemporaryDirectory() as folder:
             with open(os.path.join(folder, "sitecustomize.py"), "w", encoding="utf-8") as file:
                 file.write(INTERRUPTED)
-            for command in ("run", "explain", "day", "message", "anybytes", "unused", "places", "named-places"):
+            for command in ("run", "explain", "day", "message", "anybytes", "unused"):
                 ran = run(command, "--help", PYTHONPATH=folder)
                 self.assertEqual((ran.returncode, ran.stdout, ran.stderr), (130, "", ""), command)
-
-    def test_without_arguments(self):
-        for command in ("begin", "places", "named-places"):
-            for words, status in (((), 2), (("--help",), 0)):
-                ran = run(command, *words)
-                self.assertEqual((ran.returncode, ran.stderr), (status, ""), command)
-                self.assertTrue(ran.stdout.startswith(f"{command} CRATE "), command)
-
-    def test_without_the_kit(self):
-        with tempfile.TemporaryDirectory() as folder:
-            os.symlink(sys.executable, os.path.join(folder, "python3"))
-            ran = run("begin", "fields", PATH=folder)
-        said = "begin: can't run rt, the Rattle kit's command: No such file or directory\n"
-        self.assertEqual((ran.returncode, ran.stdout, ran.stderr), (1, "", said))
 
     def test_names_that_are_empty(self):
         options = {"explain": ("--member", "--order", "--page", "--journal"), "run": ("--member", "--order")}

@@ -14,7 +14,7 @@ def page(name):
 
 
 def crates():
-    return sorted(re.findall(r"^(\w+):", page("crates.txt"), re.M))
+    return sorted(re.findall(r"^(\w+)(?: staticlib)?:", page("crates.txt"), re.M))
 
 
 class Pages(unittest.TestCase):

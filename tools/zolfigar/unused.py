@@ -1,9 +1,9 @@
 """Names of the crates that are defined and never used, imports that nothing needs, and `pub` that no other file needs.
 
 A name is used where something that is needed speaks of it. Needed from the start are: what the toolchain asks for (programs,
-exported functions, what is `pub` in Answers.antt and Invariants.antt, the `.._spec` of a Proof.antt), what a document names between backticks, the names that a must-fail edit
-writes, and of a proof file that README.md or docs/ARCHITECTURE.md names (`Cases.antt`) all that is `pub`. Fields and
-constructors are not looked at."""
+exported functions, what is `pub` in Answers.antt and Invariants.antt, the `.._spec` of a Proof.antt), what a document names
+between backticks, the names that a must-fail edit writes, and of a proof file that README.md or docs/ARCHITECTURE.md names
+(`Cases.antt`) all that is `pub`. Fields and constructors are not looked at."""
 
 import re
 from collections.abc import Iterator, Sequence
