@@ -1,7 +1,7 @@
 -- Edges of the settlement desk as rows: 02, slip 7. Assumes nothing.
-use Prim.Native.Nat.{ℕ, zero, suc, ◌^◌, ◌-◌, ◌+◌}
-use mathlib.Core.Path.{◌≡◌, refl}
-use mathlib.Core.List.{List, [], ◌∷◌, ◌++◌, map}
+use Prim.Native.Nat.{ℕ, zero, suc, ◌+◌, ◌-◌, ◌/◌, ◌%◌, ◌^◌}
+use mathlib.Core.Path.{refl}
+use mathlib.Core.List.{List, [], ◌∷◌, ◌++◌}
 use lib.ListN.{take, drop}
 use Rattle.fields.specs.Text.{text, joined}
 use Rattle.fields.proofs.CaseRows.{Row, AllMet, all-met}
@@ -51,13 +51,13 @@ most = 1_000_000_000_000_000_000
 abbrev most_debit : ℕ
 most_debit = 1_000_000_000_000_000
 
--- banks of n different BICs
+-- banks of n different BICs: the last two letters differ
 abbrev letters : ℕ → List ℕ
-letters k = text "AAAALV22" ++ (65 ∷ 65 ∷ 65 + k ∷ [])
+letters k = text "AAAALV22X" ++ ((65 + k / 26) ∷ (65 + k % 26) ∷ [])
 
 abbrev banks : ℕ → List Participant
 banks zero = []
-banks (suc k) = banks k ++ (bank (text "AAAALV22X" ++ (65 ∷ (48 + k) ∷ [])) ∷ [])
+banks (suc k) = banks k ++ (bank (letters k) ∷ [])
 
 -- reports as they stand, of bytes
 abbrev of_bytes : List ℕ → DeskInput
@@ -94,7 +94,7 @@ desk_edges =
     (given (cut_report 0 11 (2 ^ 64 - 1) ∷ cut_report 1 11 1 ∷ []) both [] most)
     ∷ roomy_row "a member's balance of 10^18, which a credit takes above" (given (credit_b ∷ []) both (0 ∷ most ∷ []) 70)
     (0 ∷ 64 ∷ 65 ∷ 70 ∷ 65 ∷ 1 ∷ 70 ∷ 999 ∷ 70 ∷ [])
-    ∷ refused_row "a balance of a cent more" (given two both (most + 1 ∷ []) 70)
+    ∷ refused_row "a balance of a cent more" (given two both ((most + 1) ∷ []) 70)
     ∷ refused_row "a balance of a cent more at number 31, which nobody has"
     (desk_input (reports_bytes two) 60 (participants_bytes both)
     (take 248 (balances_bytes (100 ∷ []) 70) ++ (13 ∷ 224 ∷ 182 ∷ 179 ∷ 167 ∷ 100 ∷ 0 ∷ 1 ∷ []) ++ drop 256 (balances_bytes (100 ∷ []) 70)))

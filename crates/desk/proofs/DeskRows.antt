@@ -4,16 +4,15 @@
 --     numbers_of     a settlement as numbers: refusal, the transfers' three numbers each, and behind them 999 and the tickets' amounts
 --     desk_row       a row: what is given, the lengths of both buffers, and these numbers
 -- Assumes nothing.
-use Prim.Native.Nat.{ℕ, zero, suc, ◌-◌}
+use Prim.Native.Nat.{ℕ, zero, suc}
 use Prim.Native.String.{String}
 use mathlib.Core.List.{List, [], ◌∷◌, ◌++◌, map}
-use lib.ListN.{get_or}
 use Rattle.fields.specs.Number.{bytes_of}
 use Rattle.fields.specs.Text.{text, joined}
 use Rattle.fields.proofs.CaseRows.{Row}
 use Rattle.report.specs.ReportLayout.{reports_bytes}
 use Rattle.report.specs.declared.Report.{Report}
-use Rattle.ticket.specs.TicketLayout.{amount_of, time_of}
+use Rattle.ticket.specs.TicketLayout.{amount_of}
 use Rattle.dayfile.specs.FileWriting.{participants_bytes, bank_opening}
 use Rattle.dayfile.specs.declared.roster.Participant.{Participant}
 use Rattle.desk.specs.Settlement.{DeskInput, Settlement, settlement}
