@@ -1,4 +1,3 @@
-use Prim.Native.Nat.{◌-◌}
 use native.Mathlib.Omega.{arith}
 use Rattle.draft.proofs.DigitLoop.{next-digit, next_fits, next-read, none_read, all_read}
 use Rattle.draft.proofs.amount.digits_behind.Goals as goal
