@@ -1,5 +1,5 @@
 -- `reader::walking::walk` meets its contract: the root by its tag, and what it holds. Assumes nothing.
-use Rattle.std.proofs.Common.{◌≡◌, ℕ, ◌+◌, List, [], drop, sym, ◌∙◌, ap, arith}
+use Rattle.std.proofs.Common.{ℕ, ◌+◌, List, [], drop, sym, ◌∙◌, ap, arith}
 use mathlib.Core.Bool.{not}
 use Rattle.xml.specs.Bytes.{is_name, run}
 use Rattle.xml.specs.Scanning.{attributes_of, TagRead, tag_behind}

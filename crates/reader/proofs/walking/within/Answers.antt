@@ -1,5 +1,5 @@
 -- `reader::walking::within` meets its contract: each turn of the loop is a law of pacs' Going.antt. Assumes nothing.
-use Rattle.std.proofs.Common.{◌≡◌, ℕ, ◌+◌, ◌-◌, ◌<◌, List, [], get_or, drop, replicate, refl, sym, ◌∙◌, ap, arith, rules}
+use Rattle.std.proofs.Common.{ℕ, ◌+◌, ◌-◌, ◌<◌, List, [], get_or, drop, replicate, refl, sym, ◌∙◌, ap, arith, rules}
 use mathlib.Core.Bool.{not}
 use Rattle.xml.specs.Bytes.{is_name, run}
 use Rattle.xml.specs.Scanning.{attributes_of, TagRead, tag_behind}

@@ -8,13 +8,13 @@ use Rattle.reader.proofs.walking.within.Given as goal
 
 abbrev pub invariant-loop-depth : goal.invariant-loop-depth
 invariant-loop-depth l = record {
-      going : Going l.text l.start l.at l.depth l.starts l.ends l.rows l.kept;
-      within : l.at ≤ length l.text;
-      starts : length l.starts ≡ 16;
-      ends : length l.ends ≡ 16;
-      rows : length l.rows ≡ 16;
-      kept : length l.kept ≡ 40;
-    }
+  going : Going l.text l.start l.at l.depth l.starts l.ends l.rows l.kept;
+  within : l.at ≤ length l.text;
+  starts : length l.starts ≡ 16;
+  ends : length l.ends ≡ 16;
+  rows : length l.rows ≡ 16;
+  kept : length l.kept ≡ 40;
+}
 
 abbrev pub decreases-loop-depth : goal.decreases-loop-depth
 decreases-loop-depth l = length l.text - l.at
