@@ -74,4 +74,4 @@ module _ {h : History} {b : Book} (c : Carried h b) where
 
 pub carried-inputs : {h : History} {b : Book} → Carried h b → (xs : List Input) → Carried (events_on h (seen_from b xs)) (book_from b xs)
 carried-inputs c [] = c
-carried-inputs c (x ∷ xs) = carried-inputs (carried-outcome c x) xs
+carried-inputs {h = h} {b = b} c (x ∷ xs) = carried-inputs {h = event_of (seen x (outcome_of b x)) ▹ h} (carried-outcome c x) xs

@@ -16,8 +16,10 @@ use Rattle.dayfile.specs.declared.roster.Roster.{Roster}
 use Rattle.rules.specs.Book.{is_bank}
 use Rattle.rules.specs.Status.{is_waiting}
 use Rattle.rules.specs.declared.Order.{Order}
-use Rattle.audit.specs.History.{Event, History, from, ◌▹◌}
-use Rattle.audit.specs.Orders.{opens, of_order, start_endings, is_none, asks_about, own_endings, ending_tickets, all_endings, end_code}
+use Rattle.ticket.specs.TicketLayout.{amount_of, time_of, sender_of, txid_of}
+use Rattle.audit.specs.History.{Event, History, from, ◌▹◌, participants, is_sent_by, is_bank_of}
+use Rattle.audit.specs.Sums.{first_with}
+use Rattle.audit.specs.Orders.{opens, of_order, to_bank, start_endings, is_none, asks_about, own_endings, ending_tickets, all_endings, end_code}
 use Rattle.audit.specs.Claim.{AllCarry}
 use Rattle.audit.proofs.Agreeing.{OrderAgrees}
 
@@ -106,12 +108,12 @@ module _ (ps : Roster) (h : History) (i : ℕ) (o o' : Order) (e : Event) (a : O
       → AllCarry (end_code o'.status) o.amount (all_endings i (e ▹ h)) → OrderAgrees ps (e ▹ h) i o'
   together waiting once alike =
       record {
-        amount = of-before _ _ _ i e h other ∙ a.amount ∙ sym s.amount;
-        time = of-before _ _ _ i e h other ∙ a.time ∙ sym s.time;
-        bic = of-before _ _ _ i e h other ∙ a.bic ∙ ap (λ (p : ℕ). (participant_of ps p).bic) (sym s.payer);
-        txid = of-before _ _ _ i e h other ∙ a.txid ∙ ap unpadded (sym s.txid);
-        bank = of-before _ _ _ i e h other ∙ a.bank ∙ ap (is_bank ps) (sym s.payee);
-        payer = λ p l. of-before _ _ _ i e h other ∙ a.payer p l ∙ ap (λ (q : ℕ). eqb q p) (sym s.payer);
+        amount = of-before 0 (λ x. x.amount) (λ x. amount_of x.ticket) i e h other ∙ a.amount ∙ sym s.amount;
+        time = of-before 0 (λ x. x.time) (λ x. time_of x.ticket) i e h other ∙ a.time ∙ sym s.time;
+        bic = of-before [] (λ x. (participant_of (participants h) x.payer).bic) (λ x. sender_of x.ticket) i e h other ∙ a.bic ∙ ap (λ (p : ℕ). (participant_of ps p).bic) (sym s.payer);
+        txid = of-before [] (λ x. unpadded x.txid) (λ x. txid_of x.ticket) i e h other ∙ a.txid ∙ ap unpadded (sym s.txid);
+        bank = of-before false (λ x. is_bank_of ps x.payee) (λ x. to_bank ps (first_with 1 x.reports)) i e h other ∙ a.bank ∙ ap (is_bank ps) (sym s.payee);
+        payer = λ p l. of-before false (λ x. eqb x.payer p) (is_sent_by ps p) i e h other ∙ a.payer p l ∙ ap (λ (q : ℕ). eqb q p) (sym s.payer);
         waiting = waiting;
         once = once;
         alike = subst (λ (n : ℕ). AllCarry (end_code o'.status) n (all_endings i (e ▹ h))) (sym s.amount) alike;
@@ -134,7 +136,8 @@ module _ (ps : Roster) (h : History) (i : ℕ) (o o' : Order) (e : Event) (a : O
       let n = repeat-counts asks in
       let b = a.once in let q = ap ends w in
       let q' = ap ends w' in omega arith)
-      (rw (so_far (r ∷ []) is, c) (carry-append (end_code o.status) o.amount (r ∷ []) (all_endings i h) carries a.alike))
+      (subst (λ (n : ℕ). AllCarry n o.amount (all_endings i (e ▹ h))) (sym c)
+      (rw (so_far (r ∷ []) is) (carry-append (end_code o.status) o.amount (r ∷ []) (all_endings i h) carries a.alike)))
   order-goes (ended w w' r more is carries l) =
       let before : all_endings i h ≡ [] = none-there (all_endings i h) (a.waiting ∙ w) in
       together

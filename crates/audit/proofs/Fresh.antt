@@ -5,20 +5,21 @@
 --     events-demand3  so demand 3 is of events alone
 -- Assumes nothing.
 use mathlib.Core.Path.{◌≡◌, refl, sym, subst, ◌∙◌, ap, ap₂}
-use mathlib.Core.Bool.{Bool, true, ◌&&◌, cond}
+use mathlib.Core.Bool.{Bool, true, false, ◌&&◌, cond}
 use mathlib.Core.List.{List, [], ◌∷◌, ◌++◌}
 use Prim.Native.Nat.{ℕ, ◌+◌, ◌-◌, ◌≤◌, ◌<◌}
 use native.Mathlib.Omega.{arith}
 use borrow.Author.Tests.{le-ltb}
 use lib.Dec.{leb, ltb, eqb}
 use lib.ListN.{length, get_or-replicate}
-use Rattle.fields.specs.Text.{same}
+use Rattle.fields.specs.Text.{unpadded, same}
 use Rattle.fields.specs.UpTo.{sum_to}
 use Rattle.fields.proofs.UpTo.{sum_same}
-use Rattle.ticket.specs.TicketLayout.{time_of, payer_of, txid_of}
+use Rattle.ticket.specs.TicketLayout.{amount_of, time_of, sender_of, payer_of, txid_of}
 use Rattle.report.specs.Ending.{endings_in}
 use Rattle.report.specs.declared.Report.{Report}
 use Rattle.dayfile.specs.FileLimits.{most_participants}
+use Rattle.dayfile.specs.Roster.{participant_of}
 use Rattle.dayfile.specs.declared.roster.Roster.{Roster}
 use Rattle.rules.specs.Book.{no_cover, cover_of, book_of}
 use Rattle.rules.specs.Cover.{whole}
@@ -26,8 +27,9 @@ use Rattle.rules.specs.Inputs.{Input, Seen, seen_from, book_from}
 use Rattle.rules.specs.declared.Order.{Order}
 use Rattle.rules.specs.declared.Book.{Book}
 use Rattle.rules.proofs.StepSound.{file-sound}
-use Rattle.audit.specs.History.{Event, History, from, ◌▹◌, participants, Each, sum_over, is_kind, is_sent_by}
+use Rattle.audit.specs.History.{Event, History, from, ◌▹◌, participants, Each, sum_over, is_kind, is_sent_by, is_bank_of}
 use Rattle.audit.specs.Sums.{
+  first_with,
   amount_if,
   cover_in,
   cover_out,
@@ -49,6 +51,7 @@ use Rattle.audit.specs.Orders.{
   of_order,
   order_amount,
   order_time,
+  to_bank,
   is_for_bank,
   start_endings,
   all_endings,
@@ -148,7 +151,7 @@ module _ (file : List ℕ) where
 
   same-part : (p : ℕ) (es : List Event) (i : ℕ) → waiting_part ps p (on_fresh es) i ≡ alone.waiting_part ps p es i
   same-part p es i =
-      ap₂ (λ (x : Bool) (n : ℕ). cond x n 0) (ap₂ ◌&&◌ (same-waits i es) (same_of _ _ _ i es)) (same_of _ _ _ i es)
+      ap₂ (λ (x : Bool) (n : ℕ). cond x n 0) (ap₂ ◌&&◌ (same-waits i es) (same_of false (λ o. eqb o.payer p) (is_sent_by ps p) i es)) (same_of 0 (λ o. o.amount) (λ e. amount_of e.ticket) i es)
 
   same_total : (p : ℕ) (es : List Event) → waiting_total ps p (on_fresh es) ≡ alone.waiting_total ps p es
   same_total p es =
@@ -161,19 +164,19 @@ module _ (file : List ℕ) where
   same-must : (i : ℕ) (e : Event) (es : List Event) → must_expire ps i e (on_fresh es) ≡ alone.must_expire ps i e es
   same-must i e es =
       ap₂ (λ (x y : Bool). sets_clock e && (x && y && leb 20 (time_of e.ticket - order_time i (on_fresh es))))
-      (same-waits i es) (same_of _ _ _ i es)
-      ∙ ap (λ (n : ℕ). sets_clock e && (alone.waits i es && alone.is_for_bank ps i es && leb 20 (time_of e.ticket - n))) (same_of _ _ _ i es)
+      (same-waits i es) (same_of false (λ o. is_bank_of ps o.payee) (λ e. to_bank ps (first_with 1 e.reports)) i es)
+      ∙ ap (λ (n : ℕ). sets_clock e && (alone.waits i es && alone.is_for_bank ps i es && leb 20 (time_of e.ticket - n))) (same_of 0 (λ o. o.time) (λ e. time_of e.ticket) i es)
 
   same-asks : (i : ℕ) (e : Event) (es : List Event) → asks_about i e (on_fresh es) ≡ alone.asks_about i e es
   same-asks i e es =
       ap₂
       (λ (n : ℕ) (p : List ℕ).
       is_kind 8 e && ltb i n && same p (payer_of e.ticket) && same (order_txid i (on_fresh es)) (txid_of e.ticket))
-      (same_count es) (same_of _ _ _ i es)
+      (same_count es) (same_of [] (λ o. (participant_of (participants (on_fresh es)) o.payer).bic) (λ e. sender_of e.ticket) i es)
       ∙ ap
       (λ (s : List ℕ).
       is_kind 8 e && ltb i (alone.order_count es) && same (alone.order_payer i es) (payer_of e.ticket) && same s (txid_of e.ticket))
-      (same_of _ _ _ i es)
+      (same_of [] (λ o. unpadded o.txid) (λ e. txid_of e.ticket) i es)
 
   same-tickets : (i : ℕ) (es : List Event) → ending_tickets i (on_fresh es) ≡ alone.ending_tickets i es
   same-tickets i =
@@ -184,7 +187,7 @@ module _ (file : List ℕ) where
   same_alike : (i : ℕ) (es : List Event)
       → AllCarry (code_of (all_endings i (on_fresh es))) (order_amount i (on_fresh es)) (all_endings i (on_fresh es))
       ≡ AllCarry (code_of (alone.all_endings i es)) (alone.order_amount i es) (alone.all_endings i es)
-  same_alike i es = ap₂ (λ (rs : List Report) (n : ℕ). AllCarry (code_of rs) n rs) (same-endings i es) (same_of _ _ _ i es)
+  same_alike i es = ap₂ (λ (rs : List Report) (n : ℕ). AllCarry (code_of rs) n rs) (same-endings i es) (same_of 0 (λ o. o.amount) (λ e. amount_of e.ticket) i es)
 
   module _ (es : List Event) (b : Book) where
     below : (i : ℕ) → i < alone.order_count es → i < order_count (on_fresh es)
