@@ -8,7 +8,7 @@
 use Rattle.std.specs.Prelude.{ℕ, ◌+◌, ◌*◌, ◌<◌, List, [], ◌∷◌, slice_index}
 use Rattle.fields.specs.Number.{part}
 
--- past the end get_or gives 0, so no bound of the index is asked for
+-- past the end slice_index gives 0, so no bound of the index is asked for
 pub record Bytes (s : List ℕ) : Type 0 where
   pub below : (i : ℕ) → slice_index s i < 256
 
