@@ -1,3 +1,5 @@
+pub mod Heading
 pub mod LoopKeeping
-pub mod SeenEntry
+pub mod Passing
 pub mod Searching
+pub mod SeenEntry

@@ -15,7 +15,7 @@ use Rattle.dayfile.specs.Roster.{participant_in, participant_of, row_of}
 use Rattle.dayfile.specs.Route.{has_bic}
 use Rattle.dayfile.specs.Guarantee.{Guaranteed}
 use Rattle.dayfile.specs.declared.roster.Roster.{Roster}
-use Rattle.dayfile.proofs.Arriving.{rows_in}
+use Rattle.dayfile.proofs.Arriving.{rows_in_lem}
 use Rattle.rules.specs.Book.{order_of}
 use Rattle.rules.specs.Find.{sender_in, order_in, route_in}
 use Rattle.rules.specs.Sound.{Sound}
@@ -98,7 +98,7 @@ module _ {r : Roster} {bics bic_heads bic_links routes route_heads route_links k
   route-found =
       bic-found (λ i. (row_of r.routes i).bic) d.payee g.route_bic (payee_of t) (length_part 11 27 t (rw whole (omega arith)))
       (part_bytes bytes 11 27)
-      ∙ ap (first_to (has_bic r.routes (payee_of t))) (sym (rows_in r g.rows))
+      ∙ ap (first_to (has_bic r.routes (payee_of t))) (sym (rows_in_lem r g.rows))
 
   pub all_found : {b : Book} {keys heads links : List ℕ} → Sound b → KeyIndex (words_in b.roster) row_bucket b keys heads links
       → b.roster ≡ r

@@ -1,503 +1,819 @@
--- `engine::taking::take` meets its contract: the list of its needs. What is cited stands in the files of the folder `Proof`, a phase of a
--- turn in each. Assumes nothing.
--- places by Inv-loop2 μ-loop2 Inv-loop μ-loop
--- place start: Start
--- place known: After-shared-slice-known
--- place rows: After-keys-of
--- place chains: After-key-chains
--- place head: At-loop
--- place room: Then1
--- place seen: After-see
--- place refused: After-enum-told
--- place number: After-refusal-of
--- place answered: After-put-answer
--- place passed: After-known-told
--- place sweeping: In-loop2
--- place young: After-is-young
--- place old: Else2
--- place lapse: After-expire
--- place freed: After-moved
--- place reported: After-put-told
--- place swept: Left-loop2
--- place way: After-end-of
--- place joined: Joined3
--- place numbers: After-number-of2
--- place judged: After-judge
--- place first: After-moved2
--- place sum: After-total-moved
--- place next: After-old2
--- place second: After-gained
--- place total: After-total-moved2
--- place told: After-put-notices
--- place carried: After-slice-known6
--- place opens: After-enum-told3
--- place cuts: After-enum-told4
--- place cutting: After-put-cut-arg
--- place done: At-match2-came
--- place told-all: After-put-answer3
--- place late: Then4
--- place late-told: After-put-answer2
+-- `take` meets its contract, a phase of a turn after the other. Assumes nothing.
+use Rattle.std.specs.Prelude.{◌≡◌, ℕ, ◌+◌, ◌-◌, ◌*◌, ◌<◌, ◌≤◌, Bool, true, false, cond, List, length, set}
+use mathlib.Core.Path.{refl, sym, ◌∙◌, ap, ap₂, subst}
+use mathlib.Core.Logic.{inl, inr}
+use native.Mathlib.Nat.{not-suc-le-zero}
 use native.Mathlib.Omega.{arith}
 use borrow.Author.Rules.{rules}
+use borrow.Author.Tests.{ltb-true, ltb-false, eqb-false, not-true}
+use lib.Seq.{sets}
 use Rattle.codes.proofs.WholeCodes.{bic-length}
-use Rattle.course.proofs.Running.{ended}
+use Rattle.fields.specs.UpTo.{any_to}
+use Rattle.dayfile.specs.Route.{followed_from, rows_followed}
+use Rattle.report.specs.declared.answer.Answer.{Answer}
+use Rattle.rules.specs.Book.{order_of, cover_of}
+use Rattle.rules.specs.Cover.{whole, moved, most_total}
+use Rattle.rules.specs.Find.{is_open}
+use Rattle.rules.specs.Terms.{terms_of}
+use Rattle.rules.specs.Step.{step_of}
+use Rattle.rules.specs.Taken.{answer_of}
+use Rattle.rules.specs.declared.Book.{Book}
+use Rattle.rules.specs.declared.Cover.{Cover}
+use Rattle.rules.specs.declared.Order.{Order}
+use Rattle.rules.specs.declared.Status.TheVariants.{Waiting}
+use Rattle.rules.specs.declared.verdict.Verdict.{Verdict}
+use Rattle.course.specs.Seeking.{seeks_open, sought}
+use Rattle.course.proofs.Running.{RoomFor, started, ended}
 use Rattle.course.proofs.Seeking.{total-sum}
-use Rattle.turns.proofs.Turn.{loop-begun}
-use Rattle.engine.proofs.Searching.{keys-lent}
-use Rattle.engine.proofs.taking.take.Proof.Invariants.{Inv-loop2, μ-loop2, Inv-loop, μ-loop}
-use Rattle.engine.proofs.taking.take.Proof.Starting.{taking-begun}
-use Rattle.engine.proofs.taking.take.Proof.Loop.{start, tickets, answers₀, reports₀, sound, long-answers, long-reports, head, room, next_fits, whole-ticket, sender-long, txid-long, last, None-more}
-use Rattle.engine.proofs.taking.take.Proof.Expiring.{outer, taken, below, number-below, payer-below, payee-below, early, freeable, told-fits, one-expired}
-use Rattle.engine.proofs.taking.take.Proof.Judging.{sender-number, order-number, payee-number, swept-total-few, suits}
-use Rattle.engine.proofs.taking.take.Proof.Refusing.{late-done}
-use Rattle.engine.proofs.taking.take.Proof.Carrying.{first-sum, second-has, second-sum, notices-fit}
-use Rattle.engine.proofs.taking.take.Proof.Ending.{space, few-participants, cut_fits, uncut-whole, done}
-use Rattle.engine.proofs.taking.take.Proof.Going.{refused-on, late-on, done_on}
-use Rattle.engine.proofs.taking.take.Proof.Ways as to
+use Rattle.course.proofs.Summing.{all-total}
+use Rattle.index.specs.Words.{Bytes, key_words}
+use Rattle.index.specs.RowChains.{row_bucket}
+use Rattle.index.proofs.Comparing.{slice-bytes}
+use Rattle.index.proofs.LentRows.{chained-fields, bucket-inside}
+use Rattle.ticket.specs.TicketLayout.{sender_of, txid_field}
+use Rattle.sight.specs.declared.Seen.{Seen}
+use Rattle.verdict.specs.Judgement.{verdict_of}
+use Rattle.verdict.specs.Meaning.{facts_of}
+use Rattle.verdict.specs.OwnStep.{refused_verdict}
+use Rattle.verdict.proofs.VerdictLaws.{refused-alone}
+use Rattle.turns.proofs.Turn.{TakenUp, loop-begun, Expired, expiries-done}
+use Rattle.turns.proofs.Facts.{Searched, total-few, sender-in, order-in, payee-in, facts-are, sender-bic, number_is, way-is, new-order}
+use Rattle.turns.proofs.VerdictFitting.{Fits as Suits, fits}
+use Rattle.turns.proofs.CarryingOut.{CarriedOut, first_fits, second-room, second_fits, moves-carried-out, nothing-carried, told-room, cut-size, cut-room, cut-whole}
+use Rattle.turns.proofs.Done.{Done, answer-is, refused-answer}
+use Rattle.turns.proofs.TurnEnds.{did_nothing, changed, order-opened, cut}
+use Rattle.engine.proofs.Heading.{ticket_at, ticket_is, ticket-bytes, sender-long, txid-long, long-answers, long-reports, none_more, more, room, whole-ticket}
+use Rattle.engine.proofs.LoopKeeping.{done-as, kept_on}
+use Rattle.engine.proofs.Passing.{refused-as, refused-done, sighted, taken, below, number-below, payer-below, payee-below, early, freeable, told-fits, one-expired, follows, all-with, else_refused}
+use Rattle.engine.proofs.Searching.{words_in, keys-lent}
+use Rattle.engine.proofs.SeenEntry.{entry_by, Sighted}
 use Rattle.engine.proofs.taking.take.Goals as goal
+use Rattle.engine.proofs.taking.take.Goals.{In-loop-roster, In-Read, Left-loop-next, After-number_of-i, After-judge-v, After-put_notices-n, Joined-does, else-loop-next-test, then-loop-next-test+then-is_young, then-is_cut, else-is_cut, in-Nothing, in-Opens, in-Becomes, in-Cuts}
 
-pub mod Invariants
+-- the loop over tickets: there is room for the ticket at hand, and it is whole
+module _ (c : In-loop-roster) where
+  has : RoomFor (length c.args.tickets.now - 108 * c.loop-roster.taken) (length c.args.answers.now - 4 * c.loop-roster.taken)
+      (length c.args.reports.now - 12 * c.loop-roster.n)
+  has = room c.loop-roster.invariant c.room_left.ensures c.loop-roster-test.true
 
-pub mod Places
+  is_whole : length (ticket_at c.args.tickets.now c.loop-roster.taken) ≡ 108
+  is_whole = whole-ticket c.loop-roster.invariant c.room_left.ensures c.loop-roster-test.true
 
-pub mod Ways
+-- 7 to 11 don't refuse it
+module _ (c : In-Read) where
+  passes : TakenUp c.loop-roster.b (ticket_at c.args.tickets.now c.loop-roster.taken) (entry_by c.in-Read.s)
+  passes =
+      let h = c.loop-roster.invariant in
+      taken h c.requires.0.roster c.requires.1 (whole-ticket h c.room_left.ensures c.loop-roster-test.true)
+      (ticket-bytes (slice-bytes _ c.type_inv.tickets) c.loop-roster.taken) c.in-Read.ensures refl
 
-pub mod Starting
+-- the orders have been looked at
+expired : (c : Left-loop-next)
+    → Expired c.loop-roster.b (ticket_at c.args.tickets.now c.loop-roster.taken) (entry_by c.in-Read.s) c.loop-roster.n c.loop-roster.reports
+    c.loop-next.b c.loop-next.next c.loop-next.n c.loop-next.reports
+expired c =
+    let h = c.loop-roster.invariant in
+    let u = taken h c.requires.0.roster c.requires.1 (whole-ticket h c.room_left.ensures c.loop-roster-test.true)
+    (ticket-bytes (slice-bytes _ c.type_inv.tickets) c.loop-roster.taken) c.in-Read.ensures refl in
+    expiries-done u h.passed c.loop-next.invariant.0 c.loop-next.invariant.1 c.loop-next.invariant.2
+    (elim c.loop-next-test.branch [
+      else-loop-next-test w ↦ inl (let l = w.loop-next-test in omega arith)
+      | then-loop-next-test+then-is_young w ↦ inr (ltb-true _ _ (sym w.is_young.ensures ∙ w.if-is_young.true))
+    ])
 
-pub mod Loop
+-- what was found for the ticket
+found : (c : After-number_of-i)
+    → Searched c.loop-roster.b (ticket_at c.args.tickets.now c.loop-roster.taken) (entry_by c.in-Read.s) c.in-Read.s.sender c.in-Read.s.order
+    c.in-Read.s.route c.number_of-p.result c.number_of-i.result
+found c =
+    let h = c.loop-roster.invariant in
+    let s = sighted h c.requires.0.roster c.requires.1 (whole-ticket h c.room_left.ensures c.loop-roster-test.true)
+    (ticket-bytes (slice-bytes _ c.type_inv.tickets) c.loop-roster.taken) c.in-Read.ensures refl in
+    record { sends = s.sends; names = s.names; leads = s.leads; from = c.number_of-p.ensures; at = c.number_of-i.ensures }
 
-pub mod Seen
+-- the verdict
+module _ (c : After-judge-v)
+    (w : Expired c.loop-roster.b (ticket_at c.args.tickets.now c.loop-roster.taken) (entry_by c.in-Read.s) c.loop-roster.n
+    c.loop-roster.reports c.loop-next.b c.loop-next.next c.loop-next.n c.loop-next.reports)
+    (f : Searched c.loop-roster.b (ticket_at c.args.tickets.now c.loop-roster.taken) (entry_by c.in-Read.s) c.in-Read.s.sender
+    c.in-Read.s.order c.in-Read.s.route c.number_of-p.result c.number_of-i.result) where
+  abbrev anywhere : Bool
+  anywhere = any_to (λ q. is_open (cover_of c.loop-next.b.covers q)) c.args.b.roster.size
 
-pub mod Expiring
+  open_is : c.if-is_cut.unconfirmed ≡ cond (seeks_open (terms_of c.in-Read.s.kind).flow) anywhere false
+  open_is =
+      elim c.if-is_cut.branch [
+        then-is_cut x ↦
+            x.unconfirmed-is
+            ∙ x.any_open-unconfirmed.ensures
+            ∙ ap (λ (z : Bool). cond z anywhere false) (sym x.if-is_cut.true ∙ c.is_cut.ensures)
+        | else-is_cut x ↦ x.unconfirmed-is ∙ ap (λ (z : Bool). cond z anywhere false) (sym x.if-is_cut.false ∙ c.is_cut.ensures)
+      ]
 
-pub mod Judging
+  verdict-is : c.judge-v.result
+      ≡ verdict_of (facts_of (sought c.loop-next.b (entry_by c.in-Read.s) (ticket_at c.args.tickets.now c.loop-roster.taken)))
+  verdict-is =
+      c.judge-v.ensures
+      ∙ ap verdict_of
+      (facts-are w f (sym c.loop-roster.invariant.roster) (follows c.requires.1 c.in-Read.s.route c.end_of-way.ensures)
+      c.is_bank.ensures open_is c.loop-roster.invariant.sum)
 
-pub mod Refusing
-
-pub mod Carrying
-
-pub mod Ending
-
-pub mod Going
+-- its moves and reports
+carried : (c : After-put_notices-n)
+    → Expired c.loop-roster.b (ticket_at c.args.tickets.now c.loop-roster.taken) (entry_by c.in-Read.s) c.loop-roster.n
+    c.loop-roster.reports c.loop-next.b c.loop-next.next c.loop-next.n c.loop-next.reports
+    → Suits c.loop-next.b c.judge-v.result
+    → CarriedOut c.loop-next.b c.judge-v.result c.loop-next.n c.loop-next.reports
+    (set (set c.loop-next.b.covers c.judge-v.result.first.who c.moved-new.result) c.judge-v.result.second.who c.gained-new.result)
+    c.total_moved-total-in-loop-roster.result c.put_notices-n.result c.put_notices-n.new.buffer
+carried c w f =
+    let old = cover_of c.loop-next.b.covers c.judge-v.result.first.who in
+    let next = cover_of (set c.loop-next.b.covers c.judge-v.result.first.who c.moved-new.result) c.judge-v.result.second.who in
+    moves-carried-out w f c.moved-new.ensures c.loop-roster.invariant.sum
+    (all-with c.loop-roster.total c.total_moved-total.result old c.total_moved-total.ensures c.moved-new.ensures) c.gained-new.ensures
+    (all-with c.total_moved-total.result c.total_moved-total-in-loop-roster.result next c.total_moved-total-in-loop-roster.ensures
+    c.gained-new.ensures)
+    c.put_notices-n.ensures.1 c.put_notices-n.ensures.0
 
 pub keys_of-keys-requires : goal.keys_of-keys-requires
-keys_of-keys-requires c = Inv-loop2 c -- FIXME
-
-pub slice_bounds-key_chains-end : goal.slice_bounds-key_chains-end
-slice_bounds-key_chains-end c = μ-loop2 c -- FIXME
-
-pub key_chains-made-requires : goal.key_chains-made-requires
-key_chains-made-requires c = Inv-loop c -- FIXME
-
-pub total_of-total-requires : goal.total_of-total-requires
-total_of-total-requires c = μ-loop c -- FIXME
-
-pub loop-roster-init : goal.loop-roster-init
-loop-roster-init c =
-    let s = (to.start-from-After-participants c).requires.0 in
-    let size = s.roster.size in (
+keys_of-keys-requires c =
+    let s = c.requires.0 in
+    let size = s.roster.size in
+    (
       s.orders.count,
       λ i l. let payer = s.orders.payer i l in omega arith,
       λ i l. bic-length _ (s.roster.bic _ (s.orders.payer i l)),
       s.orders.padded,
     )
 
-pub overflow_mul-taken : goal.overflow_mul-taken
-overflow_mul-taken c =
+pub slice_bounds-key_chains-end : goal.slice_bounds-key_chains-end
+slice_bounds-key_chains-end c =
     let h = c.keys_of-keys.ensures.0 in search rules
 
-pub overflow_sub-tickets : goal.overflow_sub-tickets
-overflow_sub-tickets c =
-    let few = (to.start-from-After-keys c).requires.0.orders.count in
+pub key_chains-made-requires : goal.key_chains-made-requires
+key_chains-made-requires c =
+    let few = c.requires.0.orders.count in
     let h = c.keys_of-keys.ensures.0 in
     (omega arith, omega arith)
 
+pub total_of-total-requires : goal.total_of-total-requires
+total_of-total-requires c =
+    (c.requires.0.roster.size, rw (total-sum c.args.b) c.requires.0.limited)
+
+pub loop-roster-init : goal.loop-roster-init
+loop-roster-init c =
+    let rows = c.keys_of-keys.ensures in
+    let chains = c.key_chains-made.ensures in
+    record {
+      going = started c.args.b c.args.tickets.now c.args.answers.now c.args.reports.now c.requires.0;
+      roster = refl;
+      passed = record { none = λ i l. absurd (not-suc-le-zero l) };
+      few = omega arith;
+      index = record {
+        keys = rows.1;
+        long = rows.0;
+        chained = chained-fields rows.1 chains.2;
+        headed = chains.0;
+        linked = chains.1;
+      };
+      sum = c.total_of-total.ensures ∙ total-sum c.args.b ∙ sym (all-total c.args.b c.requires.0);
+    }
+
+pub overflow_mul-taken : goal.overflow_mul-taken
+overflow_mul-taken c =
+    let g = c.well_formed in let h = c.loop-roster.invariant.going.tickets_left in search rules
+
+pub overflow_sub-tickets : goal.overflow_sub-tickets
+overflow_sub-tickets c =
+    c.loop-roster.invariant.going.tickets_left
+
 pub overflow_mul-taken-in-loop-roster : goal.overflow_mul-taken-in-loop-roster
 overflow_mul-taken-in-loop-roster c =
-    let s = to.start-from-After-covers c in (s.pre.0.roster.size, rw (total-sum s.args.t1) s.pre.0.limited)
+    let g = c.well_formed in let h = c.loop-roster.invariant.going.tickets_left in search rules
 
 pub overflow_sub-answers : goal.overflow_sub-answers
 overflow_sub-answers c =
-    taking-begun c
+    let g = c.loop-roster.invariant.going.answers_left in let e = long-answers c.loop-roster.invariant in omega arith
 
 pub overflow_mul-n : goal.overflow_mul-n
 overflow_mul-n c =
-    let g = (start c).well-formed in search rules
+    let g = c.well_formed in let h = c.loop-roster.invariant.going.reports_left in search rules
 
 pub overflow_sub-reports : goal.overflow_sub-reports
 overflow_sub-reports c =
-    let g = (start c).well-formed in let h = c.loop-roster.invariant.going.tickets_left in search rules
-
-pub room_left-requires : goal.room_left-requires
-room_left-requires c =
-    let g = (start c).well-formed in search rules
+    let g = c.loop-roster.invariant.going.reports_left in let e = long-reports c.loop-roster.invariant in omega arith
 
 pub overflow_mul-at : goal.overflow_mul-at
 overflow_mul-at c =
-    let g = c.loop-roster.invariant.going.answers_left in let e = long-answers c in omega arith
+    let g = c.well_formed in let h = c.loop-roster.invariant.going.tickets_left in search rules
 
 pub overflow_add-t : goal.overflow_add-t
 overflow_add-t c =
-    let g = (start c).well-formed in search rules
+    let g = c.well_formed in let h = (has c).ticket in search rules
 
 pub slice_bounds-t-count : goal.slice_bounds-t-count
 slice_bounds-t-count c =
-    let g = c.loop-roster.invariant.going.reports_left in let e = long-reports c in omega arith
+    omega arith
 
 pub slice_bounds-t-start : goal.slice_bounds-t-start
 slice_bounds-t-start c =
-    let h = (room c).ticket in let g = (start (head c)).good in search rules
+    let g = c.well_formed in let h = (has c).ticket in search rules
 
 pub slice_bounds-t-end : goal.slice_bounds-t-end
 slice_bounds-t-end c =
-    let h = (room c).ticket in let g = (start (head c)).good in search rules
+    let g = c.well_formed in let h = (has c).ticket in search rules
 
 pub slice_bounds-see-end : goal.slice_bounds-see-end
 slice_bounds-see-end c =
-    let h = (room c).ticket in let g = (start (head c)).good in search rules
+    let h = c.loop-roster.invariant.index.headed in search rules
 
 pub slice_bounds-see-end-in-loop-roster : goal.slice_bounds-see-end-in-loop-roster
 slice_bounds-see-end-in-loop-roster c =
-    let h = (room c).ticket in let g = (start (head c)).good in search rules
+    let h = c.loop-roster.invariant.index.linked in search rules
 
 pub slice_bounds-see-end-in-loop-roster-2 : goal.slice_bounds-see-end-in-loop-roster-2
 slice_bounds-see-end-in-loop-roster-2 c =
-    let h = (room c).ticket in let g = (start (head c)).good in search rules
+    let h = c.loop-roster.invariant.index.long in search rules
 
 pub see-sight-requires : goal.see-sight-requires
 see-sight-requires c =
-    let h = (to.head-from-After-heads2 c).loop.invariant.index.headed in search rules
-
-pub enum_known-sight : goal.enum_known-sight
-enum_known-sight c =
-    let h = (to.head-from-After-links2 c).loop.invariant.index.linked in search rules
-
-pub enum_told-1 : goal.enum_told-1
-enum_told-1 c =
-    let h = (to.head-from-After-keys2 c).loop.invariant.index.long in search rules
-
-pub refusal_of-requires : goal.refusal_of-requires
-refusal_of-requires c =
-    let h = to.head-from-After-keys2 c in
-    let d = (start h).pre.1 in
-    (whole-ticket (to.room-from-After-keys2 c), d.senders, keys-lent (sound h) h.loop.inv.index, d.payees)
+    let h = c.loop-roster.invariant in
+    let d = c.requires.1 in
+    (is_whole (goal.at.see-sight-requires c).In-loop-roster, d.senders, keys-lent h.going.sound h.index, d.payees)
 
 pub put_answer-requires : goal.put_answer-requires
 put_answer-requires c =
-    let h = (room (to.room-from-After-refusal-of c)).answer in
-    let e = long-answers (to.head-from-After-refusal-of c) in
+    let h = (has (goal.at.put_answer-requires c).In-loop-roster).answer in
+    let e = long-answers c.loop-roster.invariant in
     omega arith
 
 pub overflow_add-taken : goal.overflow_add-taken
 overflow_add-taken c =
-    let h = next_fits (to.room-from-After-slice-known3 c) in omega arith
+    let g = c.well_formed in let h = (has (goal.at.overflow_add-taken c).In-loop-roster).ticket in search rules
 
 pub loop-roster-smaller-in_default : goal.loop-roster-smaller-in_default
 loop-roster-smaller-in_default c =
-    let h = (room (to.room-from-After-slice-known3 c)).ticket in omega arith
+    let h = (has (goal.at.loop-roster-smaller-in_default c).In-loop-roster).ticket in omega arith
 
 pub loop-roster-preserved-in_default : goal.loop-roster-preserved-in_default
 loop-roster-preserved-in_default c =
-    refused-on c
+    let h = c.loop-roster.invariant in
+    let whole = is_whole (goal.at.loop-roster-preserved-in_default c).In-loop-roster in
+    let held = ticket-bytes (slice-bytes _ c.type_inv.tickets) c.loop-roster.taken in
+    let e = else_refused c.see-sight.result c.in_default.not-Read in
+    let r = refused-as h c.requires.0.roster c.requires.1 whole held c.see-sight.ensures e in
+    kept_on h (more h c.room_left.ensures c.loop-roster-test.true) (ticket_is c.args.tickets.now c.loop-roster.taken)
+    (refused-done h c.requires.0.roster c.requires.1 whole held c.see-sight.ensures e)
+    (ap (λ (n : ℕ). record { refusal = n; reports = 0; rows = 0 }) c.refusal_of.ensures ∙ refused-answer c.loop-roster.b _ _ r.0 r.1)
+    c.put_answer.ensures
 
 pub loop-next-init : goal.loop-next-init
 loop-next-init c =
-    let h = outer c in
-    (loop-begun (taken c) h.loop.inv.passed, omega arith, h.loop.inv.few)
+    let h = c.loop-roster.invariant in
+    (loop-begun (passes c) h.passed, omega arith, h.few)
 
 pub offset_bounds-b-next : goal.offset_bounds-b-next
 offset_bounds-b-next c =
-    let h = number-below c in search rules
+    let w = c.loop-next.invariant in
+    let h = number-below (passes (goal.at.offset_bounds-b-next c).In-Read) w.0 w.2 c.loop-next-test.true in search rules
 
 pub bounds-b-next : goal.bounds-b-next
 bounds-b-next c =
-    number-below c
+    let w = c.loop-next.invariant in
+    number-below (passes (goal.at.bounds-b-next c).In-Read) w.0 w.2 c.loop-next-test.true
 
 pub is_young-requires : goal.is_young-requires
 is_young-requires c =
-    early (goal.at.is_young-requires c).In-loop-next
+    let w = c.loop-next.invariant in
+    early (passes (goal.at.is_young-requires c).In-Read) w.0 w.2 c.loop-next-test.true
 
 pub offset_bounds-roster-payee : goal.offset_bounds-roster-payee
 offset_bounds-roster-payee c =
-    let h = payee-below (to.sweeping-from-Else2 c) in search rules
+    let w = c.loop-next.invariant in
+    let h = payee-below (passes (goal.at.offset_bounds-roster-payee c).In-Read) w.0 w.2 c.loop-next-test.true in search rules
 
 pub bounds-roster-payee : goal.bounds-roster-payee
 bounds-roster-payee c =
-    payee-below (to.sweeping-from-Else2 c)
+    let w = c.loop-next.invariant in
+    payee-below (passes (goal.at.bounds-roster-payee c).In-Read) w.0 w.2 c.loop-next-test.true
 
 pub expire-lapse-requires : goal.expire-lapse-requires
 expire-lapse-requires c =
-    let i = to.sweeping-from-After-is-bank c in
-    let h = payer-below i in
-    let k = payee-below i in
-    let m = number-below i in
-    (early i, omega arith, omega arith, omega arith)
+    let u = passes (goal.at.expire-lapse-requires c).In-Read in
+    let w = c.loop-next.invariant in
+    let h = payer-below u w.0 w.2 c.loop-next-test.true in
+    let k = payee-below u w.0 w.2 c.loop-next-test.true in
+    let m = number-below u w.0 w.2 c.loop-next-test.true in
+    (early u w.0 w.2 c.loop-next-test.true, omega arith, omega arith, omega arith)
 
 pub offset_bounds-b-next-in-loop-next : goal.offset_bounds-b-next-in-loop-next
 offset_bounds-b-next-in-loop-next c =
-    let h = number-below (to.sweeping-from-After-order c) in search rules
+    let w = c.loop-next.invariant in
+    let h = number-below (passes (goal.at.offset_bounds-b-next-in-loop-next c).In-Read) w.0 w.2 c.loop-next-test.true in search rules
 
 pub bounds-b-next-in-loop-next : goal.bounds-b-next-in-loop-next
 bounds-b-next-in-loop-next c =
-    number-below (to.sweeping-from-After-order c)
+    let w = c.loop-next.invariant in
+    number-below (passes (goal.at.bounds-b-next-in-loop-next c).In-Read) w.0 w.2 c.loop-next-test.true
 
 pub offset_bounds-b-who : goal.offset_bounds-b-who
 offset_bounds-b-who c =
-    let h = (freeable (to.lapse-from-After-freed c)).who in search rules
+    let w = c.loop-next.invariant in
+    let h = (freeable (passes (goal.at.offset_bounds-b-who c).In-Read) w.0 w.2 c.loop-next-test.true c.loop-roster.invariant.roster
+    c.is_bank-bank.ensures c.expire-lapse.ensures).who in search rules
 
 pub bounds-b-who : goal.bounds-b-who
 bounds-b-who c =
-    (freeable (to.lapse-from-After-freed c)).who
+    let w = c.loop-next.invariant in
+    (freeable (passes (goal.at.bounds-b-who c).In-Read) w.0 w.2 c.loop-next-test.true c.loop-roster.invariant.roster
+    c.is_bank-bank.ensures c.expire-lapse.ensures).who
 
 pub moved-requires : goal.moved-requires
 moved-requires c =
-    (freeable (to.lapse-from-After-moved-arg c)).fits
+    let w = c.loop-next.invariant in
+    (freeable (passes (goal.at.moved-requires c).In-Read) w.0 w.2 c.loop-next-test.true c.loop-roster.invariant.roster
+    c.is_bank-bank.ensures c.expire-lapse.ensures).fits
 
 pub offset_bounds-b-who-in-loop-next : goal.offset_bounds-b-who-in-loop-next
 offset_bounds-b-who-in-loop-next c =
-    let h = (freeable (to.lapse-from-After-moved c)).who in search rules
+    let w = c.loop-next.invariant in
+    let h = (freeable (passes (goal.at.offset_bounds-b-who-in-loop-next c).In-Read) w.0 w.2 c.loop-next-test.true
+    c.loop-roster.invariant.roster c.is_bank-bank.ensures c.expire-lapse.ensures).who in search rules
 
 pub bounds-b-who-in-loop-next : goal.bounds-b-who-in-loop-next
 bounds-b-who-in-loop-next c =
-    (freeable (to.lapse-from-After-moved c)).who
+    let w = c.loop-next.invariant in
+    (freeable (passes (goal.at.bounds-b-who-in-loop-next c).In-Read) w.0 w.2 c.loop-next-test.true
+    c.loop-roster.invariant.roster c.is_bank-bank.ensures c.expire-lapse.ensures).who
 
 pub put_told-n-requires : goal.put_told-n-requires
 put_told-n-requires c =
-    told-fits (to.lapse-from-After-put-told-arg c)
+    let w = c.loop-next.invariant in
+    told-fits (passes (goal.at.put_told-n-requires c).In-Read) w.0 w.2 c.loop-next-test.true c.loop-roster.invariant.roster
+    c.is_bank-bank.ensures c.expire-lapse.ensures
+    (let h = (has (goal.at.put_told-n-requires c).In-loop-roster).report in let e = long-reports c.loop-roster.invariant in omega arith)
 
 pub overflow_add-next : goal.overflow_add-next
 overflow_add-next c =
-    let h = number-below (to.sweeping-from-After-slice-known4 c) in search rules
+    let w = c.loop-next.invariant in
+    let h = number-below (passes (goal.at.overflow_add-next c).In-Read) w.0 w.2 c.loop-next-test.true in search rules
 
 pub loop-next-smaller : goal.loop-next-smaller
 loop-next-smaller c =
-    let h = below (to.sweeping-from-After-slice-known4 c) in search rules
+    let w = c.loop-next.invariant in
+    let h = below (passes (goal.at.loop-next-smaller c).In-Read) w.0 w.2 c.loop-next-test.true in omega arith
 
 pub loop-next-preserved : goal.loop-next-preserved
 loop-next-preserved c =
-    one-expired c
+    let u = passes (goal.at.loop-next-preserved c).In-Read in
+    let w = c.loop-next.invariant in
+    let l = below u w.0 w.2 c.loop-next-test.true in
+    (
+      one-expired u w.0 w.2 c.loop-next-test.true c.loop-roster.invariant.roster c.is_bank-bank.ensures c.expire-lapse.ensures
+          (ltb-false _ _ (sym c.is_young.ensures ∙ c.if-is_young.false)) _ _ _
+          (ap
+          (λ (z : Cover).
+          record {
+            clock = c.loop-next.b.clock;
+            covers = set c.loop-next.b.covers c.expire-lapse.result.freed.who z;
+            orders = set c.loop-next.b.orders c.loop-next.next c.expire-lapse.result.order;
+            count = c.loop-next.b.count;
+            roster = c.loop-next.b.roster;
+          })
+          c.moved.ensures)
+          c.put_told-n.ensures.1 c.put_told-n.ensures.0,
+      let h = w.1 in omega arith,
+      omega arith,
+    )
 
 pub any_open-unconfirmed-requires : goal.any_open-unconfirmed-requires
 any_open-unconfirmed-requires c =
-    (to.start-from-After-covers2 c).requires.0.roster.size
+    c.requires.0.roster.size
 
 pub offset_bounds-b-p : goal.offset_bounds-b-p
 offset_bounds-b-p c =
-    let h = sender-number c in search rules
+    let h = sender-in (expired (goal.at.offset_bounds-b-p c).Left-loop-next) (found c) in search rules
 
 pub bounds-b-p : goal.bounds-b-p
 bounds-b-p c =
-    sender-number c
+    sender-in (expired (goal.at.bounds-b-p c).Left-loop-next) (found c)
 
 pub offset_bounds-b-i : goal.offset_bounds-b-i
 offset_bounds-b-i c =
-    let h = order-number (goal.at.offset_bounds-b-i c).After-number_of-i in search rules
+    let h = order-in (expired (goal.at.offset_bounds-b-i c).Left-loop-next) (found (goal.at.offset_bounds-b-i c).After-number_of-i) in
+    search rules
 
 pub bounds-b-i : goal.bounds-b-i
 bounds-b-i c =
-    order-number (goal.at.bounds-b-i c).After-number_of-i
+    order-in (expired (goal.at.bounds-b-i c).Left-loop-next) (found (goal.at.bounds-b-i c).After-number_of-i)
 
 pub offset_bounds-roster-payee-in-loop-roster : goal.offset_bounds-roster-payee-in-loop-roster
 offset_bounds-roster-payee-in-loop-roster c =
-    let h = payee-number (goal.at.offset_bounds-roster-payee-in-loop-roster c).After-number_of-i in search rules
+    let h = payee-in (expired (goal.at.offset_bounds-roster-payee-in-loop-roster c).Left-loop-next)
+    (found (goal.at.offset_bounds-roster-payee-in-loop-roster c).After-number_of-i) in
+    search rules
 
 pub bounds-roster-payee-in-loop-roster : goal.bounds-roster-payee-in-loop-roster
 bounds-roster-payee-in-loop-roster c =
-    payee-number (goal.at.bounds-roster-payee-in-loop-roster c).After-number_of-i
+    payee-in (expired (goal.at.bounds-roster-payee-in-loop-roster c).Left-loop-next)
+    (found (goal.at.bounds-roster-payee-in-loop-roster c).After-number_of-i)
 
 pub judge-v-requires : goal.judge-v-requires
 judge-v-requires c =
-    swept-total-few c
+    total-few (expired (goal.at.judge-v-requires c).Left-loop-next) c.loop-roster.invariant.sum
+
+-- refused from 12 on: its turn is done
+late : (c : After-judge-v) → (c.judge-v.result.refusal ≡ 0 → ⊥)
+    → Expired c.loop-roster.b (ticket_at c.args.tickets.now c.loop-roster.taken) (entry_by c.in-Read.s) c.loop-roster.n
+    c.loop-roster.reports c.loop-next.b c.loop-next.next c.loop-next.n c.loop-next.reports
+    → c.judge-v.result
+    ≡ verdict_of (facts_of (sought c.loop-next.b (entry_by c.in-Read.s) (ticket_at c.args.tickets.now c.loop-roster.taken)))
+    → Done (words_in c.loop-roster.b.roster) row_bucket c.loop-roster.b (ticket_at c.args.tickets.now c.loop-roster.taken) c.loop-roster.n
+    c.loop-roster.reports c.loop-next.b c.judge-v.result.refusal 0 c.loop-next.n c.loop-next.reports c.loop-next.next c.loop-roster.keys
+    c.loop-roster.heads c.loop-roster.links c.loop-roster.total
+late c refused w is =
+    let alone : c.judge-v.result ≡ refused_verdict c.judge-v.result.refusal =
+    subst (λ (y : Verdict). y ≡ refused_verdict y.refusal) (sym is)
+    (refused-alone (facts_of (sought c.loop-next.b (entry_by c.in-Read.s) (ticket_at c.args.tickets.now c.loop-roster.taken)))
+    (λ none. refused (ap (λ (y : Verdict). y.refusal) is ∙ none))) in
+    did_nothing w is (nothing-carried w alone c.loop-roster.invariant.sum) c.loop-roster.invariant.index
+    (ap (λ (y : Verdict). y.does) alone) refl
 
 pub overflow_sub-n : goal.overflow_sub-n
 overflow_sub-n c =
-    let h = (late-done (to.late-from-After-put-answer-arg2 c)).told in omega arith
+    let w = expired (goal.at.overflow_sub-n c).Left-loop-next in
+    let f = found (goal.at.overflow_sub-n c).After-number_of-i in
+    let is = verdict-is (goal.at.overflow_sub-n c).After-judge-v w f in
+    let d = late (goal.at.overflow_sub-n c).After-judge-v c.if-refused.true w is in
+    let h = d.told in omega arith
 
 pub overflow_cast-n : goal.overflow_cast-n
 overflow_cast-n c =
-    let d = late-done (to.late-from-After-put-answer-arg2 c) in let h = d.told in let few = d.few_told in omega arith
+    let w = expired (goal.at.overflow_cast-n c).Left-loop-next in
+    let f = found (goal.at.overflow_cast-n c).After-number_of-i in
+    let is = verdict-is (goal.at.overflow_cast-n c).After-judge-v w f in
+    let d = late (goal.at.overflow_cast-n c).After-judge-v c.if-refused.true w is in
+    let h = d.told in let few = d.few_told in omega arith
 
 pub put_answer-requires-then-refused : goal.put_answer-requires-then-refused
 put_answer-requires-then-refused c =
-    let h = (room (to.room-from-After-put-answer-arg2 c)).answer in
-    let e = long-answers (to.head-from-After-put-answer-arg2 c) in
+    let h = (has (goal.at.put_answer-requires-then-refused c).In-loop-roster).answer in
+    let e = long-answers c.loop-roster.invariant in
     omega arith
 
 pub overflow_add-taken-then-refused : goal.overflow_add-taken-then-refused
 overflow_add-taken-then-refused c =
-    let h = next_fits (to.room-from-After-slice-known5 c) in omega arith
+    let g = c.well_formed in let h = (has (goal.at.overflow_add-taken-then-refused c).In-loop-roster).ticket in search rules
 
 pub loop-roster-smaller-then-refused : goal.loop-roster-smaller-then-refused
 loop-roster-smaller-then-refused c =
-    let h = (room (to.room-from-After-slice-known5 c)).ticket in omega arith
+    let h = (has (goal.at.loop-roster-smaller-then-refused c).In-loop-roster).ticket in omega arith
 
 pub loop-roster-preserved-then-refused : goal.loop-roster-preserved-then-refused
 loop-roster-preserved-then-refused c =
-    late-on c
+    let w = expired (goal.at.loop-roster-preserved-then-refused c).Left-loop-next in
+    let f = found (goal.at.loop-roster-preserved-then-refused c).After-number_of-i in
+    let is = verdict-is (goal.at.loop-roster-preserved-then-refused c).After-judge-v w f in
+    let d = late (goal.at.loop-roster-preserved-then-refused c).After-judge-v c.if-refused.true w is in
+    let h = c.loop-roster.invariant in
+    kept_on h (more h c.room_left.ensures c.loop-roster-test.true) (ticket_is c.args.tickets.now c.loop-roster.taken) d (answer-is d)
+    c.put_answer-then-refused.ensures
 
 pub offset_bounds-b-who-in-loop-roster : goal.offset_bounds-b-who-in-loop-roster
 offset_bounds-b-who-in-loop-roster c =
-    let h = (suits (to.judged-from-After-first c)).first in search rules
+    let w = expired (goal.at.offset_bounds-b-who-in-loop-roster c).Left-loop-next in
+    let f = found (goal.at.offset_bounds-b-who-in-loop-roster c).After-number_of-i in
+    let is = verdict-is (goal.at.offset_bounds-b-who-in-loop-roster c).After-judge-v w f in
+    let s = fits w is in
+    let h = s.first in search rules
 
 pub bounds-b-who-in-loop-roster : goal.bounds-b-who-in-loop-roster
 bounds-b-who-in-loop-roster c =
-    (suits (to.judged-from-After-first c)).first
+    let w = expired (goal.at.bounds-b-who-in-loop-roster c).Left-loop-next in
+    let f = found (goal.at.bounds-b-who-in-loop-roster c).After-number_of-i in
+    let is = verdict-is (goal.at.bounds-b-who-in-loop-roster c).After-judge-v w f in
+    let s = fits w is in
+    s.first
 
 pub moved-new-requires : goal.moved-new-requires
 moved-new-requires c =
-    (suits (to.judged-from-After-old c)).first_room
+    let w = expired (goal.at.moved-new-requires c).Left-loop-next in
+    let f = found (goal.at.moved-new-requires c).After-number_of-i in
+    let is = verdict-is (goal.at.moved-new-requires c).After-judge-v w f in
+    let s = fits w is in
+    s.first_room
 
 pub total_moved-total-requires : goal.total_moved-total-requires
 total_moved-total-requires c =
-    first-sum c
+    let w = expired (goal.at.total_moved-total-requires c).Left-loop-next in
+    let f = found (goal.at.total_moved-total-requires c).After-number_of-i in
+    let is = verdict-is (goal.at.total_moved-total-requires c).After-judge-v w f in
+    let s = fits w is in
+    let room = first_fits w s refl c.loop-roster.invariant.sum in
+    (s.first_room, room.0, room.1)
 
 pub offset_bounds-b-who-in-loop-roster-2 : goal.offset_bounds-b-who-in-loop-roster-2
 offset_bounds-b-who-in-loop-roster-2 c =
-    let h = (suits (to.judged-from-After-total-moved c)).first in search rules
+    let w = expired (goal.at.offset_bounds-b-who-in-loop-roster-2 c).Left-loop-next in
+    let f = found (goal.at.offset_bounds-b-who-in-loop-roster-2 c).After-number_of-i in
+    let is = verdict-is (goal.at.offset_bounds-b-who-in-loop-roster-2 c).After-judge-v w f in
+    let s = fits w is in
+    let h = s.first in search rules
 
 pub bounds-b-who-in-loop-roster-2 : goal.bounds-b-who-in-loop-roster-2
 bounds-b-who-in-loop-roster-2 c =
-    (suits (to.judged-from-After-total-moved c)).first
+    let w = expired (goal.at.bounds-b-who-in-loop-roster-2 c).Left-loop-next in
+    let f = found (goal.at.bounds-b-who-in-loop-roster-2 c).After-number_of-i in
+    let is = verdict-is (goal.at.bounds-b-who-in-loop-roster-2 c).After-judge-v w f in
+    let s = fits w is in
+    s.first
 
 pub offset_bounds-b-who-in-loop-roster-3 : goal.offset_bounds-b-who-in-loop-roster-3
 offset_bounds-b-who-in-loop-roster-3 c =
-    let h = (suits (to.judged-from-After-second c)).second in search rules
+    let w = expired (goal.at.offset_bounds-b-who-in-loop-roster-3 c).Left-loop-next in
+    let f = found (goal.at.offset_bounds-b-who-in-loop-roster-3 c).After-number_of-i in
+    let is = verdict-is (goal.at.offset_bounds-b-who-in-loop-roster-3 c).After-judge-v w f in
+    let s = fits w is in
+    let h = s.second in search rules
 
 pub bounds-b-who-in-loop-roster-3 : goal.bounds-b-who-in-loop-roster-3
 bounds-b-who-in-loop-roster-3 c =
-    (suits (to.judged-from-After-second c)).second
+    let w = expired (goal.at.bounds-b-who-in-loop-roster-3 c).Left-loop-next in
+    let f = found (goal.at.bounds-b-who-in-loop-roster-3 c).After-number_of-i in
+    let is = verdict-is (goal.at.bounds-b-who-in-loop-roster-3 c).After-judge-v w f in
+    let s = fits w is in
+    s.second
 
 pub gained-new-requires : goal.gained-new-requires
 gained-new-requires c =
-    ((suits (to.judged-from-After-old2 c)).second_gains, second-has c)
+    let w = expired (goal.at.gained-new-requires c).Left-loop-next in
+    let f = found (goal.at.gained-new-requires c).After-number_of-i in
+    let is = verdict-is (goal.at.gained-new-requires c).After-judge-v w f in
+    let s = fits w is in
+    (s.second_gains, second-room w s c.moved-new.ensures c.loop-roster.invariant.sum)
 
 pub total_moved-total-requires-in-loop-roster : goal.total_moved-total-requires-in-loop-roster
 total_moved-total-requires-in-loop-roster c =
-    second-sum c
+    let w = expired (goal.at.total_moved-total-requires-in-loop-roster c).Left-loop-next in
+    let f = found (goal.at.total_moved-total-requires-in-loop-roster c).After-number_of-i in
+    let is = verdict-is (goal.at.total_moved-total-requires-in-loop-roster c).After-judge-v w f in
+    let s = fits w is in
+    let sum = c.loop-roster.invariant.sum in
+    let old = cover_of c.loop-next.b.covers c.judge-v.result.first.who in
+    let all = all-with c.loop-roster.total c.total_moved-total.result old c.total_moved-total.ensures c.moved-new.ensures in
+    let room = second_fits w s c.moved-new.ensures sum all refl in
+    (second-room w s c.moved-new.ensures sum, room.0, room.1)
 
 pub offset_bounds-b-who-in-loop-roster-4 : goal.offset_bounds-b-who-in-loop-roster-4
 offset_bounds-b-who-in-loop-roster-4 c =
-    let h = (suits (to.judged-from-After-total-moved2 c)).second in search rules
+    let w = expired (goal.at.offset_bounds-b-who-in-loop-roster-4 c).Left-loop-next in
+    let f = found (goal.at.offset_bounds-b-who-in-loop-roster-4 c).After-number_of-i in
+    let is = verdict-is (goal.at.offset_bounds-b-who-in-loop-roster-4 c).After-judge-v w f in
+    let s = fits w is in
+    let h = s.second in search rules
 
 pub bounds-b-who-in-loop-roster-4 : goal.bounds-b-who-in-loop-roster-4
 bounds-b-who-in-loop-roster-4 c =
-    (suits (to.judged-from-After-total-moved2 c)).second
+    let w = expired (goal.at.bounds-b-who-in-loop-roster-4 c).Left-loop-next in
+    let f = found (goal.at.bounds-b-who-in-loop-roster-4 c).After-number_of-i in
+    let is = verdict-is (goal.at.bounds-b-who-in-loop-roster-4 c).After-judge-v w f in
+    let s = fits w is in
+    s.second
 
 pub put_notices-n-requires : goal.put_notices-n-requires
 put_notices-n-requires c =
-    let f = suits (to.judged-from-After-put-notices-arg c) in (f.told, f.also, f.number, notices-fit c)
+    let w = expired (goal.at.put_notices-n-requires c).Left-loop-next in
+    let f = found (goal.at.put_notices-n-requires c).After-number_of-i in
+    let is = verdict-is (goal.at.put_notices-n-requires c).After-judge-v w f in
+    let s = fits w is in
+    let has = (has (goal.at.put_notices-n-requires c).In-loop-roster).report in
+    let long = long-reports c.loop-roster.invariant in
+    (s.told, s.also, s.number, told-room w s (omega arith))
 
 pub slice_bounds-copy-end : goal.slice_bounds-copy-end
 slice_bounds-copy-end c =
-    let h = whole-ticket (to.room-from-After-enum-told3 c) in search rules
+    let h = is_whole (goal.at.slice_bounds-copy-end c).In-loop-roster in search rules
 
 pub copy-requires : goal.copy-requires
 copy-requires c =
-    txid-long (to.room-from-After-txid c)
+    txid-long _ (is_whole (goal.at.copy-requires c).In-loop-roster)
 
 pub slice_bounds-put_key-end : goal.slice_bounds-put_key-end
 slice_bounds-put_key-end c =
-    let h = (to.head-from-After-heads3 c).loop.invariant.index.headed in search rules
+    let h = c.loop-roster.invariant.index.headed in search rules
 
 pub slice_bounds-put_key-end-in-Opens : goal.slice_bounds-put_key-end-in-Opens
 slice_bounds-put_key-end-in-Opens c =
-    let h = (to.head-from-After-links3 c).loop.invariant.index.linked in search rules
+    let h = c.loop-roster.invariant.index.linked in search rules
 
 pub slice_bounds-put_key-end-in-Opens-2 : goal.slice_bounds-put_key-end-in-Opens-2
 slice_bounds-put_key-end-in-Opens-2 c =
-    let h = (to.head-from-After-keys3 c).loop.invariant.index.long in search rules
+    let h = c.loop-roster.invariant.index.long in search rules
 
 pub slice_bounds-put_key-end-in-Opens-3 : goal.slice_bounds-put_key-end-in-Opens-3
 slice_bounds-put_key-end-in-Opens-3 c =
-    let h = whole-ticket (to.room-from-After-keys3 c) in search rules
+    let h = is_whole (goal.at.slice_bounds-put_key-end-in-Opens-3 c).In-loop-roster in search rules
 
 pub slice_bounds-put_key-end-in-Opens-4 : goal.slice_bounds-put_key-end-in-Opens-4
 slice_bounds-put_key-end-in-Opens-4 c =
-    let h = whole-ticket (to.room-from-After-put-key-arg c) in search rules
+    let h = is_whole (goal.at.slice_bounds-put_key-end-in-Opens-4 c).In-loop-roster in search rules
 
 pub put_key-requires : goal.put_key-requires
 put_key-requires c =
-    let x = (to.head-from-After-put-key-arg2 c).loop.invariant.index in
-    let few = space (to.opens-from-After-put-key-arg2 c) in
+    let w = expired (goal.at.put_key-requires c).Left-loop-next in
+    let f = found (goal.at.put_key-requires c).After-number_of-i in
+    let is = verdict-is (goal.at.put_key-requires c).After-judge-v w f in
+    let s = fits w is in
+    let x = c.loop-roster.invariant.index in
+    let few = s.opens c.in-Opens.is in
     let linked = x.linked in
     let long = x.long in
-    let r = to.room-from-After-put-key-arg2 c in
-    (x.headed, omega arith, omega arith, omega arith, sender-long r, txid-long r)
+    let t = is_whole (goal.at.put_key-requires c).In-loop-roster in
+    (x.headed, omega arith, omega arith, omega arith, sender-long _ t, txid-long _ t)
 
 pub offset_bounds-b-k : goal.offset_bounds-b-k
 offset_bounds-b-k c =
-    let h = space (to.opens-from-After-reached c) in search rules
+    let w = expired (goal.at.offset_bounds-b-k c).Left-loop-next in
+    let f = found (goal.at.offset_bounds-b-k c).After-number_of-i in
+    let is = verdict-is (goal.at.offset_bounds-b-k c).After-judge-v w f in
+    let s = fits w is in
+    let h = s.opens c.in-Opens.is in search rules
 
 pub bounds-b-k : goal.bounds-b-k
 bounds-b-k c =
-    space (to.opens-from-After-reached c)
+    let w = expired (goal.at.bounds-b-k c).Left-loop-next in
+    let f = found (goal.at.bounds-b-k c).After-number_of-i in
+    let is = verdict-is (goal.at.bounds-b-k c).After-judge-v w f in
+    let s = fits w is in
+    s.opens c.in-Opens.is
 
 pub overflow_add-b : goal.overflow_add-b
 overflow_add-b c =
-    let h = space (to.opens-from-After-reached c) in search rules
+    let w = expired (goal.at.overflow_add-b c).Left-loop-next in
+    let f = found (goal.at.overflow_add-b c).After-number_of-i in
+    let is = verdict-is (goal.at.overflow_add-b c).After-judge-v w f in
+    let s = fits w is in
+    let h = s.opens c.in-Opens.is in search rules
 
 pub offset_bounds-b-i-in-Becomes : goal.offset_bounds-b-i-in-Becomes
 offset_bounds-b-i-in-Becomes c =
-    let h = order-number (to.numbers-from-After-known-told2 c) in search rules
-
-pub bounds-b-i-in-Becomes : goal.bounds-b-i-in-Becomes
-bounds-b-i-in-Becomes c =
-    order-number (to.numbers-from-After-known-told2 c)
+    let h = order-in (expired (goal.at.offset_bounds-b-i-in-Becomes c).Left-loop-next) (found (goal.at.offset_bounds-b-i-in-Becomes c).After-number_of-i) in
+    search rules
 
 pub offset_bounds-b-i-in-Becomes-2 : goal.offset_bounds-b-i-in-Becomes-2
 offset_bounds-b-i-in-Becomes-2 c =
-    let h = order-number (to.numbers-from-After-with-status c) in search rules
+    let h = order-in (expired (goal.at.offset_bounds-b-i-in-Becomes-2 c).Left-loop-next) (found (goal.at.offset_bounds-b-i-in-Becomes-2 c).After-number_of-i) in
+    search rules
+
+pub bounds-b-i-in-Becomes : goal.bounds-b-i-in-Becomes
+bounds-b-i-in-Becomes c =
+    order-in (expired (goal.at.bounds-b-i-in-Becomes c).Left-loop-next) (found (goal.at.bounds-b-i-in-Becomes c).After-number_of-i)
 
 pub bounds-b-i-in-Becomes-2 : goal.bounds-b-i-in-Becomes-2
 bounds-b-i-in-Becomes-2 c =
-    order-number (to.numbers-from-After-with-status c)
+    order-in (expired (goal.at.bounds-b-i-in-Becomes-2 c).Left-loop-next) (found (goal.at.bounds-b-i-in-Becomes-2 c).After-number_of-i)
 
 pub put_cut-n-requires : goal.put_cut-n-requires
 put_cut-n-requires c =
-    (few-participants c, cut_fits c)
+    let w = expired (goal.at.put_cut-n-requires c).Left-loop-next in
+    let f = found (goal.at.put_cut-n-requires c).After-number_of-i in
+    let is = verdict-is (goal.at.put_cut-n-requires c).After-judge-v w f in
+    let s = fits w is in
+    let has = (has (goal.at.put_cut-n-requires c).In-loop-roster).report in
+    let long = long-reports c.loop-roster.invariant in
+    let k = carried (goal.at.put_cut-n-requires c).After-put_notices-n w s in
+    let ours = sym c.loop-roster.invariant.roster in
+    (cut-size w s k c.in-Cuts.is ours, cut-room w s k c.in-Cuts.is ours (omega arith))
 
 pub cut_covers-after-requires : goal.cut_covers-after-requires
 cut_covers-after-requires c =
-    let p = to.cutting-from-After-slice-known7 c in (few-participants p, uncut-whole p)
+    let w = expired (goal.at.cut_covers-after-requires c).Left-loop-next in
+    let f = found (goal.at.cut_covers-after-requires c).After-number_of-i in
+    let is = verdict-is (goal.at.cut_covers-after-requires c).After-judge-v w f in
+    let s = fits w is in
+    let k = carried (goal.at.cut_covers-after-requires c).After-put_notices-n w s in
+    let ours = sym c.loop-roster.invariant.roster in
+    (cut-size w s k c.in-Cuts.is ours, cut-whole w s k c.in-Cuts.is ours)
+
+-- whatever becomes of the order, the turn was one step of the rules
+module _ (c : Joined-does)
+    (w : Expired c.loop-roster.b (ticket_at c.args.tickets.now c.loop-roster.taken) (entry_by c.in-Read.s) c.loop-roster.n
+    c.loop-roster.reports c.loop-next.b c.loop-next.next c.loop-next.n c.loop-next.reports)
+    (f : Searched c.loop-roster.b (ticket_at c.args.tickets.now c.loop-roster.taken) (entry_by c.in-Read.s) c.in-Read.s.sender
+    c.in-Read.s.order c.in-Read.s.route c.number_of-p.result c.number_of-i.result)
+    (is : c.judge-v.result
+    ≡ verdict_of (facts_of (sought c.loop-next.b (entry_by c.in-Read.s) (ticket_at c.args.tickets.now c.loop-roster.taken))))
+    (k : CarriedOut c.loop-next.b c.judge-v.result c.loop-next.n c.loop-next.reports
+    (set (set c.loop-next.b.covers c.judge-v.result.first.who c.moved-new.result) c.judge-v.result.second.who c.gained-new.result)
+    c.total_moved-total-in-loop-roster.result c.put_notices-n.result c.put_notices-n.new.buffer) where
+  abbrev both : List Cover
+  both = set (set c.loop-next.b.covers c.judge-v.result.first.who c.moved-new.result) c.judge-v.result.second.who c.gained-new.result
+
+  abbrev t : List ℕ
+  t = ticket_at c.args.tickets.now c.loop-roster.taken
+
+  -- the new order, as the code makes it
+  abbrev newly : List ℕ → ℕ → Order
+  newly txid payee =
+      record {
+        txid = txid;
+        payer = c.number_of-p.result;
+        payee = payee;
+        amount = c.in-Read.s.amount;
+        time = c.loop-next.b.clock;
+        status = Waiting;
+      }
+
+  abbrev with-order : ℕ → ℕ → Order → Book
+  with-order i count o =
+      record {
+        clock = c.loop-next.b.clock;
+        covers = both;
+        orders = set c.loop-next.b.orders i o;
+        count = count;
+        roster = c.loop-next.b.roster;
+      }
+
+  done : Done (words_in c.loop-roster.b.roster) row_bucket c.loop-roster.b t c.loop-roster.n c.loop-roster.reports c.match-does.b
+      c.judge-v.result.refusal c.match-does.followed c.match-does.n c.match-does.reports c.loop-next.next c.match-does.keys
+      c.match-does.heads c.match-does.links c.total_moved-total-in-loop-roster.result
+  done =
+      let index = c.loop-roster.invariant.index in
+      let ours = sym c.loop-roster.invariant.roster in
+      let way = follows c.requires.1 c.in-Read.s.route c.end_of-way.ensures in
+      elim c.match-does.branch [
+        in-Nothing x ↦
+            done-as (did_nothing w is k index x.in-Nothing.is x.b-is) x.reports-is x.keys-is x.heads-is x.links-is x.n-is x.followed-is
+        | in-Opens x ↦
+            let words = ap (λ (s : List ℕ). key_words s (txid_field t)) (sym (sender-bic w is x.in-Opens.is)) in
+            done-as
+            (order-opened w is k index x.in-Opens.is (ap (newly _) x.reached.ensures ∙ new-order w f ours way x.copy.ensures) x.b-is
+            (x.rows_followed-followed.ensures ∙ ap rows_followed (way-is w f ours way)) refl (ap row_bucket words)
+            (bucket-inside (key_words (sender_of t) (txid_field t)))
+            x.put_key.ensures.0 x.put_key.ensures.1
+            (x.put_key.ensures.2 ∙ ap (sets c.loop-roster.keys (7 * c.loop-next.b.count)) words))
+            x.reports-is x.keys-is x.heads-is x.links-is x.n-is x.followed-is
+        | in-Becomes x ↦
+            done-as
+            (changed w is k index x.in-Becomes.is (number_is w f)
+            (x.b-is ∙ ap (with-order c.number_of-i.result c.loop-next.b.count) x.with_status-changed.ensures))
+            x.reports-is x.keys-is x.heads-is x.links-is x.n-is x.followed-is
+        | in-Cuts x ↦
+            done-as
+            (cut w is k index x.in-Cuts.is ours x.cut_covers-after.ensures x.b-is x.put_cut-n.ensures.1 x.put_cut-n.ensures.0)
+            x.reports-is x.keys-is x.heads-is x.links-is x.n-is x.followed-is
+      ]
 
 pub overflow_sub-n-in-loop-roster : goal.overflow_sub-n-in-loop-roster
 overflow_sub-n-in-loop-roster c =
-    let h = (done (to.done-from-After-row-known c)).told in omega arith
+    let w = expired (goal.at.overflow_sub-n-in-loop-roster c).Left-loop-next in
+    let f = found (goal.at.overflow_sub-n-in-loop-roster c).After-number_of-i in
+    let is = verdict-is (goal.at.overflow_sub-n-in-loop-roster c).After-judge-v w f in
+    let d = done (goal.at.overflow_sub-n-in-loop-roster c).Joined-does w f is (carried (goal.at.overflow_sub-n-in-loop-roster c).After-put_notices-n w (fits w is)) in
+    let h = d.told in omega arith
 
 pub overflow_cast-n-in-loop-roster : goal.overflow_cast-n-in-loop-roster
 overflow_cast-n-in-loop-roster c =
-    let d = done (to.done-from-After-row-known c) in let h = d.told in let few = d.few_told in omega arith
+    let w = expired (goal.at.overflow_cast-n-in-loop-roster c).Left-loop-next in
+    let f = found (goal.at.overflow_cast-n-in-loop-roster c).After-number_of-i in
+    let is = verdict-is (goal.at.overflow_cast-n-in-loop-roster c).After-judge-v w f in
+    let d = done (goal.at.overflow_cast-n-in-loop-roster c).Joined-does w f is (carried (goal.at.overflow_cast-n-in-loop-roster c).After-put_notices-n w (fits w is)) in
+    let h = d.told in let few = d.few_told in omega arith
 
 pub overflow_cast-followed : goal.overflow_cast-followed
 overflow_cast-followed c =
-    let h = (done (to.done-from-After-row-known2 c)).few_rows in omega arith
+    let w = expired (goal.at.overflow_cast-followed c).Left-loop-next in
+    let f = found (goal.at.overflow_cast-followed c).After-number_of-i in
+    let is = verdict-is (goal.at.overflow_cast-followed c).After-judge-v w f in
+    let d = done (goal.at.overflow_cast-followed c).Joined-does w f is (carried (goal.at.overflow_cast-followed c).After-put_notices-n w (fits w is)) in
+    let h = d.few_rows in omega arith
 
 pub put_answer-requires-in-loop-roster : goal.put_answer-requires-in-loop-roster
 put_answer-requires-in-loop-roster c =
-    let h = (room (to.room-from-After-row-known2 c)).answer in
-    let e = long-answers (to.head-from-After-row-known2 c) in
+    let h = (has (goal.at.put_answer-requires-in-loop-roster c).In-loop-roster).answer in
+    let e = long-answers c.loop-roster.invariant in
     omega arith
 
 pub overflow_add-taken-in-loop-roster : goal.overflow_add-taken-in-loop-roster
 overflow_add-taken-in-loop-roster c =
-    let h = next_fits (to.room-from-After-slice-known8 c) in omega arith
+    let g = c.well_formed in let h = (has (goal.at.overflow_add-taken-in-loop-roster c).In-loop-roster).ticket in search rules
 
 pub loop-roster-smaller : goal.loop-roster-smaller
 loop-roster-smaller c =
-    let h = (room (to.room-from-After-slice-known8 c)).ticket in omega arith
+    let h = (has (goal.at.loop-roster-smaller c).In-loop-roster).ticket in omega arith
 
 pub loop-roster-preserved : goal.loop-roster-preserved
 loop-roster-preserved c =
-    done_on c
-
-pub shape_of-answers : goal.shape_of-answers
-shape_of-answers c =
-    long-answers (last c)
-
-pub shape_of-reports : goal.shape_of-reports
-shape_of-reports c =
-    long-reports (last c)
+    let w = expired (goal.at.loop-roster-preserved c).Left-loop-next in
+    let f = found (goal.at.loop-roster-preserved c).After-number_of-i in
+    let is = verdict-is (goal.at.loop-roster-preserved c).After-judge-v w f in
+    let d = done (goal.at.loop-roster-preserved c).Joined-does w f is (carried (goal.at.loop-roster-preserved c).After-put_notices-n w (fits w is)) in
+    let h = c.loop-roster.invariant in
+    kept_on h (more h c.room_left.ensures c.loop-roster-test.true) (ticket_is c.args.tickets.now c.loop-roster.taken) d (answer-is d)
+    c.put_answer-in-loop-roster.ensures
 
 pub returns : goal.returns
 returns c =
-    let l = last c in ended (start l).args.t1 (tickets l) (answers₀ l) (reports₀ l) l.loop.inv.going (None-more c)
+    let h = c.loop-roster.invariant in
+    ended c.args.b c.args.tickets.now c.args.answers.now c.args.reports.now h.going
+    (none_more h c.room_left.ensures c.loop-roster-test.false)
