@@ -50,6 +50,6 @@ returns c =
       payees =
           bic-rows (λ i. (row_of c.args.roster.routes i).bic) c.route_bics_of-route_bics.ensures.1 g.route_bic g.route_distinct
           c.bic_chains-route_chains.ensures.0 (omega arith) (omega arith) c.bic_chains-route_chains.ensures.2;
-      kind = FIXME.told.Targets-of.ensures.0;
-      number = FIXME.told.Targets-of.ensures.1;
+      kind = c.targets_of-targets.ensures.0;
+      number = c.targets_of-targets.ensures.1;
     }
