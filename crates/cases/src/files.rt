@@ -9,22 +9,16 @@ use dayfile::limits;
 use dayfile::roster::{Roster, Route};
 use dayfile::route::Followed;
 use fields::Found;
-use libc::STDOUT_FILENO;
+use std::io;
 
-fn print_way(way: Followed) {
+fn print_way(rt: &impl Print, way: Followed) -> io::Result<()> {
     match way {
-        Followed::At(p, n) => {
-            print::print_number(p as u64);
-            io::write_all(STDOUT_FILENO, b"/");
-            io::print_decimal(STDOUT_FILENO, n as u64);
-        }
-        Followed::Nowhere => {
-            io::write_all(STDOUT_FILENO, b" -");
-        }
+        Followed::At(p, n) => print!(rt; " {p}/{n}"),
+        Followed::Nowhere => rt.write_all(b" -"),
     }
 }
 
-fn print_routes(r: Roster) {
+fn print_routes(rt: &impl Print, r: Roster) -> io::Result<()> {
     let rows = r.rows;
     let routes = r.routes;
     let targets = routes::targets_of(routes);
@@ -32,26 +26,27 @@ fn print_routes(r: Roster) {
     let numbers = targets.numbers;
     let mut i = 0;
     while i < rows {
-        print_way(routes::follow(&kinds, &numbers, i));
+        print_way(rt, routes::follow(&kinds, &numbers, i))?;
         i += 1;
     }
+    Ok(())
 }
 
-pub fn run_file(line: &[u8]) {
+pub fn run_file(rt: &impl Print, line: &[u8]) -> io::Result<()> {
     let name = words::find(line, 0, b' ');
-    io::write_all(STDOUT_FILENO, b"file ");
-    io::write_all(STDOUT_FILENO, &line[0..name]);
-    let mut buffer = io::large_buffer();
+    rt.write_all(b"file ")?;
+    rt.write_all(&line[0..name])?;
+    let mut buffer = [0u8; 65536];
     let n = bytes::put_bytes(line, name, &mut buffer);
     let d = dayread::read_day_file(&buffer[0..n]);
     let r = d.roster;
-    print::print_number(d.refusal as u64);
-    print::print_number(r.size as u64);
-    print::print_number(r.rows as u64);
-    print::print_number(d.tickets as u64);
-    print::print_number(d.first as u64);
-    print_routes(r);
-    print::print_end();
+    print::print_number(rt, d.refusal as u64)?;
+    print::print_number(rt, r.size as u64)?;
+    print::print_number(rt, r.rows as u64)?;
+    print::print_number(rt, d.tickets as u64)?;
+    print::print_number(rt, d.first as u64)?;
+    print_routes(rt, r)?;
+    print::print_end(rt)
 }
 
 fn has_bic(route: Route, bic: &[u8]) -> bool
@@ -100,18 +95,17 @@ fn way_of(f: &[u8], bic: &[u8]) -> Followed
     routes::end_of(&kinds, &numbers, row_with(r, bic))
 }
 
-pub fn run_way(line: &[u8]) {
+pub fn run_way(rt: &impl Print, line: &[u8]) -> io::Result<()> {
     let name = words::find(line, 0, b' ');
-    io::write_all(STDOUT_FILENO, b"way  ");
+    rt.write_all(b"way  ")?;
     if line.len() <= name {
-        io::write_all(STDOUT_FILENO, line);
-        io::write_all(STDOUT_FILENO, b" ?\n");
-        return;
+        rt.write_all(line)?;
+        return rt.write_all(b" ?\n");
     }
     let end = words::find(line, name + 1, b' ');
-    io::write_all(STDOUT_FILENO, &line[0..end]);
-    let mut buffer = io::large_buffer();
+    rt.write_all(&line[0..end])?;
+    let mut buffer = [0u8; 65536];
     let n = bytes::put_bytes(line, end, &mut buffer);
-    print_way(way_of(&buffer[0..n], &line[name + 1..end]));
-    print::print_end();
+    print_way(rt, way_of(&buffer[0..n], &line[name + 1..end]))?;
+    print::print_end(rt)
 }

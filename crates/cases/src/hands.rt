@@ -3,7 +3,7 @@ ghost use Rattle.std.specs.Prelude.{◌≤◌};
 
 use super::{bytes, print, words};
 use book::{handing, opening};
-use libc::STDOUT_FILENO;
+use std::io;
 
 // How long the report buffer is: at most 8,192 bytes.
 fn room(n: u64) -> usize
@@ -13,19 +13,19 @@ fn room(n: u64) -> usize
 }
 
 // The book is that of an empty file, without participants.
-pub fn run_hand(line: &[u8]) {
+pub fn run_hand(rt: &impl Print, line: &[u8]) -> io::Result<()> {
     let end = words::find(line, 0, b' ');
-    io::write_all(STDOUT_FILENO, b"hand ");
-    io::write_all(STDOUT_FILENO, &line[0..end]);
+    rt.write_all(b"hand ")?;
+    rt.write_all(&line[0..end])?;
     let most = room(words::number(&line[0..end]));
-    let mut buffer = io::buffer();
+    let mut buffer = [0u8; 4096];
     let n = bytes::put_bytes(line, end, &mut buffer);
     let mut reports = [0u8; 8192];
     let opened = opening::open(&buffer[0..0]);
     let b = opened.book;
     let h = handing::hand_in(b, &buffer[0..n], &mut reports[0..most]);
-    print::print_number(h.refusal as u64);
-    print::print_number(h.reports as u64);
-    print::print_number(h.rows as u64);
-    print::print_end();
+    print::print_number(rt, h.refusal as u64)?;
+    print::print_number(rt, h.reports as u64)?;
+    print::print_number(rt, h.rows as u64)?;
+    print::print_end(rt)
 }

@@ -22,44 +22,62 @@ mod print;
 mod tickets;
 mod words;
 
-use libc::{STDIN_FILENO, STDOUT_FILENO};
+ghost use Rattle.std.specs.Prelude.{◌≤◌, length, IfOk};
 
-fn run_line(line: &[u8]) {
+use std::io;
+use std::io::Read;
+
+fn run_line(rt: &impl Print, line: &[u8]) -> io::Result<()> {
     if line.len() < 5 {
-        io::write_all(STDOUT_FILENO, line);
-        io::write_all(STDOUT_FILENO, b" ?\n");
-        return;
+        rt.write_all(line)?;
+        return rt.write_all(b" ?\n");
     }
     let rest = &line[5..];
     let asked = line[0];
     match asked {
-        b'b' => print::print_answer(line, codes::zolfigar_bic_ok(rest)),
-        b'i' => print::print_answer(line, codes::zolfigar_iban_ok(rest)),
-        b'g' => print::print_answer(line, codes::zolfigar_iban_groups(rest)),
-        b't' => print::print_answer(line, codes::zolfigar_txid_ok(rest)),
-        b'r' => tickets::run_read(rest),
-        b'p' => tickets::run_part(rest),
-        b'f' => files::run_file(rest),
-        b'w' => files::run_way(rest),
-        b'h' => hands::run_hand(rest),
+        b'b' => print::print_answer(rt, line, codes::zolfigar_bic_ok(rest)),
+        b'i' => print::print_answer(rt, line, codes::zolfigar_iban_ok(rest)),
+        b'g' => print::print_answer(rt, line, codes::zolfigar_iban_groups(rest)),
+        b't' => print::print_answer(rt, line, codes::zolfigar_txid_ok(rest)),
+        b'r' => tickets::run_read(rt, rest),
+        b'p' => tickets::run_part(rt, rest),
+        b'f' => files::run_file(rt, rest),
+        b'w' => files::run_way(rt, rest),
+        b'h' => hands::run_hand(rt, rest),
         _ => {
-            io::write_all(STDOUT_FILENO, line);
-            io::write_all(STDOUT_FILENO, b" ?\n");
+            rt.write_all(line)?;
+            rt.write_all(b" ?\n")
         }
     }
 }
 
-fn run_lines(s: &[u8]) {
+fn run_lines(rt: &impl Print, s: &[u8]) -> io::Result<()> {
     let mut at = 0;
     while at < s.len() {
         let end = words::find(s, at, b'\n');
-        run_line(&s[at..end]);
+        run_line(rt, &s[at..end])?;
         at = end + 1;
     }
+    Ok(())
 }
 
-fn main() {
-    let mut buffer = io::large_buffer();
-    let n = io::read_full(STDIN_FILENO, &mut buffer);
-    run_lines(&buffer[..n]);
+// Fills the buffer from the input, as far as there is any. Answers how many bytes that are.
+fn read_full(input: &mut impl Read, buffer: &mut [u8]) -> io::Result<usize>
+    ensures { IfOk result (λ n. n ≤ length buffer.new) }
+{
+    let mut n = 0;
+    while n < buffer.len() {
+        let got = input.read(&mut buffer[n..])?;
+        if got == 0 {
+            break;
+        }
+        n += got;
+    }
+    Ok(n)
+}
+
+fn main(rt: HostRuntime) -> io::Result<()> {
+    let mut buffer = [0u8; 65536];
+    let n = read_full(&mut rt.stdin(), &mut buffer)?;
+    run_lines(&rt, &buffer[..n])
 }

@@ -1,8 +1,8 @@
 // Cases of tickets.
 use super::{bytes, print, words};
 use index::chains;
-use libc::STDOUT_FILENO;
 use sight::{Seen, Sight};
+use std::io;
 use ticket::kinds::Kind;
 use ticket::layout;
 
@@ -42,36 +42,36 @@ fn seen(t: &[u8]) -> Sight {
     )
 }
 
-fn print_fields(s: Seen) {
-    print::print_number(0);
+fn print_fields(rt: &impl Print, s: Seen) -> io::Result<()> {
+    print::print_number(rt, 0)?;
     let kind = s.kind;
-    print::print_number(kind_number(kind));
-    print::print_number(s.time as u64);
-    print::print_number(s.amount);
+    print::print_number(rt, kind_number(kind))?;
+    print::print_number(rt, s.time as u64)?;
+    print::print_number(rt, s.amount)
 }
 
-pub fn run_read(line: &[u8]) {
+pub fn run_read(rt: &impl Print, line: &[u8]) -> io::Result<()> {
     let name = words::find(line, 0, b' ');
-    io::write_all(STDOUT_FILENO, b"read ");
-    io::write_all(STDOUT_FILENO, &line[0..name]);
-    let mut buffer = io::buffer();
+    rt.write_all(b"read ")?;
+    rt.write_all(&line[0..name])?;
+    let mut buffer = [0u8; 4096];
     let n = bytes::put_bytes(line, name, &mut buffer);
     match seen(&buffer[0..n]) {
-        Sight::Read(s) => print_fields(s),
-        Sight::Refused(r) => print::print_number(r as u64),
+        Sight::Read(s) => print_fields(rt, s)?,
+        Sight::Refused(r) => print::print_number(rt, r as u64)?,
     }
-    print::print_end();
+    print::print_end(rt)
 }
 
-pub fn run_part(line: &[u8]) {
+pub fn run_part(rt: &impl Print, line: &[u8]) -> io::Result<()> {
     let name = words::find(line, 0, b' ');
-    io::write_all(STDOUT_FILENO, b"part ");
-    io::write_all(STDOUT_FILENO, &line[0..name]);
-    let mut buffer = io::buffer();
+    rt.write_all(b"part ")?;
+    rt.write_all(&line[0..name])?;
+    let mut buffer = [0u8; 4096];
     let n = bytes::put_bytes(line, name, &mut buffer);
     let part = ticket::txid(&buffer[0..n]);
-    print::print_number(part.len() as u64);
-    io::write_all(STDOUT_FILENO, b" ");
-    io::write_all(STDOUT_FILENO, part);
-    print::print_end();
+    print::print_number(rt, part.len() as u64)?;
+    rt.write_all(b" ")?;
+    rt.write_all(part)?;
+    print::print_end(rt)
 }

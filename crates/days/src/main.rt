@@ -1,55 +1,65 @@
 // The clearing program over many days. Standard input has for each day the lengths of its name and of its bytes, each in 4 bytes, the
 // highest first, at most 256 and 57,101, then the name and the bytes; on standard output stand a line with the name and the day's lines.
-// It ends where the input does, at a greater length, at a day that is cut off, and where nothing can be written.
+// It ends where the input does, at a greater length, at a day that is cut off, and with an error where nothing can be read or written.
 #![tactic(auto)]
 
 ghost use Rattle.std.specs.Prelude.{◌≤◌, length};
 
 use dayfile::limits;
-use libc::{STDIN_FILENO, STDOUT_FILENO};
+use std::io;
+use std::io::{ErrorKind, Read};
 
 // The next n bytes of the input to the start of the buffer, and whether there were as many.
-fn fill(buffer: &mut [u8], n: usize) -> bool
+fn fill(input: &mut impl Read, buffer: &mut [u8], n: usize) -> io::Result<bool>
     requires { n ≤ length buffer.old }
 {
-    io::read_full(STDIN_FILENO, &mut buffer[0..n]) == n
+    match input.read_exact(&mut buffer[0..n]) {
+        Ok(()) => Ok(true),
+        Err(e) if e.kind() == ErrorKind::UnexpectedEof => Ok(false),
+        Err(e) => Err(e),
+    }
 }
 
-fn print_name(name: &[u8]) -> bool {
-    io::write_all(STDOUT_FILENO, b"# ")
-        && io::write_all(STDOUT_FILENO, name)
-        && io::write_all(STDOUT_FILENO, b"\n")
+fn print_name(rt: &impl Print, name: &[u8]) -> io::Result<()> {
+    rt.write_all(b"# ")?;
+    rt.write_all(name)?;
+    rt.write_all(b"\n")
 }
 
 // One day, and whether there may be another.
-fn print_next() -> bool {
+fn print_next(rt: &impl Print, input: &mut impl Read) -> io::Result<bool> {
     let mut head = [0u8; 8];
-    if !fill(&mut head, 8) {
-        return false;
+    if !fill(input, &mut head, 8)? {
+        return Ok(false);
     }
     let named = fields::u32_at(&head, 0) as usize;
     let n = fields::u32_at(&head, 4) as usize;
     if named > 256 {
-        return false;
+        return Ok(false);
     }
     if n > limits::MOST_READ {
-        return false;
+        return Ok(false);
     }
     let mut name = [0u8; 256];
-    if !fill(&mut name, named) {
-        return false;
+    if !fill(input, &mut name, named)? {
+        return Ok(false);
     }
     let mut buffer = [0u8; limits::MOST_READ];
-    if !fill(&mut buffer, n) {
-        return false;
+    if !fill(input, &mut buffer, n)? {
+        return Ok(false);
     }
-    print_name(&name[0..named]) && output::print_day(&buffer[0..n])
+    print_name(rt, &name[0..named])?;
+    output::print_day(rt, &buffer[0..n])?;
+    Ok(true)
 }
 
-// A proved loop has to end, and nothing says that the input does: so it counts its turns down, from a number that no run uses up.
-fn main() {
-    let mut turns = u64::MAX;
-    while turns > 0 && print_next() {
-        turns -= 1;
+// A proved loop has to end, and nothing says that the input does: so it takes at most a number of turns that no run uses up.
+fn main(rt: HostRuntime) -> io::Result<()> {
+    let mut input = rt.stdin();
+    for _ in 0..u64::MAX {
+        if !print_next(&rt, &mut input)? {
+            break;
+        }
     }
+    Ok(())
 }

@@ -1,28 +1,28 @@
 // Lines on standard output.
-use libc::STDOUT_FILENO;
+use std::io;
 
-pub fn print_name(name: &[u8]) {
-    io::write_all(STDOUT_FILENO, b"# ");
-    io::write_all(STDOUT_FILENO, name);
-    io::write_all(STDOUT_FILENO, b"\n");
+pub fn print_name(rt: &impl Print, name: &[u8]) -> io::Result<()> {
+    rt.write_all(b"# ")?;
+    rt.write_all(name)?;
+    rt.write_all(b"\n")
 }
 
-fn print_number(n: u64) {
-    io::write_all(STDOUT_FILENO, b" ");
-    io::print_decimal(STDOUT_FILENO, n);
+fn print_number(rt: &impl Print, n: u64) -> io::Result<()> {
+    print!(rt; " {n}")
 }
 
 // A letter, and each number behind a space.
-pub fn print_numbers(letter: &[u8], ns: &[u64]) {
-    io::write_all(STDOUT_FILENO, letter);
+pub fn print_numbers(rt: &impl Print, letter: &[u8], ns: &[u64]) -> io::Result<()> {
+    rt.write_all(letter)?;
     let mut i = 0;
     while i < ns.len() {
-        print_number(ns[i]);
+        print_number(rt, ns[i])?;
         i += 1;
     }
+    Ok(())
 }
 
-pub fn print_line(letter: &[u8], ns: &[u64]) {
-    print_numbers(letter, ns);
-    io::write_all(STDOUT_FILENO, b"\n");
+pub fn print_line(rt: &impl Print, letter: &[u8], ns: &[u64]) -> io::Result<()> {
+    print_numbers(rt, letter, ns)?;
+    rt.write_all(b"\n")
 }

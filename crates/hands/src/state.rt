@@ -3,66 +3,69 @@ ghost use Rattle.std.specs.Prelude.{◌≤◌};
 ghost use Rattle.rules.specs.Sound.{Sound};
 
 use super::print;
-use libc::STDOUT_FILENO;
 use rules::{Book, Cover, Order, Recall, Status};
+use std::io;
 
-fn print_cover(p: usize, c: Cover) {
-    print::print_line(b"C", &[p as u64, c.available, c.reserved, c.held, c.debit]);
+fn print_cover(rt: &impl Print, p: usize, c: Cover) -> io::Result<()> {
+    print::print_line(
+        rt,
+        b"C",
+        &[p as u64, c.available, c.reserved, c.held, c.debit],
+    )
 }
 
-fn print_covers(covers: [Cover; 32], size: usize)
+fn print_covers(rt: &impl Print, covers: [Cover; 32], size: usize) -> io::Result<()>
     requires { size ≤ 32 }
 {
     let mut p = 0;
     while p < size {
-        print_cover(p, covers[p]);
+        print_cover(rt, p, covers[p])?;
         p += 1;
     }
+    Ok(())
 }
 
 // Behind a space, with another behind it.
-fn print_word(word: &[u8]) {
-    io::write_all(STDOUT_FILENO, b" ");
-    io::write_all(STDOUT_FILENO, word);
-    io::write_all(STDOUT_FILENO, b" ");
+fn print_word(rt: &impl Print, word: &[u8]) -> io::Result<()> {
+    rt.write_all(b" ")?;
+    rt.write_all(word)?;
+    rt.write_all(b" ")
 }
 
 // Behind a space, with a hyphen and a time behind it.
-fn print_since(word: &[u8], at: u32) {
-    io::write_all(STDOUT_FILENO, b" ");
-    io::write_all(STDOUT_FILENO, word);
-    io::write_all(STDOUT_FILENO, b"-");
-    io::print_decimal(STDOUT_FILENO, at as u64);
+fn print_since(rt: &impl Print, word: &[u8], at: u32) -> io::Result<()> {
+    rt.write_all(b" ")?;
+    rt.write_all(word)?;
+    print!(rt; "-{at}")
 }
 
-fn print_settled(mark: Recall, at: u32) {
+fn print_settled(rt: &impl Print, mark: Recall, at: u32) -> io::Result<()> {
     match mark {
-        Recall::None => print_since(b"Settled-none", at),
-        Recall::Asked => print_since(b"Settled-asked", at),
-        Recall::Declined => print_since(b"Settled-declined", at),
+        Recall::None => print_since(rt, b"Settled-none", at)?,
+        Recall::Asked => print_since(rt, b"Settled-asked", at)?,
+        Recall::Declined => print_since(rt, b"Settled-declined", at)?,
     }
-    io::write_all(STDOUT_FILENO, b" ");
+    rt.write_all(b" ")
 }
 
-fn print_returned(at: u32, n: u64) {
-    print_since(b"Returned", at);
-    io::write_all(STDOUT_FILENO, b"-");
-    io::print_decimal(STDOUT_FILENO, n);
-    io::write_all(STDOUT_FILENO, b" ");
+fn print_returned(rt: &impl Print, at: u32, n: u64) -> io::Result<()> {
+    print_since(rt, b"Returned", at)?;
+    print!(rt; "-{n} ")
 }
 
-fn print_status(status: Status) {
+fn print_status(rt: &impl Print, status: Status) -> io::Result<()> {
     match status {
-        Status::Waiting => print_word(b"Waiting"),
-        Status::Refused => print_word(b"Refused"),
-        Status::Expired => print_word(b"Expired"),
-        Status::Returned(at, n) => print_returned(at, n),
-        Status::Settled(mark, at) => print_settled(mark, at),
+        Status::Waiting => print_word(rt, b"Waiting"),
+        Status::Refused => print_word(rt, b"Refused"),
+        Status::Expired => print_word(rt, b"Expired"),
+        Status::Returned(at, n) => print_returned(rt, at, n),
+        Status::Settled(mark, at) => print_settled(rt, mark, at),
     }
 }
 
-fn print_order(n: usize, o: Order) {
+fn print_order(rt: &impl Print, n: usize, o: Order) -> io::Result<()> {
     print::print_numbers(
+        rt,
         b"O",
         &[
             n as u64,
@@ -71,31 +74,32 @@ fn print_order(n: usize, o: Order) {
             o.amount,
             o.time as u64,
         ],
-    );
+    )?;
     let status = o.status;
-    print_status(status);
+    print_status(rt, status)?;
     let txid = o.txid;
-    io::write_all(STDOUT_FILENO, fields::unpadded(&txid));
-    io::write_all(STDOUT_FILENO, b"\n");
+    rt.write_all(fields::unpadded(&txid))?;
+    rt.write_all(b"\n")
 }
 
-fn print_orders(orders: [Order; 256], count: usize)
+fn print_orders(rt: &impl Print, orders: [Order; 256], count: usize) -> io::Result<()>
     requires { count ≤ 256 }
 {
     let mut n = 0;
     while n < count {
-        print_order(n, orders[n]);
+        print_order(rt, n, orders[n])?;
         n += 1;
     }
+    Ok(())
 }
 
-pub fn print_book(b: Book)
+pub fn print_book(rt: &impl Print, b: Book) -> io::Result<()>
     requires { Sound b }
 {
-    print::print_line(b"K", &[b.clock as u64]);
+    print::print_line(rt, b"K", &[b.clock as u64])?;
     let roster = b.roster;
     let covers = b.covers;
-    print_covers(covers, roster.size);
+    print_covers(rt, covers, roster.size)?;
     let orders = b.orders;
-    print_orders(orders, b.count);
+    print_orders(rt, orders, b.count)
 }

@@ -4,17 +4,19 @@
 //     M 0 TICKET              of an accepted text: the ticket's 108 bytes, each as two hexadecimal digits
 //     M refusal place what    of a refused one: at which byte it is wrong, and what is wrong there
 //
-// It ends where the input does, at a greater length, at a message that is cut off, and where nothing can be written. What is wrong, by
-// number: 1 the text is too long, 2 the declaration, 3 the root is due, 4 a tag is due, 5 what begins with < is no tag, 6 a tag isn't formed
-// as one, 7 an attribute's name stands twice, 8 the end tag of the open element is due, 9 elements nest too deep, 10 something stands behind
-// the root; 14 the amount's attributes, 15 the amount, 16 the sender, 17 the payee, 18 the TxId, 19 the IBAN; and for the named element of a
-// row, counted from 0 (`crates/pacs/specs/Named.antt`): 32 and the row where it is missing, 48 and the row where it holds an element, 64 and
-// the row where it stands again.
+// It ends where the input does, at a greater length, at a message that is cut off, and with an error where nothing can be read or written.
+//
+// What is wrong, by number: 1 the text is too long, 2 the declaration, 3 the root is due, 4 a tag is due, 5 what begins with < is no tag, 6 a
+// tag isn't formed as one, 7 an attribute's name stands twice, 8 the end tag of the open element is due, 9 elements nest too deep, 10
+// something stands behind the root; 14 the amount's attributes, 15 the amount, 16 the sender, 17 the payee, 18 the TxId, 19 the IBAN; and for
+// the named element of a row, counted from 0 (`crates/pacs/specs/Named.antt`): 32 and the row where it is missing, 48 and the row where it
+// holds an element, 64 and the row where it stands again.
 #![tactic(auto)]
 
 ghost use Rattle.std.specs.Prelude.{◌≤◌, length};
 
-use libc::{STDIN_FILENO, STDOUT_FILENO};
+use std::io;
+use std::io::{ErrorKind, Read};
 
 // The longest text, and one byte more: a longer one is refused like it.
 const MOST_READ: usize = 65_521;
@@ -22,18 +24,22 @@ const MOST_READ: usize = 65_521;
 const TICKET: usize = 108;
 
 // The next n bytes of the input to the start of the buffer, and whether there were as many.
-fn fill(buffer: &mut [u8], n: usize) -> bool
+fn fill(input: &mut impl Read, buffer: &mut [u8], n: usize) -> io::Result<bool>
     requires { n ≤ length buffer.old }
 {
-    io::read_full(STDIN_FILENO, &mut buffer[0..n]) == n
+    match input.read_exact(&mut buffer[0..n]) {
+        Ok(()) => Ok(true),
+        Err(e) if e.kind() == ErrorKind::UnexpectedEof => Ok(false),
+        Err(e) => Err(e),
+    }
 }
 
-fn print(s: &[u8]) -> bool {
-    io::write_all(STDOUT_FILENO, s)
+fn print(rt: &impl Print, s: &[u8]) -> io::Result<()> {
+    rt.write_all(s)
 }
 
-fn print_number(n: u64) -> bool {
-    print(b" ") && io::print_decimal(STDOUT_FILENO, n)
+fn print_number(rt: &impl Print, n: u64) -> io::Result<()> {
+    print!(rt; " {n}")
 }
 
 // The last hexadecimal digit of a number.
@@ -45,7 +51,7 @@ fn digit(n: u8) -> u8 {
     b'a' + (d - 10)
 }
 
-fn print_ticket(ticket: &[u8; TICKET]) -> bool {
+fn print_ticket(rt: &impl Print, ticket: &[u8; TICKET]) -> io::Result<()> {
     let mut digits = [0u8; 2 * TICKET];
     let mut i: usize = 0;
     while i < TICKET {
@@ -54,52 +60,62 @@ fn print_ticket(ticket: &[u8; TICKET]) -> bool {
         digits[2 * i + 1] = digit(b);
         i += 1;
     }
-    print(b" ") && print(&digits)
+    print(rt, b" ")?;
+    print(rt, &digits)
 }
 
-fn print_answer(text: &[u8], time: u32) -> bool {
+fn print_answer(rt: &impl Print, text: &[u8], time: u32) -> io::Result<()> {
     let mut ticket = [0u8; TICKET];
     let answer = reader::read(text, time, &mut ticket);
     let refusal = answer.refusal;
-    if !(print(b"M") && print_number(refusal as u64)) {
-        return false;
-    }
+    print(rt, b"M")?;
+    print_number(rt, refusal as u64)?;
     if refusal == 0 {
-        return print_ticket(&ticket) && print(b"\n");
+        print_ticket(rt, &ticket)?;
+        return print(rt, b"\n");
     }
-    print_number(answer.place as u64) && print_number(answer.what as u64) && print(b"\n")
+    print_number(rt, answer.place as u64)?;
+    print_number(rt, answer.what as u64)?;
+    print(rt, b"\n")
 }
 
 // One message, and whether there may be another.
-fn print_next() -> bool {
+fn print_next(rt: &impl Print, input: &mut impl Read) -> io::Result<bool> {
     let mut head = [0u8; 12];
-    if !fill(&mut head, 12) {
-        return false;
+    if !fill(input, &mut head, 12)? {
+        return Ok(false);
     }
     let named = fields::u32_at(&head, 0) as usize;
     let n = fields::u32_at(&head, 4) as usize;
     let time = fields::u32_at(&head, 8);
     if named > 256 {
-        return false;
+        return Ok(false);
     }
     if n > MOST_READ {
-        return false;
+        return Ok(false);
     }
     let mut name = [0u8; 256];
-    if !fill(&mut name, named) {
-        return false;
+    if !fill(input, &mut name, named)? {
+        return Ok(false);
     }
     let mut text = [0u8; MOST_READ];
-    if !fill(&mut text, n) {
-        return false;
+    if !fill(input, &mut text, n)? {
+        return Ok(false);
     }
-    print(b"# ") && print(&name[0..named]) && print(b"\n") && print_answer(&text[0..n], time)
+    print(rt, b"# ")?;
+    print(rt, &name[0..named])?;
+    print(rt, b"\n")?;
+    print_answer(rt, &text[0..n], time)?;
+    Ok(true)
 }
 
-// A proved loop has to end, and nothing says that the input does: so it counts its turns down, from a number that no run uses up.
-fn main() {
-    let mut turns = u64::MAX;
-    while turns > 0 && print_next() {
-        turns -= 1;
+// A proved loop has to end, and nothing says that the input does: so it takes at most a number of turns that no run uses up.
+fn main(rt: HostRuntime) -> io::Result<()> {
+    let mut input = rt.stdin();
+    for _ in 0..u64::MAX {
+        if !print_next(&rt, &mut input)? {
+            break;
+        }
     }
+    Ok(())
 }

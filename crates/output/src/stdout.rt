@@ -1,18 +1,17 @@
 // A day's text on standard output, for the programs.
 use super::{batch, piece};
-use libc::STDOUT_FILENO;
+use std::io;
 
-// Whether all of it was written: it stops where a piece can't be. No rule says what can be written, so nothing is promised of it.
-pub fn print_day(file: &[u8]) -> bool {
+// It stops where a piece can't be written, with the error. No rule says what can be written, so nothing is promised of it.
+pub fn print_day(rt: &impl Print, file: &[u8]) -> io::Result<()> {
     let mut text = [0u8; batch::MOST_TEXT];
     let mut d = piece::begin(file);
-    let mut written = true;
-    while written & !d.ended {
+    while !d.ended {
         let p = piece::next_piece(d, file, &mut text);
         let length = p.length;
-        written = io::write_all(STDOUT_FILENO, &text[0..length]);
+        rt.write_all(&text[0..length])?;
         let after = p.day;
         d = after;
     }
-    written
+    Ok(())
 }

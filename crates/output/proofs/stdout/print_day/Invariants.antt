@@ -1,0 +1,11 @@
+-- The loop of `output::stdout::print_day`: the day is one of the file, and the text keeps its length. The measure is the number of pieces
+-- that are left at most. Assumes nothing.
+use Rattle.std.specs.Prelude.{◌≡◌, length}
+use Rattle.output.specs.Pieces.{Under, turns_left}
+use Rattle.output.proofs.stdout.print_day.Given as goal
+
+abbrev pub invariant-loop-d : goal.invariant-loop-d
+invariant-loop-d g l = Under l.file l.d × (length l.text ≡ 56832)
+
+abbrev pub decreases-loop-d : goal.decreases-loop-d
+decreases-loop-d g l = turns_left l.d
