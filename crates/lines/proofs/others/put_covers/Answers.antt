@@ -1,5 +1,4 @@
 use mathlib.Core.Path.{◌≡◌}
-use Prim.Native.Nat.{◌-◌}
 use native.Mathlib.Numerals.{add-one}
 use native.Mathlib.Omega.{arith}
 use Rattle.lines.proofs.WritingParts.{filled_none, filled-behind}
@@ -15,12 +14,11 @@ put_cover-at-requires c =
     let kept = c.loop-p.invariant.1.kept in omega arith
 
 pub loop-p-preserved : goal.loop-p-preserved
-loop-p-preserved c =
-    (
-      search rules,
-      rw (add-one c.loop-p.p) (filled-behind c.loop-p.invariant.1 c.put_cover-at.ensures.0 c.put_cover-at.auto.text),
-      search rules,
-    )
+loop-p-preserved c = (
+  search rules,
+  rw (add-one c.loop-p.p) (filled-behind c.loop-p.invariant.1 c.put_cover-at.ensures.0 c.put_cover-at.auto.text),
+  search rules,
+)
 
 pub shape_of-text : goal.shape_of-text
 shape_of-text c =
