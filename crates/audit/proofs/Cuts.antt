@@ -17,7 +17,7 @@ use Rattle.dayfile.specs.declared.roster.Opening.{Opening}
 use Rattle.dayfile.specs.declared.roster.Opening.TheVariants as opening
 use Rattle.dayfile.specs.declared.roster.Roster.{Roster}
 use Rattle.rules.specs.Book.{cover_of}
-use Rattle.rules.specs.Cover.{transferred, whole}
+use Rattle.rules.specs.Cover.{transferred}
 use Rattle.rules.specs.Tell.{tell_cut}
 use Rattle.rules.specs.Find.{finding}
 use Rattle.rules.specs.Cut.{with_held, with_debit, cut_cover, cut_report, cut_to, cut_reports_to}

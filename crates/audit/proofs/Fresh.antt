@@ -45,30 +45,7 @@ use Rattle.audit.specs.Sums.{
   outgoing,
   incoming,
 }
-use Rattle.audit.specs.Orders.{
-  is_order,
-  order_count,
-  of_order,
-  order_amount,
-  order_time,
-  to_bank,
-  is_for_bank,
-  start_endings,
-  all_endings,
-  is_none,
-  waits,
-  waiting_part,
-  waiting_total,
-  is_first4,
-  lets_expire,
-  sets_clock,
-  must_expire,
-  order_txid,
-  asks_about,
-  own_endings,
-  ending_tickets,
-  tells_parties,
-}
+use Rattle.audit.specs.Orders.{is_order, order_count, of_order, order_amount, order_time, to_bank, start_endings, all_endings, is_none, waits, waiting_part, waiting_total, is_first4, lets_expire, sets_clock, must_expire, order_txid, asks_about, own_endings, ending_tickets, tells_parties}
 use Rattle.audit.specs.Claim.{AllCarry, code_of, ClaimOf, Claim}
 use Rattle.audit.specs.Run.{event_of, events_on}
 use Rattle.audit.proofs.Nothing as alone

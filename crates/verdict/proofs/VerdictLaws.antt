@@ -29,14 +29,13 @@ use Rattle.rules.specs.Checks.{
   confirm_check,
   confirming,
 }
-use Rattle.rules.specs.declared.Recall.{Recall}
 use Rattle.rules.specs.declared.Recall.TheVariants as mark
 use Rattle.rules.specs.declared.Status.{Status}
 use Rattle.rules.specs.declared.Status.TheVariants as status
 use Rattle.rules.specs.declared.decision.Move.TheVariants.{Give, Draw}
 use Rattle.rules.specs.declared.verdict.About.{About}
 use Rattle.rules.specs.declared.verdict.Facts.{Facts}
-use Rattle.rules.specs.declared.verdict.Does.TheVariants.{Nothing, Opens, Cuts}
+use Rattle.rules.specs.declared.verdict.Does.TheVariants.{Opens, Cuts}
 use Rattle.rules.specs.declared.verdict.Verdict.{Verdict}
 use Rattle.verdict.specs.OwnStep.{
   unless,
