@@ -1,0 +1,12 @@
+-- The loop of `foreign_day::zolfigar_day`, piece by piece (`BetweenPieces`). The measure is the number of pieces that are left at most.
+-- Assumes nothing.
+use Rattle.std.specs.Prelude.{◌≡◌, length}
+use Rattle.output.specs.Pieces.{turns_left}
+use Rattle.foreign_day.proofs.BetweenPieces.{BetweenPieces}
+use Rattle.foreign_day.proofs.zolfigar_day.Given as goal
+
+abbrev pub invariant-loop-d : goal.invariant-loop-d
+invariant-loop-d l = BetweenPieces l.file l.initial.text l.text l.d l.at × (length l.piece ≡ 56832)
+
+abbrev pub decreases-loop-d : goal.decreases-loop-d
+decreases-loop-d l = turns_left l.d
