@@ -2,7 +2,7 @@
 -- Assumes nothing.
 --     ticket_at                    the ticket at hand, as it is cut out; ticket_is: it is the next of the tickets
 --     sender-long, txid-long       two of its fields
---     long-answers, long-reports   the buffers keep their lengths
+--     bytes-long, text-long   the buffers keep their lengths
 --     none_more                    there is no room
 --     more, room                   there is
 --     whole-ticket                 and then the ticket is whole
@@ -37,18 +37,18 @@ txid-long t whole = length_part 35 38 t (rw whole (omega arith))
 
 module _ {b₀ : Book} {tickets answers₀ reports₀ : List ℕ} {b : Book} {keys heads links : List ℕ} {all m k n : ℕ} {bytes text : List ℕ}
     (h : LoopKept b₀ tickets answers₀ reports₀ b keys heads links all m k n bytes text) where
-  pub long-answers : length bytes ≡ length answers₀
-  long-answers = answers-long b₀ tickets answers₀ reports₀ h.going
+  pub bytes-long : length bytes ≡ length answers₀
+  bytes-long = answers-long b₀ tickets answers₀ reports₀ h.going
 
-  pub long-reports : length text ≡ length reports₀
-  long-reports = reports-long b₀ tickets answers₀ reports₀ h.going
+  pub text-long : length text ≡ length reports₀
+  text-long = reports-long b₀ tickets answers₀ reports₀ h.going
 
   -- whether there is room, as it is asked
   module _ {has : Bool} (is : has ≡ room_left (length tickets - 108 * k) (length bytes - 4 * k) (length text - 12 * n)) where
     asked : has ≡ room_left (length tickets - 108 * k) (length answers₀ - 4 * k) (length reports₀ - 12 * n)
     asked =
         is
-        ∙ ap₂ (λ (a r : ℕ). room_left (length tickets - 108 * k) (a - 4 * k) (r - 12 * n)) long-answers long-reports
+        ∙ ap₂ (λ (a r : ℕ). room_left (length tickets - 108 * k) (a - 4 * k) (r - 12 * n)) bytes-long text-long
 
     pub none_more : has ≡ false → room_left (length tickets - 108 * k) (length answers₀ - 4 * k) (length reports₀ - 12 * n) ≡ false
     none_more e = sym asked ∙ e

@@ -1,22 +1,18 @@
 -- `take` meets its contract, a phase of a turn after the other. Assumes nothing.
-use Rattle.std.specs.Prelude.{◌≡◌, ℕ, ◌+◌, ◌-◌, ◌*◌, ◌<◌, ◌≤◌, Bool, true, false, cond, List, length, set}
-use mathlib.Core.Path.{refl, sym, ◌∙◌, ap, ap₂, subst}
+use Rattle.std.specs.Prelude.{◌≡◌, ℕ, ◌-◌, ◌*◌, Bool, false, cond, List, length, set}
+use mathlib.Core.Path.{refl, sym, ◌∙◌, ap, subst}
 use mathlib.Core.Logic.{inl, inr}
 use native.Mathlib.Nat.{not-suc-le-zero}
 use native.Mathlib.Omega.{arith}
 use borrow.Author.Rules.{rules}
-use borrow.Author.Tests.{ltb-true, ltb-false, eqb-false, not-true}
+use borrow.Author.Tests.{ltb-true, ltb-false}
 use lib.Seq.{sets}
 use Rattle.codes.proofs.WholeCodes.{bic-length}
 use Rattle.fields.specs.UpTo.{any_to}
-use Rattle.dayfile.specs.Route.{followed_from, rows_followed}
-use Rattle.report.specs.declared.answer.Answer.{Answer}
-use Rattle.rules.specs.Book.{order_of, cover_of}
-use Rattle.rules.specs.Cover.{whole, moved, most_total}
+use Rattle.dayfile.specs.Route.{rows_followed}
+use Rattle.rules.specs.Book.{cover_of}
 use Rattle.rules.specs.Find.{is_open}
 use Rattle.rules.specs.Terms.{terms_of}
-use Rattle.rules.specs.Step.{step_of}
-use Rattle.rules.specs.Taken.{answer_of}
 use Rattle.rules.specs.declared.Book.{Book}
 use Rattle.rules.specs.declared.Cover.{Cover}
 use Rattle.rules.specs.declared.Order.{Order}
@@ -26,12 +22,11 @@ use Rattle.course.specs.Seeking.{seeks_open, sought}
 use Rattle.course.proofs.Running.{RoomFor, started, ended}
 use Rattle.course.proofs.Seeking.{total-sum}
 use Rattle.course.proofs.Summing.{all-total}
-use Rattle.index.specs.Words.{Bytes, key_words}
+use Rattle.index.specs.Words.{key_words}
 use Rattle.index.specs.RowChains.{row_bucket}
 use Rattle.index.proofs.Comparing.{slice-bytes}
 use Rattle.index.proofs.LentRows.{chained-fields, bucket-inside}
 use Rattle.ticket.specs.TicketLayout.{sender_of, txid_field}
-use Rattle.sight.specs.declared.Seen.{Seen}
 use Rattle.verdict.specs.Judgement.{verdict_of}
 use Rattle.verdict.specs.Meaning.{facts_of}
 use Rattle.verdict.specs.OwnStep.{refused_verdict}
@@ -42,11 +37,11 @@ use Rattle.turns.proofs.VerdictFitting.{Fits as Suits, fits}
 use Rattle.turns.proofs.CarryingOut.{CarriedOut, first_fits, second-room, second_fits, moves-carried-out, nothing-carried, told-room, cut-size, cut-room, cut-whole}
 use Rattle.turns.proofs.Done.{Done, answer-is, refused-answer}
 use Rattle.turns.proofs.TurnEnds.{did_nothing, changed, order-opened, cut}
-use Rattle.engine.proofs.Heading.{ticket_at, ticket_is, ticket-bytes, sender-long, txid-long, long-answers, long-reports, none_more, more, room, whole-ticket}
+use Rattle.engine.proofs.Heading.{ticket_at, ticket_is, ticket-bytes, sender-long, txid-long, bytes-long, text-long, none_more, more, room, whole-ticket}
 use Rattle.engine.proofs.LoopKeeping.{done-as, kept_on}
 use Rattle.engine.proofs.Passing.{refused-as, refused-done, sighted, taken, below, number-below, payer-below, payee-below, early, freeable, told-fits, one-expired, follows, all-with, else_refused}
 use Rattle.engine.proofs.Searching.{words_in, keys-lent}
-use Rattle.engine.proofs.SeenEntry.{entry_by, Sighted}
+use Rattle.engine.proofs.SeenEntry.{entry_by}
 use Rattle.engine.proofs.taking.take.Goals as goal
 use Rattle.engine.proofs.taking.take.Goals.{In-loop-roster, In-Read, Left-loop-next, After-number_of-i, After-judge-v, After-put_notices-n, Joined-does, else-loop-next-test, then-loop-next-test+then-is_young, then-is_cut, else-is_cut, in-Nothing, in-Opens, in-Becomes, in-Cuts}
 
@@ -77,7 +72,7 @@ expired c =
     (ticket-bytes (slice-bytes _ c.type_inv.tickets) c.loop-roster.taken) c.in-Read.ensures refl in
     expiries-done u h.passed c.loop-next.invariant.0 c.loop-next.invariant.1 c.loop-next.invariant.2
     (elim c.loop-next-test.branch [
-      else-loop-next-test w ↦ inl (let l = w.loop-next-test in omega arith)
+      | else-loop-next-test w ↦ inl (let l = w.loop-next-test in omega arith)
       | then-loop-next-test+then-is_young w ↦ inr (ltb-true _ _ (sym w.is_young.ensures ∙ w.if-is_young.true))
     ])
 
@@ -103,7 +98,7 @@ module _ (c : After-judge-v)
   open_is : c.if-is_cut.unconfirmed ≡ cond (seeks_open (terms_of c.in-Read.s.kind).flow) anywhere false
   open_is =
       elim c.if-is_cut.branch [
-        then-is_cut x ↦
+        | then-is_cut x ↦
             x.unconfirmed-is
             ∙ x.any_open-unconfirmed.ensures
             ∙ ap (λ (z : Bool). cond z anywhere false) (sym x.if-is_cut.true ∙ c.is_cut.ensures)
@@ -138,23 +133,12 @@ carried c w f =
 pub keys_of-keys-requires : goal.keys_of-keys-requires
 keys_of-keys-requires c =
     let s = c.requires.0 in
-    let size = s.roster.size in
-    (
+    let size = s.roster.size in (
       s.orders.count,
       λ i l. let payer = s.orders.payer i l in omega arith,
       λ i l. bic-length _ (s.roster.bic _ (s.orders.payer i l)),
       s.orders.padded,
     )
-
-pub slice_bounds-key_chains-end : goal.slice_bounds-key_chains-end
-slice_bounds-key_chains-end c =
-    let h = c.keys_of-keys.ensures.0 in search rules
-
-pub key_chains-made-requires : goal.key_chains-made-requires
-key_chains-made-requires c =
-    let few = c.requires.0.orders.count in
-    let h = c.keys_of-keys.ensures.0 in
-    (omega arith, omega arith)
 
 pub total_of-total-requires : goal.total_of-total-requires
 total_of-total-requires c =
@@ -179,62 +163,6 @@ loop-roster-init c =
       sum = c.total_of-total.ensures ∙ total-sum c.args.b ∙ sym (all-total c.args.b c.requires.0);
     }
 
-pub overflow_mul-taken : goal.overflow_mul-taken
-overflow_mul-taken c =
-    let g = c.well_formed in let h = c.loop-roster.invariant.going.tickets_left in search rules
-
-pub overflow_sub-tickets : goal.overflow_sub-tickets
-overflow_sub-tickets c =
-    c.loop-roster.invariant.going.tickets_left
-
-pub overflow_mul-taken-in-loop-roster : goal.overflow_mul-taken-in-loop-roster
-overflow_mul-taken-in-loop-roster c =
-    let g = c.well_formed in let h = c.loop-roster.invariant.going.tickets_left in search rules
-
-pub overflow_sub-answers : goal.overflow_sub-answers
-overflow_sub-answers c =
-    let g = c.loop-roster.invariant.going.answers_left in let e = long-answers c.loop-roster.invariant in omega arith
-
-pub overflow_mul-n : goal.overflow_mul-n
-overflow_mul-n c =
-    let g = c.well_formed in let h = c.loop-roster.invariant.going.reports_left in search rules
-
-pub overflow_sub-reports : goal.overflow_sub-reports
-overflow_sub-reports c =
-    let g = c.loop-roster.invariant.going.reports_left in let e = long-reports c.loop-roster.invariant in omega arith
-
-pub overflow_mul-at : goal.overflow_mul-at
-overflow_mul-at c =
-    let g = c.well_formed in let h = c.loop-roster.invariant.going.tickets_left in search rules
-
-pub overflow_add-t : goal.overflow_add-t
-overflow_add-t c =
-    let g = c.well_formed in let h = (has c).ticket in search rules
-
-pub slice_bounds-t-count : goal.slice_bounds-t-count
-slice_bounds-t-count c =
-    omega arith
-
-pub slice_bounds-t-start : goal.slice_bounds-t-start
-slice_bounds-t-start c =
-    let g = c.well_formed in let h = (has c).ticket in search rules
-
-pub slice_bounds-t-end : goal.slice_bounds-t-end
-slice_bounds-t-end c =
-    let g = c.well_formed in let h = (has c).ticket in search rules
-
-pub slice_bounds-see-end : goal.slice_bounds-see-end
-slice_bounds-see-end c =
-    let h = c.loop-roster.invariant.index.headed in search rules
-
-pub slice_bounds-see-end-in-loop-roster : goal.slice_bounds-see-end-in-loop-roster
-slice_bounds-see-end-in-loop-roster c =
-    let h = c.loop-roster.invariant.index.linked in search rules
-
-pub slice_bounds-see-end-in-loop-roster-2 : goal.slice_bounds-see-end-in-loop-roster-2
-slice_bounds-see-end-in-loop-roster-2 c =
-    let h = c.loop-roster.invariant.index.long in search rules
-
 pub see-sight-requires : goal.see-sight-requires
 see-sight-requires c =
     let h = c.loop-roster.invariant in
@@ -244,16 +172,8 @@ see-sight-requires c =
 pub put_answer-requires : goal.put_answer-requires
 put_answer-requires c =
     let h = (has (goal.at.put_answer-requires c).In-loop-roster).answer in
-    let e = long-answers c.loop-roster.invariant in
+    let e = bytes-long c.loop-roster.invariant in
     omega arith
-
-pub overflow_add-taken : goal.overflow_add-taken
-overflow_add-taken c =
-    let g = c.well_formed in let h = (has (goal.at.overflow_add-taken c).In-loop-roster).ticket in search rules
-
-pub loop-roster-smaller-in_default : goal.loop-roster-smaller-in_default
-loop-roster-smaller-in_default c =
-    let h = (has (goal.at.loop-roster-smaller-in_default c).In-loop-roster).ticket in omega arith
 
 pub loop-roster-preserved-in_default : goal.loop-roster-preserved-in_default
 loop-roster-preserved-in_default c =
@@ -351,7 +271,7 @@ put_told-n-requires c =
     let w = c.loop-next.invariant in
     told-fits (passes (goal.at.put_told-n-requires c).In-Read) w.0 w.2 c.loop-next-test.true c.loop-roster.invariant.roster
     c.is_bank-bank.ensures c.expire-lapse.ensures
-    (let h = (has (goal.at.put_told-n-requires c).In-loop-roster).report in let e = long-reports c.loop-roster.invariant in omega arith)
+    (let h = (has (goal.at.put_told-n-requires c).In-loop-roster).report in let e = text-long c.loop-roster.invariant in omega arith)
 
 pub overflow_add-next : goal.overflow_add-next
 overflow_add-next c =
@@ -367,8 +287,7 @@ pub loop-next-preserved : goal.loop-next-preserved
 loop-next-preserved c =
     let u = passes (goal.at.loop-next-preserved c).In-Read in
     let w = c.loop-next.invariant in
-    let l = below u w.0 w.2 c.loop-next-test.true in
-    (
+    let l = below u w.0 w.2 c.loop-next-test.true in (
       one-expired u w.0 w.2 c.loop-next-test.true c.loop-roster.invariant.roster c.is_bank-bank.ensures c.expire-lapse.ensures
           (ltb-false _ _ (sym c.is_young.ensures ∙ c.if-is_young.false)) _ _ _
           (ap
@@ -385,10 +304,6 @@ loop-next-preserved c =
       let h = w.1 in omega arith,
       omega arith,
     )
-
-pub any_open-unconfirmed-requires : goal.any_open-unconfirmed-requires
-any_open-unconfirmed-requires c =
-    c.requires.0.roster.size
 
 pub offset_bounds-b-p : goal.offset_bounds-b-p
 offset_bounds-b-p c =
@@ -458,16 +373,8 @@ overflow_cast-n c =
 pub put_answer-requires-then-refused : goal.put_answer-requires-then-refused
 put_answer-requires-then-refused c =
     let h = (has (goal.at.put_answer-requires-then-refused c).In-loop-roster).answer in
-    let e = long-answers c.loop-roster.invariant in
+    let e = bytes-long c.loop-roster.invariant in
     omega arith
-
-pub overflow_add-taken-then-refused : goal.overflow_add-taken-then-refused
-overflow_add-taken-then-refused c =
-    let g = c.well_formed in let h = (has (goal.at.overflow_add-taken-then-refused c).In-loop-roster).ticket in search rules
-
-pub loop-roster-smaller-then-refused : goal.loop-roster-smaller-then-refused
-loop-roster-smaller-then-refused c =
-    let h = (has (goal.at.loop-roster-smaller-then-refused c).In-loop-roster).ticket in omega arith
 
 pub loop-roster-preserved-then-refused : goal.loop-roster-preserved-then-refused
 loop-roster-preserved-then-refused c =
@@ -587,36 +494,12 @@ put_notices-n-requires c =
     let is = verdict-is (goal.at.put_notices-n-requires c).After-judge-v w f in
     let s = fits w is in
     let has = (has (goal.at.put_notices-n-requires c).In-loop-roster).report in
-    let long = long-reports c.loop-roster.invariant in
+    let long = text-long c.loop-roster.invariant in
     (s.told, s.also, s.number, told-room w s (omega arith))
-
-pub slice_bounds-copy-end : goal.slice_bounds-copy-end
-slice_bounds-copy-end c =
-    let h = is_whole (goal.at.slice_bounds-copy-end c).In-loop-roster in search rules
 
 pub copy-requires : goal.copy-requires
 copy-requires c =
     txid-long _ (is_whole (goal.at.copy-requires c).In-loop-roster)
-
-pub slice_bounds-put_key-end : goal.slice_bounds-put_key-end
-slice_bounds-put_key-end c =
-    let h = c.loop-roster.invariant.index.headed in search rules
-
-pub slice_bounds-put_key-end-in-Opens : goal.slice_bounds-put_key-end-in-Opens
-slice_bounds-put_key-end-in-Opens c =
-    let h = c.loop-roster.invariant.index.linked in search rules
-
-pub slice_bounds-put_key-end-in-Opens-2 : goal.slice_bounds-put_key-end-in-Opens-2
-slice_bounds-put_key-end-in-Opens-2 c =
-    let h = c.loop-roster.invariant.index.long in search rules
-
-pub slice_bounds-put_key-end-in-Opens-3 : goal.slice_bounds-put_key-end-in-Opens-3
-slice_bounds-put_key-end-in-Opens-3 c =
-    let h = is_whole (goal.at.slice_bounds-put_key-end-in-Opens-3 c).In-loop-roster in search rules
-
-pub slice_bounds-put_key-end-in-Opens-4 : goal.slice_bounds-put_key-end-in-Opens-4
-slice_bounds-put_key-end-in-Opens-4 c =
-    let h = is_whole (goal.at.slice_bounds-put_key-end-in-Opens-4 c).In-loop-roster in search rules
 
 pub put_key-requires : goal.put_key-requires
 put_key-requires c =
@@ -680,7 +563,7 @@ put_cut-n-requires c =
     let is = verdict-is (goal.at.put_cut-n-requires c).After-judge-v w f in
     let s = fits w is in
     let has = (has (goal.at.put_cut-n-requires c).In-loop-roster).report in
-    let long = long-reports c.loop-roster.invariant in
+    let long = text-long c.loop-roster.invariant in
     let k = carried (goal.at.put_cut-n-requires c).After-put_notices-n w s in
     let ours = sym c.loop-roster.invariant.roster in
     (cut-size w s k c.in-Cuts.is ours, cut-room w s k c.in-Cuts.is ours (omega arith))
@@ -742,7 +625,7 @@ module _ (c : Joined-does)
       let ours = sym c.loop-roster.invariant.roster in
       let way = follows c.requires.1 c.in-Read.s.route c.end_of-way.ensures in
       elim c.match-does.branch [
-        in-Nothing x ↦
+        | in-Nothing x ↦
             done-as (did_nothing w is k index x.in-Nothing.is x.b-is) x.reports-is x.keys-is x.heads-is x.links-is x.n-is x.followed-is
         | in-Opens x ↦
             let words = ap (λ (s : List ℕ). key_words s (txid_field t)) (sym (sender-bic w is x.in-Opens.is)) in
@@ -791,16 +674,8 @@ overflow_cast-followed c =
 pub put_answer-requires-in-loop-roster : goal.put_answer-requires-in-loop-roster
 put_answer-requires-in-loop-roster c =
     let h = (has (goal.at.put_answer-requires-in-loop-roster c).In-loop-roster).answer in
-    let e = long-answers c.loop-roster.invariant in
+    let e = bytes-long c.loop-roster.invariant in
     omega arith
-
-pub overflow_add-taken-in-loop-roster : goal.overflow_add-taken-in-loop-roster
-overflow_add-taken-in-loop-roster c =
-    let g = c.well_formed in let h = (has (goal.at.overflow_add-taken-in-loop-roster c).In-loop-roster).ticket in search rules
-
-pub loop-roster-smaller : goal.loop-roster-smaller
-loop-roster-smaller c =
-    let h = (has (goal.at.loop-roster-smaller c).In-loop-roster).ticket in omega arith
 
 pub loop-roster-preserved : goal.loop-roster-preserved
 loop-roster-preserved c =
