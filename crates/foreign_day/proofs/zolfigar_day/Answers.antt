@@ -1,9 +1,8 @@
 -- `foreign_day::zolfigar_day` meets its contract: piece by piece (`BetweenPieces`). Assumes nothing.
 use Rattle.std.specs.Prelude.{◌≡◌, ℕ, Bool, true, false, not}
 use mathlib.Core.Path.{refl, sym, ◌∙◌}
-use native.Mathlib.Omega.{arith}
 use lib.ListN.{length-replicate}
-use Rattle.foreign_day.proofs.BetweenPieces.{before-pieces, piece-fits, fewer, piece-more, ended-length, ended-text}
+use Rattle.foreign_day.proofs.BetweenPieces.{before-pieces, fewer, piece-more, ended-length, ended-text}
 use Rattle.foreign_day.proofs.zolfigar_day.Goals as goal
 
 -- the test of the loop
@@ -19,15 +18,6 @@ pub loop-d-init : goal.loop-d-init
 loop-d-init c =
     let a = c.args in
     (rw c.begin-d.ensures.0 (before-pieces a.file.now a.text.now), length-replicate {A = ℕ} 56832 0)
-
-pub overflow_add-at : goal.overflow_add-at
-overflow_add-at c =
-    let a = c.args in
-    let l = c.loop-d in
-    let n = c.next_piece-p in
-    let test = going l.d.ended c.loop-d-test.true in
-    let law = piece-fits a.file.now a.text.now l.text l.d l.at l.invariant.0 test l.piece _ n.result n.ensures l.invariant.1 in
-    omega arith
 
 pub loop-d-smaller : goal.loop-d-smaller
 loop-d-smaller c =
