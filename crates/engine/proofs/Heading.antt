@@ -1,11 +1,11 @@
 -- At the head of the loop over tickets: the buffers have their lengths, and there is room for the ticket at hand, or none.
 -- Assumes nothing.
---     ticket_at                    the ticket at hand, as it is cut out; ticket_is: it is the next of the tickets
---     sender-long, txid-long       two of its fields
---     bytes-long, text-long   the buffers keep their lengths
---     none_more                    there is no room
---     more, room                   there is
---     whole-ticket                 and then the ticket is whole
+--     ticket_at                the ticket at hand, as it is cut out; ticket_is: it is the next of the tickets
+--     sender-long, txid-long   two of its fields
+--     bytes-long, text-long    the buffers keep their lengths
+--     none_more                there is no room
+--     more, room               there is
+--     whole-ticket             and then the ticket is whole
 use Rattle.std.specs.Prelude.{◌≡◌, ℕ, ◌+◌, ◌-◌, ◌*◌, Bool, true, false, List, length, take, drop}
 use mathlib.Core.Path.{sym, ◌∙◌, ap, ap₂}
 use native.Mathlib.Omega.{arith}

@@ -3,7 +3,6 @@ use Rattle.std.specs.Prelude.{◌≡◌, ℕ, ◌<◌, ◌≤◌, Bool, true, fa
 use mathlib.Core.Path.{refl, sym, ◌∙◌, ap, subst}
 use native.Mathlib.Omega.{arith}
 use borrow.Author.Tests.{ltb-true, ltb-false}
-use Rattle.rules.specs.Step.{outcome}
 use Rattle.rules.specs.Sound.{Sound}
 use Rattle.rules.specs.declared.refusal.Buffer.{Buffer}
 use Rattle.rules.specs.declared.refusal.Buffer.TheVariants.{Enough, Short}

@@ -338,7 +338,7 @@ judge-v-requires c =
     total-few (expired (goal.at.judge-v-requires c).Left-loop-next) c.loop-roster.invariant.sum
 
 -- refused from 12 on: its turn is done
-late : (c : After-judge-v) → (c.judge-v.result.refusal ≡ 0 → ⊥)
+late-done : (c : After-judge-v) → (c.judge-v.result.refusal ≡ 0 → ⊥)
     → Expired c.loop-roster.b (ticket_at c.args.tickets.now c.loop-roster.taken) (entry_by c.in-Read.s) c.loop-roster.n
     c.loop-roster.reports c.loop-next.b c.loop-next.next c.loop-next.n c.loop-next.reports
     → c.judge-v.result
@@ -346,7 +346,7 @@ late : (c : After-judge-v) → (c.judge-v.result.refusal ≡ 0 → ⊥)
     → Done (words_in c.loop-roster.b.roster) row_bucket c.loop-roster.b (ticket_at c.args.tickets.now c.loop-roster.taken) c.loop-roster.n
     c.loop-roster.reports c.loop-next.b c.judge-v.result.refusal 0 c.loop-next.n c.loop-next.reports c.loop-next.next c.loop-roster.keys
     c.loop-roster.heads c.loop-roster.links c.loop-roster.total
-late c refused w is =
+late-done c refused w is =
     let alone : c.judge-v.result ≡ refused_verdict c.judge-v.result.refusal =
     subst (λ (y : Verdict). y ≡ refused_verdict y.refusal) (sym is)
     (refused-alone (facts_of (sought c.loop-next.b (entry_by c.in-Read.s) (ticket_at c.args.tickets.now c.loop-roster.taken)))
@@ -359,7 +359,7 @@ overflow_sub-n c =
     let w = expired (goal.at.overflow_sub-n c).Left-loop-next in
     let f = found (goal.at.overflow_sub-n c).After-number_of-i in
     let is = verdict-is (goal.at.overflow_sub-n c).After-judge-v w f in
-    let d = late (goal.at.overflow_sub-n c).After-judge-v c.if-refused.true w is in
+    let d = late-done (goal.at.overflow_sub-n c).After-judge-v c.if-refused.true w is in
     let h = d.told in omega arith
 
 pub overflow_cast-n : goal.overflow_cast-n
@@ -367,7 +367,7 @@ overflow_cast-n c =
     let w = expired (goal.at.overflow_cast-n c).Left-loop-next in
     let f = found (goal.at.overflow_cast-n c).After-number_of-i in
     let is = verdict-is (goal.at.overflow_cast-n c).After-judge-v w f in
-    let d = late (goal.at.overflow_cast-n c).After-judge-v c.if-refused.true w is in
+    let d = late-done (goal.at.overflow_cast-n c).After-judge-v c.if-refused.true w is in
     let h = d.told in let few = d.few_told in omega arith
 
 pub put_answer-requires-then-refused : goal.put_answer-requires-then-refused
@@ -381,7 +381,7 @@ loop-roster-preserved-then-refused c =
     let w = expired (goal.at.loop-roster-preserved-then-refused c).Left-loop-next in
     let f = found (goal.at.loop-roster-preserved-then-refused c).After-number_of-i in
     let is = verdict-is (goal.at.loop-roster-preserved-then-refused c).After-judge-v w f in
-    let d = late (goal.at.loop-roster-preserved-then-refused c).After-judge-v c.if-refused.true w is in
+    let d = late-done (goal.at.loop-roster-preserved-then-refused c).After-judge-v c.if-refused.true w is in
     let h = c.loop-roster.invariant in
     kept_on h (more h c.room_left.ensures c.loop-roster-test.true) (ticket_is c.args.tickets.now c.loop-roster.taken) d (answer-is d)
     c.put_answer-then-refused.ensures
