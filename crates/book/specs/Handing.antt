@@ -1,6 +1,6 @@
 -- Handing in one ticket.
---     handed_in     what is handed back, as an outcome of the rules: the answer, the book and the buffer
---     Hands        the promise: that it is the outcome, refused tickets included, and that the book stays sound
+--     handed_in   what is handed back, as an outcome of the rules: the answer, the book and the buffer
+--     Hands       the promise: that it is the outcome, refused tickets included, and that the book stays sound
 -- Assumes nothing.
 use Rattle.std.specs.Prelude.{◌≡◌, ℕ, List}
 use Rattle.rules.specs.Step.{Outcome, outcome}

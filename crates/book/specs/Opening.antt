@@ -1,5 +1,5 @@
 -- The book that a day file opens.
---     opened_day    refusal, fresh book, tickets: those of the day file
+--     opened_day   refusal, fresh book, tickets: those of the day file
 --     Opens        the promise: that, and that the book is sound
 -- Assumes nothing.
 use Rattle.std.specs.Prelude.{◌≡◌, ℕ, List}

@@ -1,5 +1,5 @@
 -- What was seen of a ticket is how it is entered: refused, or its fields with what is sought for it. Assumes nothing.
---     entry_by         the entry of a ticket that passes
+--     entry_by        the entry of a ticket that passes
 --     Sighted         it is the ticket's, and what was found is what is sought
 --     sight-read      of a ticket that passes
 --     sight-refused   of one that 7 to 11 refuse

@@ -8,9 +8,9 @@
 --     cover_line             the line of a participant with its number
 --     covers_to              the lines of the first n participants
 --     longest_line           the longest line of a ticket or a report
---     longest_cover_line      of a participant
---     longest_refusal_line    of a refused day file
---     Lined                 the lines of tickets can be written: their answers and reports stand in the buffers, and the text has room
+--     longest_cover_line     of a participant
+--     longest_refusal_line   of a refused day file
+--     Lined                  the lines of tickets can be written: their answers and reports stand in the buffers, and the text has room
 -- Assumes nothing.
 use Rattle.std.specs.Prelude.{ℕ, zero, suc, ◌+◌, ◌*◌, ◌^◌, ◌≤◌, ◌<◌, List, [], ◌∷◌, ◌++◌, length}
 use Rattle.fields.specs.Text.{text}
