@@ -9,16 +9,15 @@ use dayfile::limits;
 use dayfile::roster::{Roster, Route};
 use dayfile::route::Followed;
 use fields::Found;
-use std::io;
 
-fn print_way(rt: &impl Print, way: Followed) -> io::Result<()> {
+fn print_way(rt: &impl Print, way: Followed) {
     match way {
-        Followed::At(p, n) => print!(rt; " {p}/{n}"),
-        Followed::Nowhere => rt.write_all(b" -"),
+        Followed::At(p, n) => print::shown(print!(rt; " {p}/{n}")),
+        Followed::Nowhere => print::put(rt, b" -"),
     }
 }
 
-fn print_routes(rt: &impl Print, r: Roster) -> io::Result<()> {
+fn print_routes(rt: &impl Print, r: Roster) {
     let rows = r.rows;
     let routes = r.routes;
     let targets = routes::targets_of(routes);
@@ -26,26 +25,25 @@ fn print_routes(rt: &impl Print, r: Roster) -> io::Result<()> {
     let numbers = targets.numbers;
     let mut i = 0;
     while i < rows {
-        print_way(rt, routes::follow(&kinds, &numbers, i))?;
+        print_way(rt, routes::follow(&kinds, &numbers, i));
         i += 1;
     }
-    Ok(())
 }
 
-pub fn run_file(rt: &impl Print, line: &[u8]) -> io::Result<()> {
+pub fn run_file(rt: &impl Print, line: &[u8]) {
     let name = words::find(line, 0, b' ');
-    rt.write_all(b"file ")?;
-    rt.write_all(&line[0..name])?;
+    print::put(rt, b"file ");
+    print::put(rt, &line[0..name]);
     let mut buffer = [0u8; 65536];
     let n = bytes::put_bytes(line, name, &mut buffer);
     let d = dayread::read_day_file(&buffer[0..n]);
     let r = d.roster;
-    print::print_number(rt, d.refusal as u64)?;
-    print::print_number(rt, r.size as u64)?;
-    print::print_number(rt, r.rows as u64)?;
-    print::print_number(rt, d.tickets as u64)?;
-    print::print_number(rt, d.first as u64)?;
-    print_routes(rt, r)?;
+    print::print_number(rt, d.refusal as u64);
+    print::print_number(rt, r.size as u64);
+    print::print_number(rt, r.rows as u64);
+    print::print_number(rt, d.tickets as u64);
+    print::print_number(rt, d.first as u64);
+    print_routes(rt, r);
     print::print_end(rt)
 }
 
@@ -95,17 +93,18 @@ fn way_of(f: &[u8], bic: &[u8]) -> Followed
     routes::end_of(&kinds, &numbers, row_with(r, bic))
 }
 
-pub fn run_way(rt: &impl Print, line: &[u8]) -> io::Result<()> {
+pub fn run_way(rt: &impl Print, line: &[u8]) {
     let name = words::find(line, 0, b' ');
-    rt.write_all(b"way  ")?;
+    print::put(rt, b"way  ");
     if line.len() <= name {
-        rt.write_all(line)?;
-        return rt.write_all(b" ?\n");
+        print::put(rt, line);
+        print::put(rt, b" ?\n");
+        return;
     }
     let end = words::find(line, name + 1, b' ');
-    rt.write_all(&line[0..end])?;
+    print::put(rt, &line[0..end]);
     let mut buffer = [0u8; 65536];
     let n = bytes::put_bytes(line, end, &mut buffer);
-    print_way(rt, way_of(&buffer[0..n], &line[name + 1..end]))?;
+    print_way(rt, way_of(&buffer[0..n], &line[name + 1..end]));
     print::print_end(rt)
 }

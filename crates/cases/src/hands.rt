@@ -3,7 +3,6 @@ ghost use Rattle.std.specs.Prelude.{◌≤◌};
 
 use super::{bytes, print, words};
 use book::{handing, opening};
-use std::io;
 
 // How long the report buffer is: at most 8,192 bytes.
 fn room(n: u64) -> usize
@@ -13,10 +12,10 @@ fn room(n: u64) -> usize
 }
 
 // The book is that of an empty file, without participants.
-pub fn run_hand(rt: &impl Print, line: &[u8]) -> io::Result<()> {
+pub fn run_hand(rt: &impl Print, line: &[u8]) {
     let end = words::find(line, 0, b' ');
-    rt.write_all(b"hand ")?;
-    rt.write_all(&line[0..end])?;
+    print::put(rt, b"hand ");
+    print::put(rt, &line[0..end]);
     let most = room(words::number(&line[0..end]));
     let mut buffer = [0u8; 4096];
     let n = bytes::put_bytes(line, end, &mut buffer);
@@ -24,8 +23,8 @@ pub fn run_hand(rt: &impl Print, line: &[u8]) -> io::Result<()> {
     let opened = opening::open(&buffer[0..0]);
     let b = opened.book;
     let h = handing::hand_in(b, &buffer[0..n], &mut reports[0..most]);
-    print::print_number(rt, h.refusal as u64)?;
-    print::print_number(rt, h.reports as u64)?;
-    print::print_number(rt, h.rows as u64)?;
+    print::print_number(rt, h.refusal as u64);
+    print::print_number(rt, h.reports as u64);
+    print::print_number(rt, h.rows as u64);
     print::print_end(rt)
 }

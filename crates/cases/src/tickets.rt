@@ -2,7 +2,6 @@
 use super::{bytes, print, words};
 use index::chains;
 use sight::{Seen, Sight};
-use std::io;
 use ticket::kinds::Kind;
 use ticket::layout;
 
@@ -42,36 +41,36 @@ fn seen(t: &[u8]) -> Sight {
     )
 }
 
-fn print_fields(rt: &impl Print, s: Seen) -> io::Result<()> {
-    print::print_number(rt, 0)?;
+fn print_fields(rt: &impl Print, s: Seen) {
+    print::print_number(rt, 0);
     let kind = s.kind;
-    print::print_number(rt, kind_number(kind))?;
-    print::print_number(rt, s.time as u64)?;
+    print::print_number(rt, kind_number(kind));
+    print::print_number(rt, s.time as u64);
     print::print_number(rt, s.amount)
 }
 
-pub fn run_read(rt: &impl Print, line: &[u8]) -> io::Result<()> {
+pub fn run_read(rt: &impl Print, line: &[u8]) {
     let name = words::find(line, 0, b' ');
-    rt.write_all(b"read ")?;
-    rt.write_all(&line[0..name])?;
+    print::put(rt, b"read ");
+    print::put(rt, &line[0..name]);
     let mut buffer = [0u8; 4096];
     let n = bytes::put_bytes(line, name, &mut buffer);
     match seen(&buffer[0..n]) {
-        Sight::Read(s) => print_fields(rt, s)?,
-        Sight::Refused(r) => print::print_number(rt, r as u64)?,
+        Sight::Read(s) => print_fields(rt, s),
+        Sight::Refused(r) => print::print_number(rt, r as u64),
     }
     print::print_end(rt)
 }
 
-pub fn run_part(rt: &impl Print, line: &[u8]) -> io::Result<()> {
+pub fn run_part(rt: &impl Print, line: &[u8]) {
     let name = words::find(line, 0, b' ');
-    rt.write_all(b"part ")?;
-    rt.write_all(&line[0..name])?;
+    print::put(rt, b"part ");
+    print::put(rt, &line[0..name]);
     let mut buffer = [0u8; 4096];
     let n = bytes::put_bytes(line, name, &mut buffer);
     let part = ticket::txid(&buffer[0..n]);
-    print::print_number(rt, part.len() as u64)?;
-    rt.write_all(b" ")?;
-    rt.write_all(part)?;
+    print::print_number(rt, part.len() as u64);
+    print::put(rt, b" ");
+    print::put(rt, part);
     print::print_end(rt)
 }

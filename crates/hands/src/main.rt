@@ -4,7 +4,7 @@
 // inputs it has, each in 4 bytes, the highest first; then the name, the day file and the inputs. An input has the lengths of its
 // ticket and of its buffer, each in 4 bytes and at most 8,192, the byte that the buffer is filled with, and the ticket. The tickets
 // that the day file itself has are not handed in. It ends where the input does and at a greater length; of a case that is cut off it
-// prints what is there. Where nothing can be read or written it ends with an error.
+// prints what is there.
 //
 // On standard output stand for each case, with numbers in decimal:
 //
@@ -26,12 +26,10 @@ mod input;
 mod print;
 mod state;
 
-ghost use Rattle.std.specs.Prelude.{IfOk};
 ghost use Rattle.rules.specs.Sound.{Sound};
 
 use book::opening;
 use rules::Book;
-use std::io;
 use std::io::Read;
 
 // A case's book after its inputs, and whether all were there.
@@ -41,21 +39,21 @@ struct Handed {
     whole: bool,
 }
 
-fn hand_all(rt: &impl Print, input: &mut impl Read, fresh: Book, inputs: u64) -> io::Result<Handed>
+fn hand_all(rt: &impl Print, input: &mut impl Read, fresh: Book, inputs: u64) -> Handed
     requires { Sound fresh }
-    ensures { IfOk result (λ h. Sound h.book) }
+    ensures { Sound result.book }
 {
     let mut b = fresh;
     let mut whole = true;
     let mut number: u64 = 0;
     while whole & (number < inputs) {
-        let n = input::hand_next(rt, input, b, number)?;
+        let n = input::hand_next(rt, input, b, number);
         let after = n.book;
         b = after;
         whole = n.whole;
         number += 1;
     }
-    Ok(Handed { book: b, whole })
+    Handed { book: b, whole }
 }
 
 // The lines of a case, and whether all its inputs were there.
@@ -65,50 +63,49 @@ fn print_case(
     name: &[u8],
     file: &[u8],
     inputs: u64,
-) -> io::Result<bool> {
+) -> bool {
     let opened = opening::open(file);
-    print::print_name(rt, name)?;
-    print::print_line(rt, b"F", &[opened.refusal as u64])?;
+    print::print_name(rt, name);
+    print::print_line(rt, b"F", &[opened.refusal as u64]);
     let fresh = opened.book;
-    let handed = hand_all(rt, input, fresh, inputs)?;
+    let handed = hand_all(rt, input, fresh, inputs);
     let b = handed.book;
-    state::print_book(rt, b)?;
-    Ok(handed.whole)
+    state::print_book(rt, b);
+    handed.whole
 }
 
 // One case, and whether there may be another.
-fn print_next(rt: &impl Print, input: &mut impl Read) -> io::Result<bool> {
+fn print_next(rt: &impl Print, input: &mut impl Read) -> bool {
     let mut head = [0u8; 12];
-    if !input::fill(input, &mut head, 12)? {
-        return Ok(false);
+    if !input::fill(input, &mut head, 12) {
+        return false;
     }
     let named = fields::u32_at(&head, 0) as usize;
     let n = fields::u32_at(&head, 4) as usize;
     let inputs = fields::u32_at(&head, 8) as u64;
     if named > 256 {
-        return Ok(false);
+        return false;
     }
     if n > 57101 {
-        return Ok(false);
+        return false;
     }
     let mut name = [0u8; 256];
-    if !input::fill(input, &mut name, named)? {
-        return Ok(false);
+    if !input::fill(input, &mut name, named) {
+        return false;
     }
     let mut file = [0u8; 57101];
-    if !input::fill(input, &mut file, n)? {
-        return Ok(false);
+    if !input::fill(input, &mut file, n) {
+        return false;
     }
     print_case(rt, input, &name[0..named], &file[0..n], inputs)
 }
 
 // A proved loop has to end, and nothing says that the input does: so it takes at most a number of turns that no run uses up.
-fn main(rt: HostRuntime) -> io::Result<()> {
+fn main(rt: HostRuntime) {
     let mut input = rt.stdin();
     for _ in 0..u64::MAX {
-        if !print_next(&rt, &mut input)? {
+        if !print_next(&rt, &mut input) {
             break;
         }
     }
-    Ok(())
 }

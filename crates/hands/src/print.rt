@@ -1,28 +1,34 @@
-// Lines on standard output.
+// Lines on standard output. What can't be written is left out, and nothing tells.
 use std::io;
 
-pub fn print_name(rt: &impl Print, name: &[u8]) -> io::Result<()> {
-    rt.write_all(b"# ")?;
-    rt.write_all(name)?;
-    rt.write_all(b"\n")
+// What became of a print is of no interest.
+pub fn shown(_became: io::Result<()>) {}
+
+pub fn put(rt: &impl Print, s: &[u8]) {
+    shown(rt.write_all(s))
 }
 
-fn print_number(rt: &impl Print, n: u64) -> io::Result<()> {
-    print!(rt; " {n}")
+pub fn print_name(rt: &impl Print, name: &[u8]) {
+    put(rt, b"# ");
+    put(rt, name);
+    put(rt, b"\n")
+}
+
+fn print_number(rt: &impl Print, n: u64) {
+    shown(print!(rt; " {n}"))
 }
 
 // A letter, and each number behind a space.
-pub fn print_numbers(rt: &impl Print, letter: &[u8], ns: &[u64]) -> io::Result<()> {
-    rt.write_all(letter)?;
+pub fn print_numbers(rt: &impl Print, letter: &[u8], ns: &[u64]) {
+    put(rt, letter);
     let mut i = 0;
     while i < ns.len() {
-        print_number(rt, ns[i])?;
+        print_number(rt, ns[i]);
         i += 1;
     }
-    Ok(())
 }
 
-pub fn print_line(rt: &impl Print, letter: &[u8], ns: &[u64]) -> io::Result<()> {
-    print_numbers(rt, letter, ns)?;
-    rt.write_all(b"\n")
+pub fn print_line(rt: &impl Print, letter: &[u8], ns: &[u64]) {
+    print_numbers(rt, letter, ns);
+    put(rt, b"\n")
 }

@@ -4,9 +4,8 @@ ghost use Rattle.rules.specs.Sound.{Sound};
 
 use super::print;
 use rules::{Book, Cover, Order, Recall, Status};
-use std::io;
 
-fn print_cover(rt: &impl Print, p: usize, c: Cover) -> io::Result<()> {
+fn print_cover(rt: &impl Print, p: usize, c: Cover) {
     print::print_line(
         rt,
         b"C",
@@ -14,46 +13,45 @@ fn print_cover(rt: &impl Print, p: usize, c: Cover) -> io::Result<()> {
     )
 }
 
-fn print_covers(rt: &impl Print, covers: [Cover; 32], size: usize) -> io::Result<()>
+fn print_covers(rt: &impl Print, covers: [Cover; 32], size: usize)
     requires { size ≤ 32 }
 {
     let mut p = 0;
     while p < size {
-        print_cover(rt, p, covers[p])?;
+        print_cover(rt, p, covers[p]);
         p += 1;
     }
-    Ok(())
 }
 
 // Behind a space, with another behind it.
-fn print_word(rt: &impl Print, word: &[u8]) -> io::Result<()> {
-    rt.write_all(b" ")?;
-    rt.write_all(word)?;
-    rt.write_all(b" ")
+fn print_word(rt: &impl Print, word: &[u8]) {
+    print::put(rt, b" ");
+    print::put(rt, word);
+    print::put(rt, b" ")
 }
 
 // Behind a space, with a hyphen and a time behind it.
-fn print_since(rt: &impl Print, word: &[u8], at: u32) -> io::Result<()> {
-    rt.write_all(b" ")?;
-    rt.write_all(word)?;
-    print!(rt; "-{at}")
+fn print_since(rt: &impl Print, word: &[u8], at: u32) {
+    print::put(rt, b" ");
+    print::put(rt, word);
+    print::shown(print!(rt; "-{at}"))
 }
 
-fn print_settled(rt: &impl Print, mark: Recall, at: u32) -> io::Result<()> {
+fn print_settled(rt: &impl Print, mark: Recall, at: u32) {
     match mark {
-        Recall::None => print_since(rt, b"Settled-none", at)?,
-        Recall::Asked => print_since(rt, b"Settled-asked", at)?,
-        Recall::Declined => print_since(rt, b"Settled-declined", at)?,
+        Recall::None => print_since(rt, b"Settled-none", at),
+        Recall::Asked => print_since(rt, b"Settled-asked", at),
+        Recall::Declined => print_since(rt, b"Settled-declined", at),
     }
-    rt.write_all(b" ")
+    print::put(rt, b" ")
 }
 
-fn print_returned(rt: &impl Print, at: u32, n: u64) -> io::Result<()> {
-    print_since(rt, b"Returned", at)?;
-    print!(rt; "-{n} ")
+fn print_returned(rt: &impl Print, at: u32, n: u64) {
+    print_since(rt, b"Returned", at);
+    print::shown(print!(rt; "-{n} "))
 }
 
-fn print_status(rt: &impl Print, status: Status) -> io::Result<()> {
+fn print_status(rt: &impl Print, status: Status) {
     match status {
         Status::Waiting => print_word(rt, b"Waiting"),
         Status::Refused => print_word(rt, b"Refused"),
@@ -63,7 +61,7 @@ fn print_status(rt: &impl Print, status: Status) -> io::Result<()> {
     }
 }
 
-fn print_order(rt: &impl Print, n: usize, o: Order) -> io::Result<()> {
+fn print_order(rt: &impl Print, n: usize, o: Order) {
     print::print_numbers(
         rt,
         b"O",
@@ -74,32 +72,31 @@ fn print_order(rt: &impl Print, n: usize, o: Order) -> io::Result<()> {
             o.amount,
             o.time as u64,
         ],
-    )?;
+    );
     let status = o.status;
-    print_status(rt, status)?;
+    print_status(rt, status);
     let txid = o.txid;
-    rt.write_all(fields::unpadded(&txid))?;
-    rt.write_all(b"\n")
+    print::put(rt, fields::unpadded(&txid));
+    print::put(rt, b"\n")
 }
 
-fn print_orders(rt: &impl Print, orders: [Order; 256], count: usize) -> io::Result<()>
+fn print_orders(rt: &impl Print, orders: [Order; 256], count: usize)
     requires { count ≤ 256 }
 {
     let mut n = 0;
     while n < count {
-        print_order(rt, n, orders[n])?;
+        print_order(rt, n, orders[n]);
         n += 1;
     }
-    Ok(())
 }
 
-pub fn print_book(rt: &impl Print, b: Book) -> io::Result<()>
+pub fn print_book(rt: &impl Print, b: Book)
     requires { Sound b }
 {
-    print::print_line(rt, b"K", &[b.clock as u64])?;
+    print::print_line(rt, b"K", &[b.clock as u64]);
     let roster = b.roster;
     let covers = b.covers;
-    print_covers(rt, covers, roster.size)?;
+    print_covers(rt, covers, roster.size);
     let orders = b.orders;
     print_orders(rt, orders, b.count)
 }
