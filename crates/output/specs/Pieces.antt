@@ -10,7 +10,6 @@
 --     PieceOf     what is left behind by the next piece: the day, and every byte of the text
 -- Assumes nothing.
 use Rattle.std.specs.Prelude.{◌≡◌, ℕ, zero, suc, ◌+◌, ◌-◌, ◌*◌, ◌≤◌, true, false, cond, List, [], ◌∷◌, ◌++◌, length, drop, ◌==◌, nat_lt}
-use Rattle.fields.specs.Text.{text}
 use Rattle.ticket.specs.TicketLayout.{ticket_length}
 use Rattle.dayfile.specs.FileLimits.{most_tickets}
 use Rattle.dayfile.specs.DayFile.{day_file}
