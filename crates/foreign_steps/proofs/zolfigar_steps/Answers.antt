@@ -8,22 +8,22 @@ use Rattle.foreign_steps.proofs.zolfigar_steps.Goals.{After-book-1}
 use Rattle.foreign_steps.proofs.zolfigar_steps.Goals as goal
 
 -- the tickets lie within the file
-within : (c : After-book-1) → (FIXME After-open-o).«open».result.first ≤ length c.args.file.now
+within : (c : After-book-1) → c.open-o.result.first ≤ length c.args.file.now
 within c =
     let a = c.args in
-    first-within a.file.now a.answers.now a.reports.now (FIXME After-open-o).«open».result
-    (FIXME After-open-o).«open».ensures.opened c.if-o-ne0.false
+    first-within a.file.now a.answers.now a.reports.now c.open-o.result
+    c.open-o.ensures.opened c.if-o-ne0.false
 
 pub returns-then-o-ne0 : goal.returns-then-o-ne0
 returns-then-o-ne0 c =
     let a = c.args in
-    refused-stepped a.file.now a.answers.now a.reports.now (goal.at.returns-then-o-ne0 c).After-open-o.«open».result (goal.at.returns-then-o-ne0 c).After-open-o.«open».ensures.opened
+    refused-stepped a.file.now a.answers.now a.reports.now c.open-o.result c.open-o.ensures.opened
     c.if-o-ne0.true
 
 pub returns-then-lacks_room : goal.returns-then-lacks_room
 returns-then-lacks_room c =
     let a = c.args in
-    roomless-stepped a.file.now a.answers.now a.reports.now (goal.at.returns-then-lacks_room c).After-open-o.«open».result (goal.at.returns-then-lacks_room c).After-open-o.«open».ensures.opened
+    roomless-stepped a.file.now a.answers.now a.reports.now c.open-o.result c.open-o.ensures.opened
     c.if-o-ne0.false (sym c.lacks_room.ensures ∙ c.if-lacks_room.true)
 
 pub slice_bounds-run-count : goal.slice_bounds-run-count
@@ -36,11 +36,11 @@ slice_bounds-run-start c =
 
 pub run-ran-requires : goal.run-ran-requires
 run-ran-requires c =
-    (goal.at.run-ran-requires c).After-open-o.«open».ensures.sound
+    c.open-o.ensures.sound
 
 pub returns : goal.returns
 returns c =
     let a = c.args in
-    accepted-stepped a.file.now a.answers.now a.reports.now (goal.at.returns c).After-open-o.«open».result
-    (goal.at.returns c).After-open-o.«open».ensures.opened c.if-o-ne0.false (sym c.lacks_room.ensures ∙ c.if-lacks_room.false)
-    (rw (to_end a.file.now (goal.at.returns c).After-open-o.«open».result.first) at c.run-ran.ensures)
+    accepted-stepped a.file.now a.answers.now a.reports.now c.open-o.result
+    c.open-o.ensures.opened c.if-o-ne0.false (sym c.lacks_room.ensures ∙ c.if-lacks_room.false)
+    (rw (to_end a.file.now c.open-o.result.first) at c.run-ran.ensures)
