@@ -8,21 +8,21 @@ use Prim.Native.Nat.{ℕ}
 use borrow.Author.Tests.{eq-eqb}
 use Rattle.dayfile.specs.DayFile.{day_file}
 use Rattle.rules.specs.Book.{book_of}
-use Rattle.rules.specs.Step.{steps_of, book_after}
+use Rattle.rules.specs.Step.{step_of, steps_of, book_after}
 use Rattle.rules.specs.Program.{output}
 use Rattle.rules.specs.Sound.{Sound}
 use Rattle.rules.specs.declared.Book.{Book}
 use Rattle.rules.proofs.StepSound.{file-sound}
-use Rattle.audit.specs.History.{History, from}
+use Rattle.audit.specs.History.{History, from, ◌▹◌}
 use Rattle.audit.specs.Claim.{Claim}
 use Rattle.audit.proofs.AlongInputs.{Carried, carried-start, carried-claim}
-use Rattle.calls.specs.Steps.{step_events, day_tickets, Prints}
+use Rattle.calls.specs.Steps.{step_event, step_events, day_tickets, Prints}
 use Rattle.calls.proofs.Reaching.{carried-one}
 
 steps-carried : {h : History} {b : Book} → Carried h b → (ts : List (List ℕ))
     → Carried (step_events ts (steps_of b ts) h) (book_after b (steps_of b ts))
 steps-carried c [] = c
-steps-carried c (t ∷ ts) = steps-carried (carried-one c t) ts
+steps-carried {h = h} {b = b} c (t ∷ ts) = steps-carried {h = step_event t (step_of b t) ▹ h} (carried-one c t) ts
 
 pub steps-demand3 : (b : Book) → Sound b → (ts : List (List ℕ)) → let ss = steps_of b ts in
     Claim (step_events ts ss (from b)) (book_after b ss)
