@@ -100,7 +100,7 @@ module _ (c : Book) (e : Entry) (t : List ℕ) where
         total = total;
       }) (sought c e t)
   made txid sender order p i bank route way unconfirmed total is-txid is-sender is-order is-p is-i is-bank is-route
-      is-way is_open is-total =
+      is-way open-is is-total =
       λ j. record {
         kind = e.kind;
         amount = e.amount;
@@ -114,6 +114,6 @@ module _ (c : Book) (e : Entry) (t : List ℕ) where
         route = is-route j;
         way = is-way j;
         count = c.count;
-        unconfirmed = is_open j;
+        unconfirmed = open-is j;
         total = is-total j;
       }

@@ -1,7 +1,7 @@
 -- What becomes of an order that the clock is held against. Expiries are looked for from a mark on, up to the first order younger than 20
--- seconds. No order below the mark waits for a bank (`Passed`), so sweeping those changes nothing (`Passed-none`); the times of orders
+-- seconds. No order below the mark waits for a bank (`Passed`), so sweeping those changes nothing (`passed_none`); the times of orders
 -- never fall, so behind a young order none is due (`rest-young`).
---     expiry_of    expired, freed and told if it is due; else nothing changes. expiry_in: of order i of a book
+--     expiry_of   expired, freed and told if it is due; else nothing changes. expiry_in: of order i of a book
 --     lapsed      the book after it
 --     Passed      none of the first m orders waits for a bank
 -- Assumes nothing.

@@ -3,8 +3,8 @@
 // Standard input has cases. A case has the lengths of its name, at most 256, and of its day file, at most 57,101, and how many
 // inputs it has, each in 4 bytes, the highest first; then the name, the day file and the inputs. An input has the lengths of its
 // ticket and of its buffer, each in 4 bytes and at most 8,192, the byte that the buffer is filled with, and the ticket. The tickets
-// that the day file itself has are not handed in. It ends where the input does and at a greater length; of a case that is cut off it
-// prints what is there.
+// that the day file itself has are not handed in. It ends where the input does, at a greater length, and where a case's name can't be
+// written; of a case that is cut off it prints what is there.
 //
 // On standard output stand for each case, with numbers in decimal:
 //
@@ -56,7 +56,7 @@ fn hand_all(rt: &impl Print, input: &mut impl Read, fresh: Book, inputs: u64) ->
     Handed { book: b, whole }
 }
 
-// The lines of a case, and whether all its inputs were there.
+// The lines of a case, and whether all its inputs were there and its name could be written.
 fn print_case(
     rt: &impl Print,
     input: &mut impl Read,
@@ -65,13 +65,13 @@ fn print_case(
     inputs: u64,
 ) -> bool {
     let opened = opening::open(file);
-    print::print_name(rt, name);
+    let named = print::print_name(rt, name);
     print::print_line(rt, b"F", &[opened.refusal as u64]);
     let fresh = opened.book;
     let handed = hand_all(rt, input, fresh, inputs);
     let b = handed.book;
     state::print_book(rt, b);
-    handed.whole
+    handed.whole & named
 }
 
 // One case, and whether there may be another.

@@ -8,10 +8,11 @@ pub fn put(rt: &impl Print, s: &[u8]) {
     shown(rt.write_all(s))
 }
 
-pub fn print_name(rt: &impl Print, name: &[u8]) {
+// Whether it could be written, too.
+pub fn print_name(rt: &impl Print, name: &[u8]) -> bool {
     put(rt, b"# ");
     put(rt, name);
-    put(rt, b"\n")
+    rt.write_all(b"\n").is_ok()
 }
 
 fn print_number(rt: &impl Print, n: u64) {

@@ -1,5 +1,5 @@
 -- `reader::walking::within` meets its contract: each turn of the loop is a law of pacs' Going.antt. What is known where a tag's end was
--- found (`less`, `other`, `head`, `tagged`) is stated once, of that place. Assumes nothing.
+-- found (`less`, `other`, `head`, `Tagged`) is stated once, of that place. Assumes nothing.
 use Prim.Native.Nat.{◌≤◌, ◌-◌}
 use mathlib.Core.Path.{◌≡◌}
 use lib.ListN.{length}
