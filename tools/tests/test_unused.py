@@ -105,6 +105,7 @@ fn by_the_edit() -> usize {
 
 const LIMIT: u8 = 1;
 """,
+    "crates/low/out/rlib/proofs/Cases.antt": "spare : ℕ\nspare = 1\n",
     "crates/low/must-fail/other.edit": "# Another.\nfile: src/parts.rt\nold: edited()\nnew: by_the_edit()\n",
     "crates/high/specs/Ways.antt": """use Rattle.low.specs.Terms as terms
 use Rattle.low.specs.declared.parts.Size.{Size}

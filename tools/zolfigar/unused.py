@@ -171,7 +171,8 @@ class Crates:
 
     def __init__(self, root: Path) -> None:
         self.root = root
-        paths = [path for kind in ("antt", "rt") for path in root.glob(f"crates/*/*/**/*.{kind}")]
+        folders = [("src", "rt"), ("specs", "antt"), ("proofs", "antt")]
+        paths = [path for folder, kind in folders for path in root.glob(f"crates/*/{folder}/**/*.{kind}")]
         self.sources = {source.path: source for source in (Source(root, path) for path in sorted(paths))}
         self.code = {source.module: source for source in self.sources.values() if source.is_code}
         self.items = {item.name: item for source in self.sources.values() for item in source.items}
