@@ -45,6 +45,7 @@ fn only(row: usize, named: bool) -> usize
     17
 }
 
+#[tactic(auto, unfolding(pacs::specs::Named::row_of))]
 fn row_in(parent: usize, name: &[u8]) -> usize
     ensures { result ≡ row_of parent name.now }
 {

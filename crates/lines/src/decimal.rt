@@ -39,7 +39,8 @@ pub fn put_decimal(text: &mut [u8], at: usize, n: u64) -> usize
     requires { at + length (decimal n) ≤ length text.old }
     ensures { Written text.old text.new at (decimal n) result }
 {
-    if n < 10 {
+    let digit = n < 10;
+    if digit {
         text[at] = b'0' + n as u8;
         return at + 1;
     }

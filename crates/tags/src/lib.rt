@@ -37,7 +37,8 @@ fn attribute_end(text: &[u8], at: usize) -> AttributeEnd
 fn repeated(text: &[u8], at: usize, count: usize) -> bool
     ensures { RepeatsTold text.now at count result }
 {
-    if count <= 1 {
+    let few = count <= 1;
+    if few {
         return false;
     }
     repeats::repeated(text, at, count)

@@ -2,6 +2,6 @@
 use Rattle.tags.proofs.TagEnds.{few-distinct}
 use Rattle.tags.proofs.repeated.Goals as goal
 
-pub returns-then-count-le1 : goal.returns-then-count-le1
-returns-then-count-le1 c =
-    λ fuel more space z read counted. few-distinct more counted c.if-count-le1.true
+pub returns-then-few : goal.returns-then-few
+returns-then-few c =
+    λ fuel more space z read counted. few-distinct more counted c.if-few.true

@@ -7,9 +7,9 @@ use Rattle.lines.proofs.decimal.put_decimal.Goals as goal
 
 pub bounds-text-at : goal.bounds-text-at
 bounds-text-at c =
-    let l = decimal-length-one c.args.n c.if-n-lt10.true in omega arith
+    let l = decimal-length-one c.args.n c.if-digit.true in omega arith
 
-pub returns-then-n-lt10 : goal.returns-then-n-lt10
-returns-then-n-lt10 c =
+pub returns-then-digit : goal.returns-then-digit
+returns-then-digit c =
     let a = c.args in
-    rw (decimal-one a.n c.if-n-lt10.true) (written_byte a.text.now a.at (48 + a.n))
+    rw (decimal-one a.n c.if-digit.true) (written_byte a.text.now a.at (48 + a.n))
