@@ -1,4 +1,5 @@
 -- One ticket by TxId alone, and the ticket in its place by payer and TxId: the step is the same. Assumes nothing.
+use Rattle.std.specs.Prelude.{Option}
 use mathlib.Core.Path.{◌≡◌, refl, sym, ◌∙◌, ap, subst}
 use mathlib.Core.Bool.{Bool, true, false, cond}
 use mathlib.Core.List.{List}
@@ -11,7 +12,6 @@ use lib.ListN.{length}
 use Rattle.codes.specs.Bic.{is_bic}
 use Rattle.codes.specs.Txid.{is_txid}
 use Rattle.fields.specs.Text.{same, unpadded}
-use Rattle.fields.specs.declared.search.Found.{Found}
 use Rattle.fields.proofs.Same.{same_refl, same_true}
 use Rattle.fields.proofs.Tests.{never}
 use Rattle.ticket.specs.TicketLayout.{kind_byte, sender_of, payee_of, payer_of, txid_field}
@@ -139,7 +139,7 @@ module _ (xs : List Input) (old : OnePayer xs) (n : ℕ) (inside : n < length xs
         (λ f tells l.
         let w = tick b f.time in
         let v = w.book in
-        ap (λ (o : Found). decided w (finding_of o v f t))
+        ap (λ (o : Option ℕ). decided w (finding_of o v f t))
         (order_alike v.roster v.orders v.count t t refl (payer-same f tells l)))
 
   -- u stands in its place

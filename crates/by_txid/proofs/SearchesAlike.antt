@@ -1,5 +1,6 @@
 -- What is found of a ticket by TxId alone and by payer and TxId: the same order, and then the same step.
 -- Assumes nothing.
+use Rattle.std.specs.Prelude.{Option}
 use mathlib.Core.Path.{◌≡◌, refl, sym, ◌∙◌, ap}
 use mathlib.Core.Bool.{Bool, true, false, ◌&&◌, cond, and-false}
 use mathlib.Core.List.{List}
@@ -7,7 +8,6 @@ use Prim.Native.Nat.{ℕ, ◌<◌}
 use lib.Dec.{eqb}
 use Rattle.fields.specs.Text.{same}
 use Rattle.fields.specs.Search.{first_to, number_of}
-use Rattle.fields.specs.declared.search.Found.{Found}
 use Rattle.fields.proofs.Finding.{first-same}
 use Rattle.fields.proofs.Tests.{never}
 use Rattle.ticket.specs.TicketLayout.{sender_of, payer_of, txid_field}
@@ -51,8 +51,8 @@ order_alike r os count t u txid payer =
     go p false e h = rw (e, and-false)
 
 -- where a kind opens no order, nothing looks at the route row of bytes 27 to 37
-module _ (w : Step) (b : Book) (order : Found) (n : ℕ) (txid : List ℕ) (sender : Found) where
-  abbrev found : Kind → Found → Followed → Finding
+module _ (w : Step) (b : Book) (order : Option ℕ) (n : ℕ) (txid : List ℕ) (sender : Option ℕ) where
+  abbrev found : Kind → Option ℕ → Followed → Finding
   found k route way =
       record {
         kind = k;
@@ -72,7 +72,7 @@ module _ (w : Step) (b : Book) (order : Found) (n : ℕ) (txid : List ℕ) (send
       }
 
   -- an inquiry's answer goes by the order
-  answer-same : (r r' : Found) (v v' : Followed) (s : Status)
+  answer-same : (r r' : Option ℕ) (v v' : Followed) (s : Status)
       → inquiry_answer (found kind.Inquiry r v) s ≡ inquiry_answer (found kind.Inquiry r' v') s
   answer-same r r' v v' status.Waiting = refl
   answer-same r r' v v' status.Refused = refl
@@ -82,7 +82,7 @@ module _ (w : Step) (b : Book) (order : Found) (n : ℕ) (txid : List ℕ) (send
   answer-same r r' v v' (status.Settled mark.Asked at) = refl
   answer-same r r' v v' (status.Settled mark.Declined at) = refl
 
-  unrouted : (k : Kind) → names_order (terms_of k).subject ≡ true → (r r' : Found) (v v' : Followed)
+  unrouted : (k : Kind) → names_order (terms_of k).subject ≡ true → (r r' : Option ℕ) (v v' : Followed)
       → decided w (found k r v) ≡ decided w (found k r' v')
   unrouted kind.CoverIn e r r' v v' = never (sym e)
   unrouted kind.CoverOut e r r' v v' = never (sym e)
@@ -105,11 +105,11 @@ unfolding sender_in
 sender-alike r t u e = ap (λ (s : List ℕ). first_to (λ p. same (participant_of r p).bic s) r.size) e
 
 -- kinds 4 to 8: the same order found, the same sender and TxId
-pub decided-alike : (w : Step) (b : Book) (f : Fields) (order order' : Found) (t u : List ℕ) → order ≡ order'
+pub decided-alike : (w : Step) (b : Book) (f : Fields) (order order' : Option ℕ) (t u : List ℕ) → order ≡ order'
     → txid_field u ≡ txid_field t → sender_of u ≡ sender_of t → names_order (terms_of f.kind).subject ≡ true
     → decided w (finding_of order b f t) ≡ decided w (finding_of order' b f u)
 decided-alike w b f order order' t u is txid sender names =
-    ap (λ (o : Found). decided w (finding_of o b f t)) is
+    ap (λ (o : Option ℕ). decided w (finding_of o b f t)) is
     ∙ unrouted w b order' f.amount (txid_field t) (sender_in b.roster t) f.kind names
     (route_in b.roster t) (route_in b.roster u) (way_in b.roster t) (way_in b.roster u)
     ∙ (λ j. decided w

@@ -1,11 +1,11 @@
 -- Two steps are the same where the readings are, and what is done after the expiries. Assumes nothing.
+use Rattle.std.specs.Prelude.{Option}
 use mathlib.Core.Path.{◌≡◌, refl, ◌∙◌, ap}
 use mathlib.Core.Bool.{Bool, true, false, cond}
 use mathlib.Core.List.{List}
 use Prim.Native.Nat.{ℕ, ◌≤◌}
 use borrow.Author.Tests.{ltb-false}
 use lib.Dec.{ltb}
-use Rattle.fields.specs.declared.search.Found.{Found}
 use Rattle.ticket.specs.Form.{form_of}
 use Rattle.ticket.specs.TicketReading.{reading}
 use Rattle.ticket.specs.declared.Fields.{Fields}
@@ -28,7 +28,7 @@ use Rattle.by_txid.specs.ReadingBy.{reading_by}
 use Rattle.by_txid.specs.StepBy.{after_tick_by, step_timed_by, step_read_by, step_lent_by, handed_by}
 use Rattle.by_txid.proofs.ReadingAlike.{reading-present}
 
-module _ (form : Kind → Form) (search : Roster → List Order → ℕ → List ℕ → Found) (b : Book) (t u : List ℕ)
+module _ (form : Kind → Form) (search : Roster → List Order → ℕ → List ℕ → Option ℕ) (b : Book) (t u : List ℕ)
     (alike : reading_by form t ≡ reading u)
     (after : (f : Fields) → Tells u f → b.clock ≤ f.time
     → after_tick_by form search (tick b f.time) f t ≡ after_tick (tick b f.time) f u) where

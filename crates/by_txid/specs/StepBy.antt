@@ -5,10 +5,9 @@
 --     handed_by_txid   the step by TxId alone: it differs from the present one in `form_by_txid` and `order_by_txid`
 --     steps_with      the steps of inputs, one after the other, by a step of each
 -- Assumes nothing.
-use Rattle.std.specs.Prelude.{ℕ, List, [], ◌∷◌}
+use Rattle.std.specs.Prelude.{ℕ, List, [], ◌∷◌, Option}
 use Rattle.fields.specs.Text.{same}
 use Rattle.fields.specs.Search.{first_to}
-use Rattle.fields.specs.declared.search.Found.{Found}
 use Rattle.ticket.specs.TicketLayout.{txid_field}
 use Rattle.ticket.specs.declared.Fields.{Fields}
 use Rattle.ticket.specs.declared.Reading.{Reading}
@@ -32,10 +31,10 @@ use Rattle.by_txid.specs.FormByTxid.{form_by_txid}
 use Rattle.by_txid.specs.ReadingBy.{reading_by}
 
 -- the roster is what the search by payer and TxId looks at besides
-unfoldable pub order_by_txid : Roster → List Order → ℕ → List ℕ → Found
+unfoldable pub order_by_txid : Roster → List Order → ℕ → List ℕ → Option ℕ
 order_by_txid r os count t = first_to (λ i. same (order_of os i).txid (txid_field t)) count
 
-module _ (form : Kind → Form) (search : Roster → List Order → ℕ → List ℕ → Found) where
+module _ (form : Kind → Form) (search : Roster → List Order → ℕ → List ℕ → Option ℕ) where
   abbrev pub after_tick_by : Step → Fields → List ℕ → Step
   after_tick_by w f t =
       decided w (finding_of (search w.book.roster w.book.orders w.book.count t) w.book f t)

@@ -8,7 +8,6 @@ use super::{bytes, print, words};
 use dayfile::limits;
 use dayfile::roster::{Roster, Route};
 use dayfile::route::Followed;
-use fields::Found;
 
 fn print_way(rt: &impl Print, way: Followed) {
     match way {
@@ -67,12 +66,12 @@ fn rows_in(r: Roster) -> usize
 }
 
 // The first row with a BIC.
-fn row_with(r: Roster, bic: &[u8]) -> Found
+fn row_with(r: Roster, bic: &[u8]) -> Option<usize>
     ensures { result ≡ row_with r bic.now }
 {
     let rows = rows_in(r);
     let routes = r.routes;
-    let mut found = Found::Nothing;
+    let mut found = None;
     let mut i = 0;
     while i < rows {
         found = fields::found_or(found, i, has_bic(routes[i], bic));

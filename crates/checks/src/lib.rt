@@ -25,7 +25,6 @@ ghost use Rattle.rules.specs.Checks.{
 };
 
 use dayfile::route::Followed;
-use fields::Found;
 use orders::status;
 use rules::Status;
 use rules::checks::{
@@ -41,32 +40,32 @@ const RECALL_LIMIT: u32 = 864_000;
 const MOST_TOTAL: u64 = 1_000_000_000_000_000_000;
 
 // 12. Sender no participant.
-pub fn sender_check(sender: Found) -> Sender
+pub fn sender_check(sender: Option<usize>) -> Sender
     ensures { result ≡ sender_check sender }
 {
     match sender {
-        Found::At(p) => Sender::Is(p),
-        Found::Nothing => Sender::NoParticipant,
+        Some(p) => Sender::Is(p),
+        None => Sender::NoParticipant,
     }
 }
 
 // 13. Order: payer and TxId already held.
-pub fn new_check(order: Found) -> Key
+pub fn new_check(order: Option<usize>) -> Key
     ensures { result ≡ new_check order }
 {
     match order {
-        Found::At(_) => Key::AlreadyHeld,
-        Found::Nothing => Key::New,
+        Some(_) => Key::AlreadyHeld,
+        None => Key::New,
     }
 }
 
 // 14. Order: no route row with the payee BIC.
-pub fn payee_check(route: Found, way: Followed) -> Payee
+pub fn payee_check(route: Option<usize>, way: Followed) -> Payee
     ensures { result ≡ payee_check route way }
 {
     match route {
-        Found::At(_) => Payee::Reached(dayfile::reached(way)),
-        Found::Nothing => Payee::NoRoute,
+        Some(_) => Payee::Reached(dayfile::reached(way)),
+        None => Payee::NoRoute,
     }
 }
 
@@ -82,12 +81,12 @@ pub fn space_check(count: usize) -> Space
 }
 
 // 16. Kinds 4 to 8: payer and TxId not held.
-pub fn held_check(order: Found) -> Held
+pub fn held_check(order: Option<usize>) -> Held
     ensures { result ≡ held_check order }
 {
     match order {
-        Found::At(i) => Held::Number(i),
-        Found::Nothing => Held::NotHeld,
+        Some(i) => Held::Number(i),
+        None => Held::NotHeld,
     }
 }
 

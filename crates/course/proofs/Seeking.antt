@@ -1,4 +1,5 @@
 -- What the code finds is what is sought, field by field; expiries leave every order's key. Assumes nothing.
+use Rattle.std.specs.Prelude.{Option, None}
 use mathlib.Core.Path.{◌≡◌, refl, ◌∙◌, ap}
 use mathlib.Core.Bool.{Bool, true, false, cond}
 use mathlib.Core.List.{List}
@@ -9,8 +10,6 @@ use lib.ListN.{length}
 use lib.Seq.{get_or-set_same, get_or-set_other}
 use Rattle.fields.specs.Search.{number_of}
 use Rattle.fields.specs.UpTo.{any_to}
-use Rattle.fields.specs.declared.search.Found.{Found}
-use Rattle.fields.specs.declared.search.Found.TheVariants as found
 use Rattle.ticket.specs.TicketLayout.{txid_field}
 use Rattle.dayfile.specs.Route.{followed_from}
 use Rattle.dayfile.specs.declared.roster.Roster.{Roster}
@@ -33,7 +32,7 @@ use Rattle.course.proofs.Sweeping.{sweep-book}
 
 -- where the row leads, if it is sought
 pub way-if : (r : Roster) (z : Bool) (t : List ℕ)
-    → followed_from r (cond z (route_in r t) found.Nothing) ≡ cond z (way_in r t) followed.Nowhere
+    → followed_from r (cond z (route_in r t) None) ≡ cond z (way_in r t) followed.Nowhere
 unfolding route_in way_in
 way-if r true t = refl
 way-if r false t = refl
@@ -77,7 +76,7 @@ swept-key b s (suc m) h i =
 
 module _ (c : Book) (e : Entry) (t : List ℕ) where
   -- the finding, field by field
-  pub made : (txid : List ℕ) (sender order : Found) (p i : ℕ) (bank : Bool) (route : Found) (way : Followed)
+  pub made : (txid : List ℕ) (sender order : Option ℕ) (p i : ℕ) (bank : Bool) (route : Option ℕ) (way : Followed)
       (unconfirmed : Bool) (total : ℕ)
       → txid ≡ txid_field t → sender ≡ sought_sender c e t → order ≡ sought_order c e t → p ≡ number_of sender → i ≡ number_of order
       → bank ≡ is_bank c.roster (order_of c.orders i).payee → route ≡ (sought c e t).route → way ≡ (sought c e t).way

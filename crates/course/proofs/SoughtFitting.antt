@@ -1,5 +1,6 @@
 -- In a sound book what is sought, and what is decided on it, fits: every number is in range, and there is room for what moves.
 -- Assumes nothing.
+use Rattle.std.specs.Prelude.{Option, Some, None}
 use mathlib.Core.Path.{◌≡◌, refl, sym, ◌∙◌, ap}
 use mathlib.Core.Bool.{Bool, true, false, cond}
 use mathlib.Core.List.{List}
@@ -10,8 +11,6 @@ use borrow.Author.Tests.{eqb-true, ltb-false}
 use lib.Dec.{eqb, ltb}
 use lib.ListN.{length}
 use Rattle.fields.specs.Search.{number_of, first_to}
-use Rattle.fields.specs.declared.search.Found.{Found}
-use Rattle.fields.specs.declared.search.Found.TheVariants as found
 use Rattle.fields.proofs.Finding.{found_at}
 use Rattle.fields.proofs.Stores.{length_part}
 use Rattle.ticket.specs.TicketLayout.{payee_of}
@@ -82,20 +81,20 @@ room-to-move Debit n c e a w = omega arith
 number-below : (test : ℕ → Bool) (n m : ℕ) → n ≤ m → 0 < m → number_of (first_to test n) < m
 number-below test n m h pos = go (first_to test n) refl
   where
-    go : (f : Found) → first_to test n ≡ f → number_of f < m
-    go (found.At i) e =
+    go : (f : Option ℕ) → first_to test n ≡ f → number_of f < m
+    go (Some i) e =
         let l = (found_at test n (rw e refl)).below in
-        let l' : number_of (found.At i) < n = rw e at l in
+        let l' : number_of (Some i) < n = rw e at l in
         omega arith
-    go found.Nothing e = pos
+    go None e = pos
 
-if-below : (looks : Bool) (f : Found) (m : ℕ) → 0 < m → number_of f < m → number_of (cond looks f found.Nothing) < m
+if-below : (looks : Bool) (f : Option ℕ) (m : ℕ) → 0 < m → number_of f < m → number_of (cond looks f None) < m
 if-below true f m pos l = l
 if-below false f m pos l = pos
 
-way-rows : (r : Roster) (f : Found) → rows_followed (followed_from r f) ≤ 64
-way-rows r (found.At row) = rows_few (target_in r.routes) row
-way-rows r found.Nothing = omega arith
+way-rows : (r : Roster) (f : Option ℕ) → rows_followed (followed_from r f) ≤ 64
+way-rows r (Some row) = rows_few (target_in r.routes) row
+way-rows r None = omega arith
 
 module _ (b : Book) (s : Sound b) where
   -- an order's parties, in use or not
@@ -143,12 +142,12 @@ module _ (b : Book) (s : Sound b) where
   way-below : (bic : List ℕ) → reached (followed_bic b.roster bic) < most_participants
   way-below bic = go (row_with b.roster bic) refl
     where
-      go : (f : Found) → row_with b.roster bic ≡ f → reached (followed_from b.roster f) < most_participants
-      go (found.At row) e =
+      go : (f : Option ℕ) → row_with b.roster bic ≡ f → reached (followed_from b.roster f) < most_participants
+      go (Some row) e =
           let a = bic-arrives b.roster s.roster bic (rw e refl) in
-          let is : followed_from b.roster (found.At row) ≡ At a.participant a.rows = rw e at a.is in
+          let is : followed_from b.roster (Some row) ≡ At a.participant a.rows = rw e at a.is in
           rw is (let l = a.known in let g = s.roster.size in omega arith)
-      go found.Nothing e = omega arith
+      go None e = omega arith
 
   pub reached-below : (looks : Bool) (t : List ℕ) → reached (cond looks (way_in b.roster t) Nowhere) < most_participants
   unfolding way_in

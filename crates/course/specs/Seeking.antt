@@ -5,10 +5,8 @@
 --     seeks_open     it looks for held and open debit anywhere
 --     sought        the finding; what the kind does not look at is nothing, number 0 or false
 -- Assumes nothing.
-use Rattle.std.specs.Prelude.{ℕ, Bool, true, false, ◌||◌, cond, List}
+use Rattle.std.specs.Prelude.{ℕ, Bool, true, false, ◌||◌, cond, List, Option, None}
 use Rattle.fields.specs.Search.{number_of}
-use Rattle.fields.specs.declared.search.Found.{Found}
-use Rattle.fields.specs.declared.search.Found.TheVariants.{Nothing}
 use Rattle.ticket.specs.TicketLayout.{txid_field}
 use Rattle.dayfile.specs.declared.route.Followed.TheVariants.{Nowhere}
 use Rattle.rules.specs.Book.{order_of, cover_of, is_bank}
@@ -33,13 +31,13 @@ seeks_open flow.Cuts = true
 seeks_open flow.Confirms = false
 
 -- what is found, if it is sought
-abbrev pub if : Bool → Found → Found
-if looks found = cond looks found Nothing
+abbrev pub if : Bool → Option ℕ → Option ℕ
+if looks found = cond looks found None
 
-abbrev pub sought_sender : Book → Entry → List ℕ → Found
+abbrev pub sought_sender : Book → Entry → List ℕ → Option ℕ
 sought_sender b e t = if (names_sender (terms_of e.kind).subject) (sender_in b.roster t)
 
-abbrev pub sought_order : Book → Entry → List ℕ → Found
+abbrev pub sought_order : Book → Entry → List ℕ → Option ℕ
 sought_order b e t = if (seeks_order (terms_of e.kind).subject) (order_in b.roster b.orders b.count t)
 
 abbrev pub sought : Book → Entry → List ℕ → Finding

@@ -1,14 +1,13 @@
 -- In a roster that has what an accepted file guarantees every route arrives at a participant: from each row, and from each BIC
 -- that a row has. Assumes nothing.
+use Rattle.std.specs.Prelude.{Option, Some, None, is_some}
 use mathlib.Core.Path.{◌≡◌, refl, ◌∙◌, ap}
 use mathlib.Core.Bool.{true}
 use mathlib.Core.List.{List}
 use Prim.Native.Nat.{ℕ, zero, suc, ◌+◌, ◌≤◌, ◌<◌}
 use native.Mathlib.Nat.{not-suc-le-zero, min-le_right, min-eq_right}
 use native.Mathlib.Omega.{arith}
-use Rattle.fields.specs.Search.{is_found, number_of}
-use Rattle.fields.specs.declared.search.Found.{Found}
-use Rattle.fields.specs.declared.search.Found.TheVariants as found
+use Rattle.fields.specs.Search.{number_of}
 use Rattle.fields.proofs.Finding.{found_at}
 use Rattle.dayfile.specs.Roster.{route_of}
 use Rattle.dayfile.specs.Route.{one_more, target_in, followed, has_bic, rows_in, row_with, followed_from, followed_bic}
@@ -59,11 +58,11 @@ module _ (r : Roster) (g : Guaranteed r) where
   arrives : (row : ℕ) → row < r.rows → Arrives r (followed (target_in r.routes) row)
   arrives row l = to (suc row) row (omega arith) l
 
-  from_found : (f : Found) → is_found f ≡ true → number_of f < r.rows → Arrives r (followed_from r f)
-  from_found (found.At row) e l = arrives row l
-  from_found found.Nothing e l = let z : ◌≡◌ {A = ℕ} 0 1 = cc in absurd (omega arith)
+  from_found : (f : Option ℕ) → is_some f ≡ true → number_of f < r.rows → Arrives r (followed_from r f)
+  from_found (Some row) e l = arrives row l
+  from_found None e l = let z : ◌≡◌ {A = ℕ} 0 1 = cc in absurd (omega arith)
 
-  pub bic-arrives : (bic : List ℕ) → is_found (row_with r bic) ≡ true → Arrives r (followed_bic r bic)
+  pub bic-arrives : (bic : List ℕ) → is_some (row_with r bic) ≡ true → Arrives r (followed_bic r bic)
   bic-arrives bic e =
       let low = (found_at (has_bic r.routes bic) (rows_in r) e).below in
       from_found (row_with r bic) e (let m = min-le_right 64 r.rows in omega arith)

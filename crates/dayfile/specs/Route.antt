@@ -9,11 +9,9 @@
 --     row_with       the row with a BIC
 --     followed_bic   from that row on
 -- Assumes nothing.
-use Rattle.std.specs.Prelude.{ℕ, zero, suc, ◌+◌, min, Bool, cond, List, ltb}
+use Rattle.std.specs.Prelude.{ℕ, zero, suc, ◌+◌, min, Bool, cond, List, ltb, Option, Some, None}
 use Rattle.fields.specs.Text.{same}
 use Rattle.fields.specs.Search.{first_to}
-use Rattle.fields.specs.declared.search.Found.{Found}
-use Rattle.fields.specs.declared.search.Found.TheVariants as found
 use Rattle.dayfile.specs.FileLimits.{most_routes}
 use Rattle.dayfile.specs.Roster.{row_of}
 use Rattle.dayfile.specs.declared.roster.Target.{Target}
@@ -59,12 +57,12 @@ abbrev pub rows_in : Roster → ℕ
 rows_in r = min most_routes r.rows
 
 -- the first row with the BIC; in an accepted file no other has it
-abbrev pub row_with : Roster → List ℕ → Found
+abbrev pub row_with : Roster → List ℕ → Option ℕ
 row_with r bic = first_to (has_bic r.routes bic) (rows_in r)
 
-abbrev pub followed_from : Roster → Found → Followed
-followed_from r (found.At row) = followed (target_in r.routes) row
-followed_from r found.Nothing = Nowhere
+abbrev pub followed_from : Roster → Option ℕ → Followed
+followed_from r (Some row) = followed (target_in r.routes) row
+followed_from r None = Nowhere
 
 -- 01: following a payee BIC starts at the row with that BIC
 abbrev pub followed_bic : Roster → List ℕ → Followed

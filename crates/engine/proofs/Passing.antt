@@ -8,12 +8,11 @@
 --     follows           where the row leads
 --     all-with          all cover, by the cover as the code has it
 --     else_refused      what is not read is refused, by its number
-use Rattle.std.specs.Prelude.{◌≡◌, ℕ, ◌+◌, ◌-◌, ◌*◌, ◌<◌, ◌≤◌, Bool, false, eqb, List, length}
+use Rattle.std.specs.Prelude.{◌≡◌, ℕ, ◌+◌, ◌-◌, ◌*◌, ◌<◌, ◌≤◌, Bool, false, eqb, List, length, Option}
 use mathlib.Core.Path.{refl, sym, ◌∙◌, ap, ap₂, subst}
 use native.Mathlib.Omega.{arith}
 use lib.Seq.{sets, length-sets}
 use Rattle.fields.specs.Rows.{first_row}
-use Rattle.fields.specs.declared.search.Found.{Found}
 use Rattle.report.specs.ReportLayout.{reports_bytes}
 use Rattle.ticket.specs.TicketLayout.{sender_of, payee_of, payer_of, txid_field}
 use Rattle.dayfile.specs.Guarantee.{Guaranteed}
@@ -126,7 +125,7 @@ module _ {b : Book} {t : List ℕ} {e : Entry} (u : TakenUp b t e) {n₀ : ℕ} 
         (text-is ∙ ap (λ (y : Expiry). sets text (12 * n) (reports_bytes (listed y.told))) lapse-is)
 
 pub follows : {r : Roster} {bics bic_heads bic_links routes route_heads route_links kinds numbers : List ℕ}
-    → Directs r bics bic_heads bic_links routes route_heads route_links kinds numbers → (route : Found) {way : Followed}
+    → Directs r bics bic_heads bic_links routes route_heads route_links kinds numbers → (route : Option ℕ) {way : Followed}
     → way ≡ end_at kinds numbers route → way ≡ followed_from r route
 follows {r} d route is = is ∙ ap₂ (λ (x y : List ℕ). end_at x y route) d.kind d.number ∙ led-end r route
 

@@ -157,8 +157,8 @@ pub fn take<'a>(
             let covers = b.covers;
             unconfirmed = sums::any_open(covers, size);
         }
-        let p = fields::number_of(sender);
-        let i = fields::number_of(order);
+        let p = sender.unwrap_or(0);
+        let i = order.unwrap_or(0);
         let cover = b.covers[p];
         let o = b.orders[i];
         let status = o.status;

@@ -7,5 +7,5 @@ mod search;
 mod text;
 
 pub use number::{put_u16, put_u64, u16_at, u24_at, u32_at, u64_at, zero_u16_at, zero_u64_at};
-pub use search::{Found, found_or, number_of};
+pub use search::found_or;
 pub use text::{blank, copy, same_bytes, unpadded};

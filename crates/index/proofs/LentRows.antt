@@ -1,9 +1,10 @@
 -- Rows of words that hold the fields of a table: what a search among them finds, and that they may be lent to a search.
 -- Assumes nothing.
+use Rattle.std.specs.Prelude.{is_some}
 use Rattle.std.proofs.Common.{◌≡◌, ℕ, ◌*◌, ◌<◌, ◌≤◌, Bool, true, false, ◌&&◌, List, [], ◌∷◌, length, sym, ap, ◌∙◌, subst, ap₂, lt_trans, mod-lt, lit<}
 use Rattle.fields.specs.Number.{part}
 use Rattle.fields.specs.Text.{same, unpadded}
-use Rattle.fields.specs.Search.{is_found, number_of, first_to}
+use Rattle.fields.specs.Search.{number_of, first_to}
 use Rattle.fields.specs.Rows.{first_row, Indexed}
 use Rattle.fields.proofs.Same.{same_true}
 use Rattle.fields.proofs.Tests.{and_left, and_right}
@@ -43,9 +44,9 @@ module _ {Field : Type 0} (words : Field → List ℕ) (alike : Field → Field 
 
   -- what all fields are, what is found is
   formed-by-words : ((a b : Field) → alike a b ≡ true → a ≡ b) → (Is : Field → Type 0) → ((i : ℕ) → i < n → Is (field i))
-      → (s : Field) → Fit s → is_found (first_row width n (words s) rows) ≡ true → Is s
+      → (s : Field) → Fit s → is_some (first_row width n (words s) rows) ≡ true → Is s
   formed-by-words equal Is all s fits found =
-      let at = found_at (λ i. alike (field i) s) n (ap is_found (sym (found-by-words s fits)) ∙ found) in
+      let at = found_at (λ i. alike (field i) s) n (ap is_some (sym (found-by-words s fits)) ∙ found) in
       let i = number_of (first_to (λ i. alike (field i) s) n) in
       subst Is (equal (field i) s at.passes) (all i at.below)
 

@@ -1,11 +1,10 @@
 -- What a search along a chain of rows finds. Assumes nothing.
+use Rattle.std.specs.Prelude.{Option, Some, None}
 use Rattle.std.proofs.Common.{◌≡◌, ℕ, zero, suc, ◌+◌, ◌-◌, ◌*◌, ◌<◌, ◌≤◌, Bool, true, false, cond, eqb, List, length, get_or, subst, sym, refl, ap, ◌∙◌, ap₂, add-one, arith, eq-eqb, eqb-true}
 use Rattle.fields.specs.Number.{part}
 use Rattle.fields.specs.Text.{same}
 use Rattle.fields.specs.Search.{found_or, first_to}
 use Rattle.fields.specs.Rows.{first_row, Indexed}
-use Rattle.fields.specs.declared.search.Found.{Found}
-use Rattle.fields.specs.declared.search.Found.TheVariants.{At, Nothing}
 use Rattle.fields.specs.Chains.{last_to, Chained}
 use Rattle.fields.proofs.Same.{same_true, same_refl}
 use Rattle.fields.proofs.Tests.{never}
@@ -24,13 +23,13 @@ last-told f g (suc n) tells = go (f n) refl (g n) refl (last-told f g n (λ i l.
     go false p false q on = rw (p, q) on
 
 -- where no two pass, the last is the first
-first-none : (test : ℕ → Bool) (n : ℕ) → ((i : ℕ) → i < n → test i ≡ false) → first_to test n ≡ Nothing
+first-none : (test : ℕ → Bool) (n : ℕ) → ((i : ℕ) → i < n → test i ≡ false) → first_to test n ≡ None
 first-none test zero h = refl
 first-none test (suc n) h = simp (first-none test n (λ i l. h i (omega arith)), h n (omega arith))
 
-found-already : (f : Found) (n : ℕ) → found_or f n false ≡ f
-found-already (At i) n = refl
-found-already Nothing n = refl
+found-already : (f : Option ℕ) (n : ℕ) → found_or f n false ≡ f
+found-already (Some i) n = refl
+found-already None n = refl
 
 first-last : (test : ℕ → Bool) (n : ℕ) → ((i j : ℕ) → i < j → j < n → test i ≡ true → test j ≡ false)
     → first_to test n ≡ last_found (last_to test n)
@@ -134,10 +133,10 @@ module _ (width n bucket : ℕ) (heads links rows field : List ℕ) (s : RowSear
           ∙ s.distinct.differ i j l k)
       go false q = refl
 
-  pub found-there : (i : ℕ) → LeftBelow (i + 1) → row_holds i ≡ true → first_row width n field rows ≡ At i
+  pub found-there : (i : ℕ) → LeftBelow (i + 1) → row_holds i ≡ true → first_row width n field rows ≡ Some i
   found-there i w e =
       first-last row_holds n alone
       ∙ ap last_found (w.left ∙ ap (last_to row_holds) (add-one i) ∙ ap (λ (b : Bool). cond b (suc i) (last_to row_holds i)) e)
 
-  pub found_nowhere : LeftBelow 0 → first_row width n field rows ≡ Nothing
+  pub found_nowhere : LeftBelow 0 → first_row width n field rows ≡ None
   found_nowhere w = first-last row_holds n alone ∙ ap last_found w.left

@@ -4,10 +4,9 @@
 --     BicRows     the words of n BICs, no two the same
 --     KeyRows     the words of n keys, each a payer's BIC and a padded TxId, no two the same in both
 -- Assumes nothing.
-use Rattle.std.specs.Prelude.{◌≡◌, ℕ, ◌*◌, ◌≤◌, true, List, length}
+use Rattle.std.specs.Prelude.{◌≡◌, ℕ, ◌*◌, ◌≤◌, true, List, length, is_some}
 use Rattle.fields.specs.Number.{part}
 use Rattle.fields.specs.Text.{unpadded}
-use Rattle.fields.specs.Search.{is_found}
 use Rattle.fields.specs.Rows.{first_row}
 use Rattle.codes.specs.Bic.{is_bic}
 use Rattle.codes.specs.Txid.{is_txid}
@@ -21,7 +20,7 @@ pub record BicRows (n : ℕ) (rows heads links : List ℕ) : Type 0 where
   pub long : 2 * n ≤ length rows
   pub chained : Chained row_buckets (λ i. row_bucket (part 2 (2 * i) rows)) n heads links
   pub distinct : Distinct 2 n rows
-  pub formed : (s : List ℕ) → length s ≡ 11 → Bytes s → is_found (first_row 2 n (bic_words s) rows) ≡ true → is_bic s ≡ true
+  pub formed : (s : List ℕ) → length s ≡ 11 → Bytes s → is_some (first_row 2 n (bic_words s) rows) ≡ true → is_bic s ≡ true
 
 pub record KeyRows (n : ℕ) (rows heads links : List ℕ) : Type 0 where
   pub headed : length heads ≡ row_buckets
@@ -30,5 +29,5 @@ pub record KeyRows (n : ℕ) (rows heads links : List ℕ) : Type 0 where
   pub chained : Chained row_buckets (λ i. row_bucket (part 7 (7 * i) rows)) n heads links
   pub distinct : Distinct 7 n rows
   pub formed : (bic txid : List ℕ) → length bic ≡ 11 → length txid ≡ 35 → Bytes bic → Bytes txid
-      → is_found (first_row 7 n (key_words bic txid) rows) ≡ true
+      → is_some (first_row 7 n (key_words bic txid) rows) ≡ true
       → (is_bic bic ≡ true) × (is_txid (unpadded txid) ≡ true)

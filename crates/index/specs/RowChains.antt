@@ -6,12 +6,10 @@
 --     Distinct         no two of the first n rows hold the same
 --     RowSearchable    a search for a field in a bucket finds the row that holds it
 -- Assumes nothing.
-use Rattle.std.specs.Prelude.{◌≡◌, ℕ, zero, suc, ◌+◌, ◌*◌, ◌%◌, ◌^◌, ◌<◌, ◌≤◌, true, false, List, [], ◌∷◌, length}
+use Rattle.std.specs.Prelude.{◌≡◌, ℕ, zero, suc, ◌+◌, ◌*◌, ◌%◌, ◌^◌, ◌<◌, ◌≤◌, true, false, List, [], ◌∷◌, length, Option, Some, None}
 use Rattle.fields.specs.Number.{part}
 use Rattle.fields.specs.Text.{same}
 use Rattle.fields.specs.Chains.{Chained}
-use Rattle.fields.specs.declared.search.Found.{Found}
-use Rattle.fields.specs.declared.search.Found.TheVariants.{At, Nothing}
 
 abbrev pub row_buckets : ℕ
 row_buckets = 509
@@ -27,9 +25,9 @@ abbrev pub row_bucket : List ℕ → ℕ
 row_bucket [] = 0
 row_bucket (w ∷ ws) = added_to w ws % row_buckets
 
-abbrev pub last_found : ℕ → Found
-last_found zero = Nothing
-last_found (suc i) = At i
+abbrev pub last_found : ℕ → Option ℕ
+last_found zero = None
+last_found (suc i) = Some i
 
 pub record Distinct (width n : ℕ) (rows : List ℕ) : Type 0 where
   pub differ : (i j : ℕ) → i < j → j < n → same (part width (width * i) rows) (part width (width * j) rows) ≡ false

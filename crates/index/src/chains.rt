@@ -7,7 +7,6 @@ ghost use Rattle.fields.specs.Chains.{Chained};
 ghost use Rattle.index.specs.RowChains.{row_buckets, row_bucket, RowSearchable};
 
 use crate::row;
-use fields::Found;
 use std::num;
 
 #[derive(Clone, Copy)]
@@ -98,7 +97,7 @@ pub fn find_two(
     bucket: usize,
     a: u64,
     b: u64,
-) -> Found
+) -> Option<usize>
     requires { RowSearchable 2 n bucket heads.now links.now rows.now (a ∷ b ∷ []) }
     ensures { result ≡ first_row 2 n (a ∷ b ∷ []) rows.now }
 {
@@ -106,11 +105,11 @@ pub fn find_two(
     while 0 < at {
         let i = at - 1;
         if row::holds_two(rows, 2 * i, a, b) {
-            return Found::At(i);
+            return Some(i);
         }
         at = wide(links[i]);
     }
-    Found::Nothing
+    None
 }
 
 // The row with seven words, which is in the bucket if it is anywhere.
@@ -127,7 +126,7 @@ pub fn find_seven(
     e: u64,
     f: u64,
     g: u64,
-) -> Found
+) -> Option<usize>
     requires { RowSearchable 7 n bucket heads.now links.now rows.now (a ∷ b ∷ c ∷ d ∷ e ∷ f ∷ g ∷ []) }
     ensures { result ≡ first_row 7 n (a ∷ b ∷ c ∷ d ∷ e ∷ f ∷ g ∷ []) rows.now }
 {
@@ -135,11 +134,11 @@ pub fn find_seven(
     while 0 < at {
         let i = at - 1;
         if row::holds_seven(rows, 7 * i, a, b, c, d, e, f, g) {
-            return Found::At(i);
+            return Some(i);
         }
         at = wide(links[i]);
     }
-    Found::Nothing
+    None
 }
 
 fn wide(n: u16) -> usize

@@ -21,7 +21,6 @@ ghost use Rattle.index.specs.LentRows.{BicRows, KeyRows};
 ghost use Rattle.index.specs.Words.{bic_words, key_words};
 
 use dayfile::roster::{Participant, Route};
-use fields::Found;
 use rules::Order;
 
 pub fn bics_of(participants: [Participant; 32], size: usize) -> [u64; 64]
@@ -76,7 +75,7 @@ pub fn keys_of(participants: [Participant; 32], orders: [Order; 256], count: usi
 }
 
 // The row of n with a BIC.
-pub fn find_bic(heads: &[u16], links: &[u16], rows: &[u64], n: usize, bic: &[u8]) -> Found
+pub fn find_bic(heads: &[u16], links: &[u16], rows: &[u64], n: usize, bic: &[u8]) -> Option<usize>
     requires { BicRows n rows.now heads.now links.now × (length bic.now ≡ 11) }
     ensures { result ≡ first_row 2 n (bic_words bic.now) rows.now }
 {
@@ -93,7 +92,7 @@ pub fn find_key(
     n: usize,
     bic: &[u8],
     txid: &[u8],
-) -> Found
+) -> Option<usize>
     requires { KeyRows n rows.now heads.now links.now × (length bic.now ≡ 11) × (length txid.now ≡ 35) }
     ensures { result ≡ first_row 7 n (key_words bic.now txid.now) rows.now }
 {

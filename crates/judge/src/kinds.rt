@@ -18,7 +18,6 @@ ghost use Rattle.verdict.specs.Judgement.{
 };
 
 use dayfile::route::Followed;
-use fields::Found;
 use rules::checks::{
     Confirming, Cutting, Funds, Held, Key, Limit, Party, Payee, Recalling, Sender, Space, Standing,
     Sum,
@@ -27,7 +26,7 @@ use rules::decision::Move;
 use rules::verdict::{About, Verdict};
 
 // Cover in: available rises.
-pub fn cover_in(sender: Found, total: u64, n: u64) -> Verdict
+pub fn cover_in(sender: Option<usize>, total: u64, n: u64) -> Verdict
     requires { total ≤ most_total }
     ensures { result ≡ cover_in_verdict sender total n }
 {
@@ -41,7 +40,7 @@ pub fn cover_in(sender: Found, total: u64, n: u64) -> Verdict
 }
 
 // Cover out: available falls.
-pub fn cover_out(sender: Found, available: u64, n: u64) -> Verdict
+pub fn cover_out(sender: Option<usize>, available: u64, n: u64) -> Verdict
     ensures { result ≡ cover_out_verdict sender available n }
 {
     let Sender::Is(p) = checks::sender_check(sender) else {
@@ -55,9 +54,9 @@ pub fn cover_out(sender: Found, available: u64, n: u64) -> Verdict
 
 // Order: a new Waiting order.
 pub fn order(
-    sender: Found,
-    order: Found,
-    route: Found,
+    sender: Option<usize>,
+    order: Option<usize>,
+    route: Option<usize>,
     way: Followed,
     count: usize,
     available: u64,
@@ -84,7 +83,7 @@ pub fn order(
 }
 
 // Yes of the payee, to Waiting.
-pub fn yes(sender: Found, order: Found, a: About, bank: bool, clock: u32) -> Verdict
+pub fn yes(sender: Option<usize>, order: Option<usize>, a: About, bank: bool, clock: u32) -> Verdict
     ensures { result ≡ yes_verdict sender order a bank clock }
 {
     let status = a.status;
@@ -104,7 +103,7 @@ pub fn yes(sender: Found, order: Found, a: About, bank: bool, clock: u32) -> Ver
 }
 
 // No of the payee, to Waiting.
-pub fn no(sender: Found, order: Found, a: About) -> Verdict
+pub fn no(sender: Option<usize>, order: Option<usize>, a: About) -> Verdict
     ensures { result ≡ no_verdict sender order a }
 {
     let status = a.status;
@@ -124,7 +123,7 @@ pub fn no(sender: Found, order: Found, a: About) -> Verdict
 }
 
 // Recall of the payer, of Settled with mark none, less than 864,000 seconds after the settlement.
-pub fn recall(sender: Found, order: Found, a: About, clock: u32) -> Verdict
+pub fn recall(sender: Option<usize>, order: Option<usize>, a: About, clock: u32) -> Verdict
     ensures { result ≡ recall_verdict sender order a clock }
 {
     let status = a.status;
@@ -147,7 +146,7 @@ pub fn recall(sender: Found, order: Found, a: About, clock: u32) -> Verdict
 }
 
 // Return of the payee, of Settled, asked, by an amount up to the order's.
-pub fn return_of(sender: Found, order: Found, a: About, available: u64, n: u64) -> Verdict
+pub fn return_of(sender: Option<usize>, order: Option<usize>, a: About, available: u64, n: u64) -> Verdict
     ensures { result ≡ return_verdict sender order a available n }
 {
     let status = a.status;
@@ -173,7 +172,7 @@ pub fn return_of(sender: Found, order: Found, a: About, available: u64, n: u64) 
 }
 
 // Decline of the payee, of Settled, asked.
-pub fn decline(sender: Found, order: Found, a: About) -> Verdict
+pub fn decline(sender: Option<usize>, order: Option<usize>, a: About) -> Verdict
     ensures { result ≡ decline_verdict sender order a }
 {
     let status = a.status;
@@ -193,7 +192,7 @@ pub fn decline(sender: Found, order: Found, a: About) -> Verdict
 }
 
 // Inquiry of the payer.
-pub fn inquiry(sender: Found, order: Found, a: About, bank: bool) -> Verdict
+pub fn inquiry(sender: Option<usize>, order: Option<usize>, a: About, bank: bool) -> Verdict
     ensures { result ≡ inquiry_verdict sender order a bank }
 {
     let Sender::Is(p) = checks::sender_check(sender) else {
@@ -219,7 +218,7 @@ pub fn cut(unconfirmed: bool) -> Verdict
 }
 
 // Confirm: as a confirmed credit or debit.
-pub fn confirm(sender: Found, held: u64, debit: u64, total: u64, n: u64) -> Verdict
+pub fn confirm(sender: Option<usize>, held: u64, debit: u64, total: u64, n: u64) -> Verdict
     requires { total ≤ most_total }
     ensures { result ≡ confirm_verdict sender held debit total n }
 {

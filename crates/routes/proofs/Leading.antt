@@ -1,12 +1,11 @@
 -- Following by the kinds and numbers of the routes is following the routes. Assumes nothing.
+use Rattle.std.specs.Prelude.{Option, Some, None}
 use mathlib.Core.Path.{◌≡◌, refl, ◌∙◌, ap₂}
 use mathlib.Core.List.{List}
 use Prim.Native.Nat.{ℕ, ◌<◌}
 use native.Mathlib.Omega.{arith}
 use borrow.Author.Tests.{eq-eqb, ne_eqb}
 use lib.ListN.{get_or}
-use Rattle.fields.specs.declared.search.Found.{Found}
-use Rattle.fields.specs.declared.search.Found.TheVariants as found
 use Rattle.fields.proofs.UpTo.{row_at}
 use Rattle.dayfile.specs.Roster.{target_kind, target_number, target_of}
 use Rattle.dayfile.specs.Route.{target_in, followed, followed_from}
@@ -40,6 +39,6 @@ module _ (routes : List Route) where
   pub followed-by : (row : ℕ) → followed (target_by (kinds_of routes) (numbers_of routes)) row ≡ followed (target_in routes) row
   followed-by = followed_same (target_by (kinds_of routes) (numbers_of routes)) (target_in routes) target_at
 
-pub led-end : (r : Roster) (f : Found) → end_at (kinds_of r.routes) (numbers_of r.routes) f ≡ followed_from r f
-led-end r (found.At row) = followed-by r.routes row
-led-end r found.Nothing = refl
+pub led-end : (r : Roster) (f : Option ℕ) → end_at (kinds_of r.routes) (numbers_of r.routes) f ≡ followed_from r f
+led-end r (Some row) = followed-by r.routes row
+led-end r None = refl

@@ -4,10 +4,8 @@
 --     target_by    where a row leads, by kinds and numbers
 --     end_at       what following from a row that was found leads to, by them
 -- Assumes nothing.
-use Rattle.std.specs.Prelude.{ℕ, List, get_or}
+use Rattle.std.specs.Prelude.{ℕ, List, get_or, Option, Some, None}
 use Rattle.fields.specs.UpTo.{rows_to}
-use Rattle.fields.specs.declared.search.Found.{Found}
-use Rattle.fields.specs.declared.search.Found.TheVariants as found
 use Rattle.dayfile.specs.FileLimits.{most_routes}
 use Rattle.dayfile.specs.Roster.{target_kind, target_number, target_of}
 use Rattle.dayfile.specs.Route.{target_in, followed}
@@ -25,6 +23,6 @@ numbers_of routes = rows_to most_routes 0 (λ i. target_number (target_in routes
 abbrev pub target_by : List ℕ → List ℕ → ℕ → Target
 target_by kinds numbers row = target_of (get_or kinds row 0) (get_or numbers row 0)
 
-abbrev pub end_at : List ℕ → List ℕ → Found → Followed
-end_at kinds numbers (found.At row) = followed (target_by kinds numbers) row
-end_at kinds numbers found.Nothing = Nowhere
+abbrev pub end_at : List ℕ → List ℕ → Option ℕ → Followed
+end_at kinds numbers (Some row) = followed (target_by kinds numbers) row
+end_at kinds numbers None = Nowhere

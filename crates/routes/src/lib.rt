@@ -11,7 +11,6 @@ ghost use Rattle.routes.specs.Ways.{kinds_of, numbers_of, target_by, end_at};
 
 use dayfile::roster::{Route, Target};
 use dayfile::route::Followed;
-use fields::Found;
 
 // Where each row leads, as numbers: its kind, 0 participant or 1 row, and its k.
 #[derive(Clone, Copy)]
@@ -75,11 +74,11 @@ pub fn follow(kinds: &[u8; 64], numbers: &[usize; 64], row: usize) -> Followed
 }
 
 // The same from a row that was found on.
-pub fn end_of(kinds: &[u8; 64], numbers: &[usize; 64], found: Found) -> Followed
+pub fn end_of(kinds: &[u8; 64], numbers: &[usize; 64], found: Option<usize>) -> Followed
     ensures { result ≡ end_at kinds.now numbers.now found }
 {
     match found {
-        Found::At(row) => follow(kinds, numbers, row),
-        Found::Nothing => Followed::Nowhere,
+        Some(row) => follow(kinds, numbers, row),
+        None => Followed::Nowhere,
     }
 }

@@ -1,4 +1,5 @@
 -- What an accepted ticket has: its sender, the order that it is about, its party, status, amount, cover. Assumes nothing.
+use Rattle.std.specs.Prelude.{is_some}
 use mathlib.Core.Path.{◌≡◌}
 use mathlib.Core.Bool.{Bool, true, false, ◌&&◌, not}
 use mathlib.Core.List.{List}
@@ -6,7 +7,7 @@ use Prim.Native.Nat.{ℕ, ◌+◌, ◌≤◌, ◌<◌}
 use borrow.Author.Tests.{ltb-false, leb-false, eqb-true, not-false}
 use lib.Dec.{leb, ltb, eqb}
 use Rattle.fields.specs.Text.{same}
-use Rattle.fields.specs.Search.{is_found, number_of}
+use Rattle.fields.specs.Search.{number_of}
 use Rattle.fields.proofs.Finding.{FoundAt, found_at, not_found}
 use Rattle.ticket.specs.TicketLayout.{sender_of, payee_of, payer_of, txid_field}
 use Rattle.ticket.specs.declared.Fields.{Fields}
@@ -68,14 +69,14 @@ module _ (b : Book) (f : Fields) (t : List ℕ) where
   unfolding sender_in
   sender-found e named =
       found_at (λ p. same (participant_of b.roster p).bic (sender_of t)) b.roster.size
-      (not-false _ (second (names_sender terms.subject) (not (is_found (sender_in b.roster t))) e named))
+      (not-false _ (second (names_sender terms.subject) (not (is_some (sender_in b.roster t))) e named))
 
   -- 13 passed
   pub key-free : refusal13 (finding b f t) ≡ false → opens_order terms.subject ≡ true → (i : ℕ) → i < b.count → is_named i ≡ false
   unfolding order_in
   key-free e opens =
       not_found is_named b.count
-      (second (opens_order terms.subject) (is_found (order_in b.roster b.orders b.count t)) e opens)
+      (second (opens_order terms.subject) (is_some (order_in b.roster b.orders b.count t)) e opens)
 
   -- 14 passed
   pub payee-known : Guaranteed b.roster → refusal14 (finding b f t) ≡ false → opens_order terms.subject ≡ true
@@ -83,7 +84,7 @@ module _ (b : Book) (f : Fields) (t : List ℕ) where
   unfolding route_in way_in
   payee-known g e opens =
       let a = bic-arrives b.roster g (payee_of t)
-      (not-false _ (second (opens_order terms.subject) (not (is_found (route_in b.roster t))) e opens)) in
+      (not-false _ (second (opens_order terms.subject) (not (is_some (route_in b.roster t))) e opens)) in
       rw a.is a.known
 
   -- 15 passed
@@ -96,7 +97,7 @@ module _ (b : Book) (f : Fields) (t : List ℕ) where
   unfolding order_in
   order-found e named =
       found_at is_named b.count
-      (not-false _ (second (names_order terms.subject) (not (is_found (order_in b.roster b.orders b.count t))) e named))
+      (not-false _ (second (names_order terms.subject) (not (is_some (order_in b.roster b.orders b.count t))) e named))
 
   -- 17 passed
   pub right-party : refusal17 (finding b f t) ≡ false → names_order terms.subject ≡ true → sender_number ≡ party_of terms.party the_order

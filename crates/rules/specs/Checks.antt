@@ -9,9 +9,7 @@
 --     limit_check                                      22
 --     ..Refusal                                       the number of an answer, 0 where the check passes
 -- Assumes nothing.
-use Rattle.std.specs.Prelude.{ℕ, ◌+◌, Bool, true, false, ◌&&◌, not, cond, leb, ltb, eqb}
-use Rattle.fields.specs.declared.search.Found.{Found}
-use Rattle.fields.specs.declared.search.Found.TheVariants as found
+use Rattle.std.specs.Prelude.{ℕ, ◌+◌, Bool, true, false, ◌&&◌, not, cond, leb, ltb, eqb, Option, Some, None}
 use Rattle.dayfile.specs.Route.{reached}
 use Rattle.dayfile.specs.declared.route.Followed.{Followed}
 use Rattle.rules.specs.Book.{most_orders}
@@ -48,9 +46,9 @@ use Rattle.rules.specs.declared.checks.Limit.TheVariants.{Within, Above}
 use Rattle.rules.specs.declared.Status.{Status}
 
 -- 12. Sender no participant (all but 9 and 11)
-abbrev pub sender_check : Found → Sender
-sender_check (found.At p) = Is p
-sender_check found.Nothing = NoParticipant
+abbrev pub sender_check : Option ℕ → Sender
+sender_check (Some p) = Is p
+sender_check None = NoParticipant
 
 abbrev pub sender_refusal : Sender → ℕ
 sender_refusal (Is p) = 0
@@ -62,18 +60,18 @@ sending (Is p) = p
 sending NoParticipant = 0
 
 -- 13. Order: TxId already held (AM05). 02, slip 6: the pair of payer and TxId
-abbrev pub new_check : Found → Key
-new_check (found.At i) = AlreadyHeld
-new_check found.Nothing = New
+abbrev pub new_check : Option ℕ → Key
+new_check (Some i) = AlreadyHeld
+new_check None = New
 
 abbrev pub new_refusal : Key → ℕ
 new_refusal New = 0
 new_refusal AlreadyHeld = 13
 
 -- 14. Order: no route row with the payee BIC (PY01)
-abbrev pub payee_check : Found → Followed → Payee
-payee_check (found.At row) way = Reached (reached way)
-payee_check found.Nothing way = NoRoute
+abbrev pub payee_check : Option ℕ → Followed → Payee
+payee_check (Some row) way = Reached (reached way)
+payee_check None way = NoRoute
 
 abbrev pub payee_refusal : Payee → ℕ
 payee_refusal (Reached p) = 0
@@ -93,9 +91,9 @@ space_refusal Left = 0
 space_refusal Full = 15
 
 -- 16. Kinds 4 to 8: TxId not held (AG09, house). 02, slip 6: the pair of payer and TxId
-abbrev pub held_check : Found → Held
-held_check (found.At i) = Number i
-held_check found.Nothing = NotHeld
+abbrev pub held_check : Option ℕ → Held
+held_check (Some i) = Number i
+held_check None = NotHeld
 
 abbrev pub held_refusal : Held → ℕ
 held_refusal (Number i) = 0

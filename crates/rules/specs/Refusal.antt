@@ -8,8 +8,8 @@
 --     first_refusal              the first from 12 on that applies, 0 if none does
 -- Conditions from 12 on are of what was found in the book after the expiries.
 -- Assumes nothing.
-use Rattle.std.specs.Prelude.{ℕ, ◌+◌, Bool, true, false, ◌&&◌, not, cond, List, leb, ltb, eqb, length}
-use Rattle.fields.specs.Search.{is_found, number_of}
+use Rattle.std.specs.Prelude.{ℕ, ◌+◌, Bool, true, false, ◌&&◌, not, cond, List, leb, ltb, eqb, length, is_some}
+use Rattle.fields.specs.Search.{number_of}
 use Rattle.rules.specs.Book.{most_orders}
 use Rattle.rules.specs.Cover.{most_total}
 use Rattle.rules.specs.Status.{is_late}
@@ -50,15 +50,15 @@ timing_refusal Early = 11
 
 -- 12. Sender no participant (all but 9 and 11)
 abbrev pub refusal12 : Finding → Bool
-refusal12 x = names_sender (terms_of x.kind).subject && not (is_found x.sender)
+refusal12 x = names_sender (terms_of x.kind).subject && not (is_some x.sender)
 
 -- 13. Order: TxId already held (AM05). 02, slip 6: the pair of payer and TxId
 abbrev pub refusal13 : Finding → Bool
-refusal13 x = opens_order (terms_of x.kind).subject && is_found x.order
+refusal13 x = opens_order (terms_of x.kind).subject && is_some x.order
 
 -- 14. Order: no route row with the payee BIC (PY01)
 abbrev pub refusal14 : Finding → Bool
-refusal14 x = opens_order (terms_of x.kind).subject && not (is_found x.route)
+refusal14 x = opens_order (terms_of x.kind).subject && not (is_some x.route)
 
 -- 15. Order: 256 held (TECH)
 abbrev pub refusal15 : Finding → Bool
@@ -66,7 +66,7 @@ refusal15 x = opens_order (terms_of x.kind).subject && leb most_orders x.count
 
 -- 16. Kinds 4 to 8: TxId not held (AG09, house). 02, slip 6: the pair of payer and TxId
 abbrev pub refusal16 : Finding → Bool
-refusal16 x = names_order (terms_of x.kind).subject && not (is_found x.order)
+refusal16 x = names_order (terms_of x.kind).subject && not (is_some x.order)
 
 abbrev pub naming_of : Finding → Naming
 naming_of x =

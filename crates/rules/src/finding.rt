@@ -1,7 +1,6 @@
 // What a book finds in a ticket: all that refusals from 12 on and the ticket's own step look at.
 use super::{Cover, Order};
 use dayfile::route::Followed;
-use fields::Found;
 use ticket::kinds::Kind;
 
 #[derive(Clone, Copy)]
@@ -12,14 +11,14 @@ pub struct Finding {
     pub clock: u32,
     pub txid: [u8; 35],
     // the participant that sends it, and its cover
-    pub sender: Found,
+    pub sender: Option<usize>,
     pub cover: Cover,
     // the order with the payer and the TxId that it names, and whether that order's payee is a bank
-    pub order: Found,
+    pub order: Option<usize>,
     pub about: Order,
     pub bank: bool,
     // the route row with its payee BIC, and where that leads
-    pub route: Found,
+    pub route: Option<usize>,
     pub way: Followed,
     // of the book: orders held, held or open debit anywhere, all cover
     pub count: usize,

@@ -6,7 +6,6 @@
 use super::decision::Move;
 use super::{Cover, Status};
 use dayfile::route::Followed;
-use fields::Found;
 use ticket::kinds::Kind;
 
 // The order that a ticket is about, as far as it is looked at.
@@ -26,14 +25,14 @@ pub struct Facts {
     pub amount: u64,
     pub clock: u32,
     // the participant that sends it, and its cover
-    pub sender: Found,
+    pub sender: Option<usize>,
     pub cover: Cover,
     // the order with the payer and the TxId that it names, and whether that order's payee is a bank
-    pub order: Found,
+    pub order: Option<usize>,
     pub about: About,
     pub bank: bool,
     // the route row with its payee BIC, and where that leads
-    pub route: Found,
+    pub route: Option<usize>,
     pub way: Followed,
     // of the book: orders held, held or open debit anywhere, all cover
     pub count: usize,

@@ -3,10 +3,8 @@
 --     KnownBic        a BIC that was found is well formed
 --     KnownKey        so are a payer's BIC and a TxId, in its padded field, that were found together
 -- Assumes nothing.
-use Rattle.std.specs.Prelude.{ℕ, ◌≡◌, true, List, length}
+use Rattle.std.specs.Prelude.{ℕ, ◌≡◌, true, List, length, Option, is_some}
 use Rattle.fields.specs.Text.{unpadded}
-use Rattle.fields.specs.Search.{is_found}
-use Rattle.fields.specs.declared.search.Found.{Found}
 use Rattle.codes.specs.Bic.{is_bic}
 use Rattle.codes.specs.Txid.{is_txid}
 use Rattle.ticket.specs.TicketLayout.{ticket_length, kind_byte, flag_byte}
@@ -21,9 +19,9 @@ pub record TicketNaming (subject : Subject) (kind : Kind) (t : List ℕ) : Type 
   pub kinds : kinded (kind_byte t) (flag_byte t) ≡ As kind
   pub names : (terms_of kind).subject ≡ subject
 
-abbrev pub KnownBic : Found → List ℕ → Type 0
-KnownBic found s = is_found found ≡ true → is_bic s ≡ true
+abbrev pub KnownBic : Option ℕ → List ℕ → Type 0
+KnownBic found s = is_some found ≡ true → is_bic s ≡ true
 
 -- 02, slip 6: an order is found by payer and TxId together
-abbrev pub KnownKey : Found → List ℕ → List ℕ → Type 0
-KnownKey found payer txid = is_found found ≡ true → (is_bic payer ≡ true) × (is_txid (unpadded txid) ≡ true)
+abbrev pub KnownKey : Option ℕ → List ℕ → List ℕ → Type 0
+KnownKey found payer txid = is_some found ≡ true → (is_bic payer ≡ true) × (is_txid (unpadded txid) ≡ true)

@@ -6,48 +6,47 @@ ghost use Rattle.codes.specs.Txid.{is_txid};
 ghost use Rattle.ticket.specs.TicketLayout.{ticket_length, sender_of, payee_of, txid_field, txid_of};
 ghost use Rattle.shapes.specs.Subject.{KnownBic, KnownKey};
 
-use fields::Found;
 use ticket::layout;
 
-pub fn sender(found: Found, t: &[u8]) -> bool
+pub fn sender(found: Option<usize>, t: &[u8]) -> bool
     requires { (length t.now ≡ ticket_length) × KnownBic found (sender_of t.now) }
     ensures { result ≡ is_bic (sender_of t.now) }
 {
     match found {
-        Found::At(_) => true,
-        Found::Nothing => codes::zolfigar_bic_ok(&t[layout::SENDER..layout::PAYEE]) == 1,
+        Some(_) => true,
+        None => codes::zolfigar_bic_ok(&t[layout::SENDER..layout::PAYEE]) == 1,
     }
 }
 
-pub fn payee(found: Found, t: &[u8]) -> bool
+pub fn payee(found: Option<usize>, t: &[u8]) -> bool
     requires { (length t.now ≡ ticket_length) × KnownBic found (payee_of t.now) }
     ensures { result ≡ is_bic (payee_of t.now) }
 {
     match found {
-        Found::At(_) => true,
-        Found::Nothing => codes::zolfigar_bic_ok(&t[layout::PAYEE..layout::TXID]) == 1,
+        Some(_) => true,
+        None => codes::zolfigar_bic_ok(&t[layout::PAYEE..layout::TXID]) == 1,
     }
 }
 
 // An order's TxId, where the order is searched for by its sender.
-pub fn txid(found: Found, t: &[u8]) -> bool
+pub fn txid(found: Option<usize>, t: &[u8]) -> bool
     requires { (length t.now ≡ ticket_length) × KnownKey found (sender_of t.now) (txid_field t.now) }
     ensures { result ≡ is_txid (txid_of t.now) }
 {
     match found {
-        Found::At(_) => true,
-        Found::Nothing => codes::txid_ok(&t[layout::TXID..layout::IBAN]),
+        Some(_) => true,
+        None => codes::txid_ok(&t[layout::TXID..layout::IBAN]),
     }
 }
 
 // The payer and the TxId that kinds 4 to 8 name.
-pub fn key(found: Found, t: &[u8]) -> bool
+pub fn key(found: Option<usize>, t: &[u8]) -> bool
     requires { (length t.now ≡ ticket_length) × KnownKey found (payee_of t.now) (txid_field t.now) }
     ensures { result ≡ (is_bic (payee_of t.now) && is_txid (txid_of t.now)) }
 {
     match found {
-        Found::At(_) => true,
-        Found::Nothing => {
+        Some(_) => true,
+        None => {
             let payer = codes::zolfigar_bic_ok(&t[layout::PAYER..layout::TXID]) == 1;
             payer & codes::txid_ok(&t[layout::TXID..layout::IBAN])
         }

@@ -13,7 +13,6 @@ ghost use Rattle.ticket.specs.Form.{form_of};
 ghost use Rattle.ticket.specs.Shape.{shape_of, account_of};
 ghost use Rattle.shapes.specs.Subject.{TicketNaming, KnownBic, KnownKey};
 
-use fields::Found;
 use rules::terms::Subject;
 use ticket::kinds::Kind;
 use ticket::layout;
@@ -38,7 +37,7 @@ pub fn nothing(t: &[u8], kind: Kind) -> Shape
 }
 
 // 7. It lists amount and sender.
-pub fn cover(t: &[u8], kind: Kind, sender: Found) -> Shape
+pub fn cover(t: &[u8], kind: Kind, sender: Option<usize>) -> Shape
     requires { TicketNaming Subject.Sender kind t.now × KnownBic sender (sender_of t.now) }
     ensures { result ≡ shape_of t.now }
 {
@@ -49,7 +48,7 @@ pub fn cover(t: &[u8], kind: Kind, sender: Found) -> Shape
 }
 
 // 7. It lists sender, payer and TxId, and a return its amount.
-pub fn about(t: &[u8], kind: Kind, sender: Found, order: Found) -> Shape
+pub fn about(t: &[u8], kind: Kind, sender: Option<usize>, order: Option<usize>) -> Shape
     requires { TicketNaming Subject.HeldOrder kind t.now × KnownBic sender (sender_of t.now)
         × KnownKey order (payee_of t.now) (txid_field t.now) }
     ensures { result ≡ shape_of t.now }
@@ -64,7 +63,7 @@ pub fn about(t: &[u8], kind: Kind, sender: Found, order: Found) -> Shape
 }
 
 // 7. An order lists every field.
-pub fn order(t: &[u8], sender: Found, order: Found, route: Found) -> Shape
+pub fn order(t: &[u8], sender: Option<usize>, order: Option<usize>, route: Option<usize>) -> Shape
     requires { TicketNaming Subject.NewOrder Kind.Order t.now × KnownBic sender (sender_of t.now)
         × KnownKey order (sender_of t.now) (txid_field t.now) × KnownBic route (payee_of t.now) }
     ensures { result ≡ shape_of t.now }

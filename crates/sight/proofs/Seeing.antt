@@ -1,4 +1,5 @@
 -- What is seen of a ticket, check by check. Assumes nothing.
+use Rattle.std.specs.Prelude.{Option}
 use mathlib.Core.Path.{◌≡◌, refl, sym, ◌∙◌, ap}
 use mathlib.Core.Bool.{Bool, true, false, cond}
 use mathlib.Core.List.{List}
@@ -6,7 +7,6 @@ use Prim.Native.Nat.{ℕ, ◌<◌}
 use native.Mathlib.Omega.{arith}
 use borrow.Author.Tests.{eqb-false}
 use lib.Dec.{ltb, eqb}
-use Rattle.fields.specs.declared.search.Found.{Found}
 use Rattle.ticket.specs.TicketLayout.{kind_byte, flag_byte, amount_of, time_of}
 use Rattle.ticket.specs.Kind.{kinded}
 use Rattle.ticket.specs.Form.{form_of}
@@ -32,7 +32,7 @@ use Rattle.sight.specs.declared.Sight.{Sight}
 use Rattle.sight.specs.declared.Sight.TheVariants.{Read, Refused}
 use Rattle.shapes.proofs.Forms.{formed-kind, no-account}
 
-module _ (clock : ℕ) (t : List ℕ) (sender order route : Found) where
+module _ (clock : ℕ) (t : List ℕ) (sender order route : Option ℕ) where
   -- of what was read
   abbrev sight-read : Reading → Sight
   sight-read r = sight_as (read_entry clock r) sender order route
@@ -76,7 +76,7 @@ module _ (clock : ℕ) (t : List ℕ) (sender order route : Found) where
       sight-named k (formed-kind s k t n j e) (no-account k t (ap opens_order n.names ∙ opens))
       ∙ ap (asked k) n.names
 
-module _ (clock : ℕ) (t : List ℕ) (sender order route : Found) where
+module _ (clock : ℕ) (t : List ℕ) (sender order route : Option ℕ) where
   -- by the test of its refusal
   abbrev tested : Bool → Sight
   tested b = cond b (Read (seen_as (entry_of clock t) sender order route)) (Refused (entry_of clock t).refusal)

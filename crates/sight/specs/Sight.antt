@@ -5,8 +5,7 @@
 --     sight_of         of any ticket
 --     sight_refusal    the number, 0 where the ticket passes
 -- Assumes nothing.
-use Rattle.std.specs.Prelude.{ℕ, cond, List, eqb}
-use Rattle.fields.specs.declared.search.Found.{Found}
+use Rattle.std.specs.Prelude.{ℕ, cond, List, eqb, Option}
 use Rattle.rules.specs.Terms.{terms_of, names_sender, opens_order}
 use Rattle.course.specs.Entry.{entry_of}
 use Rattle.course.specs.Seeking.{if, seeks_order}
@@ -15,7 +14,7 @@ use Rattle.sight.specs.declared.Seen.{Seen}
 use Rattle.sight.specs.declared.Sight.{Sight}
 use Rattle.sight.specs.declared.Sight.TheVariants.{Read, Refused}
 
-abbrev pub seen_as : Entry → Found → Found → Found → Seen
+abbrev pub seen_as : Entry → Option ℕ → Option ℕ → Option ℕ → Seen
 seen_as e sender order route =
     let subject = (terms_of e.kind).subject in
     record {
@@ -30,10 +29,10 @@ seen_as e sender order route =
 abbrev pub sight_by : ℕ → Seen → Sight
 sight_by n seen = cond (eqb n 0) (Read seen) (Refused n)
 
-abbrev pub sight_as : Entry → Found → Found → Found → Sight
+abbrev pub sight_as : Entry → Option ℕ → Option ℕ → Option ℕ → Sight
 sight_as e sender order route = sight_by e.refusal (seen_as e sender order route)
 
-abbrev pub sight_of : ℕ → List ℕ → Found → Found → Found → Sight
+abbrev pub sight_of : ℕ → List ℕ → Option ℕ → Option ℕ → Option ℕ → Sight
 sight_of clock t sender order route = sight_as (entry_of clock t) sender order route
 
 abbrev pub sight_refusal : Sight → ℕ

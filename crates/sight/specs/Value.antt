@@ -6,8 +6,7 @@
 --     value_sight      refused by that, or what is seen
 --     formed_sight     refused by 7 or 8, or by that, or what is seen
 -- Assumes nothing.
-use Rattle.std.specs.Prelude.{ℕ, cond, List, ltb}
-use Rattle.fields.specs.declared.search.Found.{Found}
+use Rattle.std.specs.Prelude.{ℕ, cond, List, ltb, Option}
 use Rattle.ticket.specs.TicketLayout.{amount_of, time_of}
 use Rattle.ticket.specs.TicketRefusal.{stated_refusal, amount_limit_refusal}
 use Rattle.ticket.specs.declared.kinds.Kind.{Kind}
@@ -42,7 +41,7 @@ value_refusal clock t amounts =
     (first_of (amount_limit_refusal (limit_by amounts (stated_amount (stated_by amounts t))))
     (timing_refusal (timing_of clock (time_of t))))
 
-abbrev pub value_sight : ℕ → List ℕ → Kind → Found → Found → Found → Sight
+abbrev pub value_sight : ℕ → List ℕ → Kind → Option ℕ → Option ℕ → Option ℕ → Sight
 value_sight clock t kind sender order route =
     sight_by (value_refusal clock t (amounts_of kind))
     (record {

@@ -14,7 +14,6 @@ ghost use Rattle.index.specs.LentRows.{BicRows, KeyRows};
 ghost use Rattle.index.specs.Words.{bic_words, key_words};
 ghost use Rattle.sight.specs.Sight.{sight_of, sight_refusal};
 
-use fields::Found;
 use subjects::Formed;
 use ticket::kinds::{Kind, Kinded};
 use ticket::{kinds, layout};
@@ -25,9 +24,9 @@ pub struct Seen {
     pub kind: Kind,
     pub time: u32,
     pub amount: u64,
-    pub sender: Found,
-    pub order: Found,
-    pub route: Found,
+    pub sender: Option<usize>,
+    pub order: Option<usize>,
+    pub route: Option<usize>,
 }
 
 #[derive(Clone, Copy)]

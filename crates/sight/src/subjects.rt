@@ -2,7 +2,7 @@
 // anything. A class promises `sight_of` whatever that is, and at any clock; so `formed_of` hands its own findings in, and searches only
 // for what the class asks for. A refusal is the same whether searches come before the tests of form or behind them, since searching
 // changes nothing.
-ghost use Rattle.std.specs.Prelude.{◌≡◌, ℕ, length};
+ghost use Rattle.std.specs.Prelude.{◌≡◌, ℕ, length, Option};
 ghost use Rattle.fields.specs.Rows.{first_row};
 ghost use Rattle.ticket.specs.TicketLayout.{ticket_length, kind_byte, flag_byte, sender_of, payee_of, payer_of, txid_field};
 ghost use Rattle.ticket.specs.Kind.{kinded};
@@ -13,7 +13,6 @@ ghost use Rattle.sight.specs.Sight.{sight_of};
 ghost use Rattle.sight.specs.Value.{formed_sight};
 ghost use Rattle.shapes.specs.Subject.{TicketNaming, KnownBic, KnownKey};
 
-use fields::Found;
 use rules::terms::Subject;
 use ticket::kinds::{Kind, Kinded};
 use ticket::layout;
@@ -22,7 +21,7 @@ use ticket::shapes::{Account, Shape};
 // Sender, order and route of a ticket that 7 and 8 do not refuse.
 #[derive(Clone, Copy)]
 pub enum Formed {
-    With(Found, Found, Found),
+    With(Option<usize>, Option<usize>, Option<usize>),
     Refused(u8),
 }
 
@@ -48,42 +47,42 @@ fn subject_of(kind: Kind) -> Subject
 // Kinds 9 and 11.
 fn nothing(t: &[u8], kind: Kind) -> Formed
     requires { TicketNaming Subject.Nothing kind t.now }
-    ensures { (clock : ℕ) (sender order route : Found)
+    ensures { (clock : ℕ) (sender order route : Option ℕ)
         → formed_sight clock t.now kind result ≡ sight_of clock t.now sender order route }
 {
     let Shape::Formed(_) = shapes::nothing(t, kind) else {
         return Formed::Refused(7);
     };
-    Formed::With(Found::Nothing, Found::Nothing, Found::Nothing)
+    Formed::With(None, None, None)
 }
 
 // Kinds 1, 2 and 10.
-fn cover(t: &[u8], kind: Kind, sender: Found) -> Formed
+fn cover(t: &[u8], kind: Kind, sender: Option<usize>) -> Formed
     requires { TicketNaming Subject.Sender kind t.now × KnownBic sender (sender_of t.now) }
-    ensures { (clock : ℕ) (order route : Found)
+    ensures { (clock : ℕ) (order route : Option ℕ)
         → formed_sight clock t.now kind result ≡ sight_of clock t.now sender order route }
 {
     let Shape::Formed(_) = shapes::cover(t, kind, sender) else {
         return Formed::Refused(7);
     };
-    Formed::With(sender, Found::Nothing, Found::Nothing)
+    Formed::With(sender, None, None)
 }
 
 // Kinds 4 to 8.
-fn about(t: &[u8], kind: Kind, sender: Found, order: Found) -> Formed
+fn about(t: &[u8], kind: Kind, sender: Option<usize>, order: Option<usize>) -> Formed
     requires { TicketNaming Subject.HeldOrder kind t.now × KnownBic sender (sender_of t.now)
         × KnownKey order (payee_of t.now) (txid_field t.now) }
-    ensures { (clock : ℕ) (route : Found)
+    ensures { (clock : ℕ) (route : Option ℕ)
         → formed_sight clock t.now kind result ≡ sight_of clock t.now sender order route }
 {
     let Shape::Formed(_) = shapes::about(t, kind, sender, order) else {
         return Formed::Refused(7);
     };
-    Formed::With(sender, order, Found::Nothing)
+    Formed::With(sender, order, None)
 }
 
 // Kind 3.
-fn order(t: &[u8], sender: Found, order: Found, route: Found) -> Formed
+fn order(t: &[u8], sender: Option<usize>, order: Option<usize>, route: Option<usize>) -> Formed
     requires { TicketNaming Subject.NewOrder Kind.Order t.now × KnownBic sender (sender_of t.now)
         × KnownKey order (sender_of t.now) (txid_field t.now) × KnownBic route (payee_of t.now) }
     ensures { (clock : ℕ)

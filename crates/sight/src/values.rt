@@ -7,7 +7,6 @@ ghost use Rattle.rules.specs.Refusal.{timing_of};
 ghost use Rattle.sight.specs.Value.{stated_by, limit_by, value_sight};
 
 use super::{Seen, Sight};
-use fields::Found;
 use rules::refusal::Timing;
 use shapes::amounts;
 use shapes::amounts::Amounts;
@@ -51,7 +50,7 @@ fn timing(clock: u32, time: u32) -> Timing
 }
 
 // What is seen of a ticket that 7 and 8 do not refuse.
-pub fn valued(clock: u32, t: &[u8], kind: Kind, sender: Found, order: Found, route: Found) -> Sight
+pub fn valued(clock: u32, t: &[u8], kind: Kind, sender: Option<usize>, order: Option<usize>, route: Option<usize>) -> Sight
     requires { length t.now ≡ ticket_length }
     ensures { result ≡ value_sight clock t.now kind sender order route }
 {

@@ -7,16 +7,15 @@
 --     sender-bic                             who opens an order has the sender's BIC
 --     facts-are                              the facts; way-is, number_is: the way and the order's number
 --     new-order                              the order that a ticket opens
+use Rattle.std.specs.Prelude.{Option, None, is_some}
 use mathlib.Core.Path.{◌≡◌, refl, sym, ◌∙◌, ap, ap₂}
 use mathlib.Core.Bool.{Bool, true, false, ◌&&◌, cond}
 use mathlib.Core.List.{List}
 use Prim.Native.Nat.{ℕ, ◌≤◌, ◌<◌}
 use native.Mathlib.Omega.{arith}
-use Rattle.fields.specs.Search.{is_found, number_of, first_to}
+use Rattle.fields.specs.Search.{number_of, first_to}
 use Rattle.fields.specs.Text.{same}
 use Rattle.fields.specs.UpTo.{any_to}
-use Rattle.fields.specs.declared.search.Found.{Found}
-use Rattle.fields.specs.declared.search.Found.TheVariants as found
 use Rattle.fields.proofs.Finding.{first-same, found_at}
 use Rattle.fields.proofs.Same.{same_true}
 use Rattle.fields.proofs.Tests.{never}
@@ -48,18 +47,18 @@ use Rattle.verdict.proofs.VerdictLaws.{opens-sent}
 use Rattle.turns.proofs.Turn.{Expired, after-sound, after-count, after-roster, after-key, after-all}
 
 -- the row of a payee BIC, where the kind asks for it
-abbrev pub sought_route : Book → Entry → List ℕ → Found
-sought_route b e t = cond (opens_order (terms_of e.kind).subject) (route_in b.roster t) found.Nothing
+abbrev pub sought_route : Book → Entry → List ℕ → Option ℕ
+sought_route b e t = cond (opens_order (terms_of e.kind).subject) (route_in b.roster t) None
 
 -- a participant that was found has the sender's BIC
-found-bic : (r : Roster) (t : List ℕ) (z : Bool) → is_found (cond z (sender_in r t) found.Nothing) ≡ true
-    → (participant_of r (number_of (cond z (sender_in r t) found.Nothing))).bic ≡ sender_of t
+found-bic : (r : Roster) (t : List ℕ) (z : Bool) → is_some (cond z (sender_in r t) None) ≡ true
+    → (participant_of r (number_of (cond z (sender_in r t) None))).bic ≡ sender_of t
 unfolding sender_in
 found-bic r t true e = same_true _ _ (found_at (λ p. same (participant_of r p).bic (sender_of t)) r.size e).passes
 found-bic r t false e = never (sym e)
 
 -- what was found before the expiries, and the numbers of sender and order
-pub record Searched (b : Book) (t : List ℕ) (e : Entry) (sender order route : Found) (p i : ℕ) : Type 0 where
+pub record Searched (b : Book) (t : List ℕ) (e : Entry) (sender order route : Option ℕ) (p i : ℕ) : Type 0 where
   pub sends : sender ≡ sought_sender b e t
   pub names : order ≡ sought_order b e t
   pub leads : route ≡ sought_route b e t
@@ -69,10 +68,10 @@ pub record Searched (b : Book) (t : List ℕ) (e : Entry) (sender order route : 
 module _ {b : Book} {t : List ℕ} {e : Entry} {n₀ : ℕ} {text₀ : List ℕ} {c : Book} {m n : ℕ} {text : List ℕ}
     (w : Expired b t e n₀ text₀ c m n text) where
   pub sender-same : sought_sender b e t ≡ sought_sender c e t
-  sender-same = ap (λ (r : Roster). cond (names_sender (terms_of e.kind).subject) (sender_in r t) found.Nothing) (sym (after-roster w))
+  sender-same = ap (λ (r : Roster). cond (names_sender (terms_of e.kind).subject) (sender_in r t) None) (sym (after-roster w))
 
   pub route-same : sought_route b e t ≡ sought_route c e t
-  route-same = ap (λ (r : Roster). cond (opens_order (terms_of e.kind).subject) (route_in r t) found.Nothing) (sym (after-roster w))
+  route-same = ap (λ (r : Roster). cond (opens_order (terms_of e.kind).subject) (route_in r t) None) (sym (after-roster w))
 
   -- all cover together, as it was before the expiries
   all-is : {all : ℕ} → all ≡ all_of b.covers → all ≡ (sought c e t).total
@@ -101,9 +100,9 @@ module _ {b : Book} {t : List ℕ} {e : Entry} {n₀ : ℕ} {text₀ : List ℕ}
       (opens-sent (facts_of (sought c e t)) (ap (λ (y : Verdict). y.does) (sym is) ∙ opens))
 
   pub order_same : sought_order b e t ≡ sought_order c e t
-  order_same = ap (λ (x : Found). cond (seeks_order (terms_of e.kind).subject) x found.Nothing) found-same
+  order_same = ap (λ (x : Option ℕ). cond (seeks_order (terms_of e.kind).subject) x None) found-same
 
-  module _ {sender order route : Found} {p i : ℕ} (f : Searched b t e sender order route p i) where
+  module _ {sender order route : Option ℕ} {p i : ℕ} (f : Searched b t e sender order route p i) where
     sender-is : sender ≡ sought_sender c e t
     sender-is = f.sends ∙ sender-same
 

@@ -1,12 +1,11 @@
 -- A verdict stands for what `course` judges: `judged-verdict`. Kind by kind the first refusal that applies is that of the chain of checks,
 -- and the step's verdict stands for the step's decision. Assumes nothing.
+use Rattle.std.specs.Prelude.{Option, Some, None}
 use mathlib.Core.Path.{◌≡◌, refl, sym, ◌∙◌, ap}
 use mathlib.Core.Bool.{Bool, true, false, ◌&&◌, not, cond}
 use Prim.Native.Nat.{ℕ, ◌+◌}
 use borrow.Author.Tests.{eqb-true}
 use lib.Dec.{eqb, ltb, leb}
-use Rattle.fields.specs.declared.search.Found.{Found}
-use Rattle.fields.specs.declared.search.Found.TheVariants.{At, Nothing}
 use Rattle.ticket.specs.declared.kinds.Kind.{Kind}
 use Rattle.ticket.specs.declared.kinds.Kind.TheVariants as kind
 use Rattle.dayfile.specs.Route.{reached}
@@ -199,7 +198,7 @@ module _ (x : Finding) where
   about = about_of x.about
 
   -- of any kind, whatever was found of sender, order and route
-  abbrev of : Kind → Found → Found → Found → Finding
+  abbrev of : Kind → Option ℕ → Option ℕ → Option ℕ → Finding
   of k sender order route =
       record {
         kind = k;
@@ -221,73 +220,73 @@ module _ (x : Finding) where
   abbrev Stands : Finding → Type 0
   Stands y = judged 0 y ≡ judged_by y (verdict_of (facts_of y))
 
-  cover-in : (s o r : Found) → Stands (of kind.CoverIn s o r)
-  cover-in Nothing o r = refl
-  cover-in (At p) o r =
-      unless-judged (of kind.CoverIn (At p) o r) (cover_in_refusal (At p) x.total x.amount) (cover_moved p Give x.amount)
+  cover-in : (s o r : Option ℕ) → Stands (of kind.CoverIn s o r)
+  cover-in None o r = refl
+  cover-in (Some p) o r =
+      unless-judged (of kind.CoverIn (Some p) o r) (cover_in_refusal (Some p) x.total x.amount) (cover_moved p Give x.amount)
       (limit-alone (ltb most_total (x.total + x.amount))) refl refl
 
-  cover-out : (s o r : Found) → Stands (of kind.CoverOut s o r)
-  cover-out Nothing o r = refl
-  cover-out (At p) o r =
-      unless-judged (of kind.CoverOut (At p) o r) (cover_out_refusal (At p) x.cover.available x.amount) (cover_moved p Draw x.amount)
+  cover-out : (s o r : Option ℕ) → Stands (of kind.CoverOut s o r)
+  cover-out None o r = refl
+  cover-out (Some p) o r =
+      unless-judged (of kind.CoverOut (Some p) o r) (cover_out_refusal (Some p) x.cover.available x.amount) (cover_moved p Draw x.amount)
       (funds-alone (ltb x.cover.available x.amount)) refl refl
 
-  order : (s o r : Found) → Stands (of kind.Order s o r)
-  order Nothing o r = refl
-  order (At p) (At i) r = refl
-  order (At p) Nothing Nothing = refl
-  order (At p) Nothing (At row) =
-      unless-judged (of kind.Order (At p) Nothing (At row))
-      (order_refusal (At p) Nothing (At row) x.way x.count x.cover.available x.amount)
+  order : (s o r : Option ℕ) → Stands (of kind.Order s o r)
+  order None o r = refl
+  order (Some p) (Some i) r = refl
+  order (Some p) None None = refl
+  order (Some p) None (Some row) =
+      unless-judged (of kind.Order (Some p) None (Some row))
+      (order_refusal (Some p) None (Some row) x.way x.count x.cover.available x.amount)
       (opened x.count p (reached x.way) x.amount)
       (space-funds (leb most_orders x.count) (ltb x.cover.available x.amount)) refl refl
 
-  yes : (s o r : Found) → Stands (of kind.Yes s o r)
-  yes Nothing o r = refl
-  yes (At p) Nothing r = refl
-  yes (At p) (At i) r =
-      let y = of kind.Yes (At p) (At i) r in
-      unless-judged y (answer_refusal (At p) (At i) about) (settled i about x.bank x.clock)
+  yes : (s o r : Option ℕ) → Stands (of kind.Yes s o r)
+  yes None o r = refl
+  yes (Some p) None r = refl
+  yes (Some p) (Some i) r =
+      let y = of kind.Yes (Some p) (Some i) r in
+      unless-judged y (answer_refusal (Some p) (Some i) about) (settled i about x.bank x.clock)
       (party-standing (eqb p about.payee) (is_waiting about.status)) refl
       (ap
       (order_becomes y (status.Settled mark.None x.clock) (by about.payer Spend about.amount)
       (by about.payee Give about.amount))
       (yes-told about.payer about.payee i about.amount x.bank))
 
-  no : (s o r : Found) → Stands (of kind.No s o r)
-  no Nothing o r = refl
-  no (At p) Nothing r = refl
-  no (At p) (At i) r =
-      unless-judged (of kind.No (At p) (At i) r) (answer_refusal (At p) (At i) about) (turned_down i about)
+  no : (s o r : Option ℕ) → Stands (of kind.No s o r)
+  no None o r = refl
+  no (Some p) None r = refl
+  no (Some p) (Some i) r =
+      unless-judged (of kind.No (Some p) (Some i) r) (answer_refusal (Some p) (Some i) about) (turned_down i about)
       (party-standing (eqb p about.payee) (is_waiting about.status)) refl refl
 
-  recall : (s o r : Found) → Stands (of kind.Recall s o r)
-  recall Nothing o r = refl
-  recall (At p) Nothing r = refl
-  recall (At p) (At i) r =
-      unless-judged (of kind.Recall (At p) (At i) r) (recall_refusal (At p) (At i) about x.clock) (recalled i about)
+  recall : (s o r : Option ℕ) → Stands (of kind.Recall s o r)
+  recall None o r = refl
+  recall (Some p) None r = refl
+  recall (Some p) (Some i) r =
+      unless-judged (of kind.Recall (Some p) (Some i) r) (recall_refusal (Some p) (Some i) about x.clock) (recalled i about)
       (recall-checks (eqb p about.payer) (is_unmarked about.status) (is_late x.clock about.status)) refl refl
 
-  return : (s o r : Found) → Stands (of kind.Return s o r)
-  return Nothing o r = refl
-  return (At p) Nothing r = refl
-  return (At p) (At i) r =
-      unless-judged (of kind.Return (At p) (At i) r)
-      (return_refusal (At p) (At i) about x.cover.available x.amount) (returned i about x.amount)
+  return : (s o r : Option ℕ) → Stands (of kind.Return s o r)
+  return None o r = refl
+  return (Some p) None r = refl
+  return (Some p) (Some i) r =
+      unless-judged (of kind.Return (Some p) (Some i) r)
+      (return_refusal (Some p) (Some i) about x.cover.available x.amount) (returned i about x.amount)
       (return-checks (eqb p about.payee) (is_asked about.status) (ltb about.amount x.amount)
       (ltb x.cover.available x.amount))
       refl refl
 
-  decline : (s o r : Found) → Stands (of kind.Decline s o r)
-  decline Nothing o r = refl
-  decline (At p) Nothing r = refl
-  decline (At p) (At i) r =
-      unless-judged (of kind.Decline (At p) (At i) r) (decline_refusal (At p) (At i) about) (declined i about)
+  decline : (s o r : Option ℕ) → Stands (of kind.Decline s o r)
+  decline None o r = refl
+  decline (Some p) None r = refl
+  decline (Some p) (Some i) r =
+      unless-judged (of kind.Decline (Some p) (Some i) r) (decline_refusal (Some p) (Some i) about) (declined i about)
       (party-standing (eqb p about.payee) (is_asked about.status)) refl refl
 
-  inquiry-told : (p i : ℕ) (r : Found) (s : Status)
-      → inquiry_answer (of kind.Inquiry (At p) (At i) r) s
+  inquiry-told : (p i : ℕ) (r : Option ℕ) (s : Status)
+      → inquiry_answer (of kind.Inquiry (Some p) (Some i) r) s
       ≡ notices_told (answer_told about x.bank s) (answer_also about s) i (answer_amount about s)
   inquiry-told p i r status.Waiting = waiting-told about.payer about.payee i about.amount x.bank
   inquiry-told p i r status.Refused = refl
@@ -297,29 +296,29 @@ module _ (x : Finding) where
   inquiry-told p i r (status.Settled mark.Asked at) = refl
   inquiry-told p i r (status.Settled mark.Declined at) = refl
 
-  inquiry : (s o r : Found) → Stands (of kind.Inquiry s o r)
-  inquiry Nothing o r = refl
-  inquiry (At p) Nothing r = refl
-  inquiry (At p) (At i) r =
-      let y = of kind.Inquiry (At p) (At i) r in
-      unless-judged y (inquiry_refusal (At p) (At i) about) (answered i about x.bank)
+  inquiry : (s o r : Option ℕ) → Stands (of kind.Inquiry s o r)
+  inquiry None o r = refl
+  inquiry (Some p) None r = refl
+  inquiry (Some p) (Some i) r =
+      let y = of kind.Inquiry (Some p) (Some i) r in
+      unless-judged y (inquiry_refusal (Some p) (Some i) about) (answered i about x.bank)
       (party-alone (eqb p about.payer)) refl
       (ap (order_kept y nobody false) (inquiry-told p i r about.status))
 
-  cut : (s o r : Found) → Stands (of kind.Cut s o r)
+  cut : (s o r : Option ℕ) → Stands (of kind.Cut s o r)
   cut s o r = unless-judged (of kind.Cut s o r) (cut_refusal (cut_check x.unconfirmed)) cut_verdict (cut-alone x.unconfirmed) refl refl
 
-  confirm : (s o r : Found) → Stands (of kind.Confirm s o r)
-  confirm Nothing o r = refl
-  confirm (At p) o r =
+  confirm : (s o r : Option ℕ) → Stands (of kind.Confirm s o r)
+  confirm None o r = refl
+  confirm (Some p) o r =
       let c = x.cover in
-      confirm-checks (of kind.Confirm (At p) o r) p x.amount (eqb c.held 0) (not (eqb c.debit 0) && leb x.amount c.debit)
+      confirm-checks (of kind.Confirm (Some p) o r) p x.amount (eqb c.held 0) (not (eqb c.debit 0) && leb x.amount c.debit)
       (eqb x.amount c.held) (ltb most_total (x.total + x.amount))
 
-  tick : (s o r : Found) → Stands (of kind.Tick s o r)
+  tick : (s o r : Option ℕ) → Stands (of kind.Tick s o r)
   tick s o r = refl
 
-  by_kind : (k : Kind) (s o r : Found) → Stands (of k s o r)
+  by_kind : (k : Kind) (s o r : Option ℕ) → Stands (of k s o r)
   by_kind kind.CoverIn = cover-in
   by_kind kind.CoverOut = cover-out
   by_kind kind.Order = order

@@ -5,14 +5,13 @@
 --     verdict-gains       the second mover stays or is given
 --     cuts-alone          a cut moves no cover by itself, and tells by the cut alone
 --     opens-sent          only an order opens one, and it has a sender
+use Rattle.std.specs.Prelude.{Option, Some, None, is_some}
 use mathlib.Core.Path.{◌≡◌, refl, subst}
 use mathlib.Core.Bool.{Bool, true, false, cond}
 use Prim.Native.Nat.{ℕ, ◌<◌}
 use native.Mathlib.Omega.{arith}
 use lib.Dec.{eqb}
-use Rattle.fields.specs.Search.{is_found, number_of}
-use Rattle.fields.specs.declared.search.Found.{Found}
-use Rattle.fields.specs.declared.search.Found.TheVariants as found
+use Rattle.fields.specs.Search.{number_of}
 use Rattle.ticket.specs.declared.kinds.Kind.{Kind}
 use Rattle.ticket.specs.declared.kinds.Kind.TheVariants as kind
 use Rattle.dayfile.specs.Route.{reached}
@@ -167,17 +166,17 @@ pub record VerdictInRange (size orders : ℕ) (v : Verdict) : Type 0 where
   pub also : v.also.to < size
   pub number : v.number < orders
 
-sends : (f : Found) (n : ℕ) → number_of f < n → sending (sender_check f) < n
-sends (found.At p) n h = h
-sends found.Nothing n h = h
+sends : (f : Option ℕ) (n : ℕ) → number_of f < n → sending (sender_check f) < n
+sends (Some p) n h = h
+sends None n h = h
 
-names : (f : Found) (n : ℕ) → number_of f < n → named (held_check f) < n
-names (found.At i) n h = h
-names found.Nothing n h = h
+names : (f : Option ℕ) (n : ℕ) → number_of f < n → named (held_check f) < n
+names (Some i) n h = h
+names None n h = h
 
-receives : (f : Found) (w : Followed) (n : ℕ) → reached w < n → receiving (payee_check f w) < n
-receives (found.At row) w n h = h
-receives found.Nothing w n h = omega arith
+receives : (f : Option ℕ) (w : Followed) (n : ℕ) → reached w < n → receiving (payee_check f w) < n
+receives (Some row) w n h = h
+receives None w n h = omega arith
 
 module _ (size : ℕ) (a : About) (payer : a.payer < size) (payee : a.payee < size) where
   told_below : (bank : Bool) (s : Status) → (answer_told a bank s).to < size
@@ -301,13 +300,13 @@ step-opens kind.Cut x e = cc
 step-opens kind.Confirm x e = cc
 step-opens kind.Tick x e = cc
 
-order-sent : (x : Facts) (sender : Found)
+order-sent : (x : Facts) (sender : Option ℕ)
     → (order_verdict sender x.order x.route x.way x.count x.cover.available x.amount).does ≡ Opens
-    → is_found sender ≡ true
-order-sent x (found.At p) e = refl
-order-sent x found.Nothing e = cc
+    → is_some sender ≡ true
+order-sent x (Some p) e = refl
+order-sent x None e = cc
 
-pub opens-sent : (x : Facts) → (verdict_of x).does ≡ Opens → is_found x.sender ≡ true
+pub opens-sent : (x : Facts) → (verdict_of x).does ≡ Opens → is_some x.sender ≡ true
 opens-sent x e =
     let is = every (λ v. v.does ≡ Opens → x.kind ≡ kind.Order) (λ n e. cc) x (step-opens x.kind x) e in
     order-sent x x.sender (subst (λ (k : Kind). (verdict_for k x).does ≡ Opens) is e)

@@ -3,14 +3,13 @@
 --     moved_by_lem                         a cover moves as the decision has it, and there is room for it where there is for the decision's
 --     transferred-by                   the covers after a move
 --     told_none, told-one, told-two    the reports, by the codes
+use Rattle.std.specs.Prelude.{Option, Some, None}
 use mathlib.Core.Path.{◌≡◌, refl}
 use mathlib.Core.Bool.{Bool, true, false, ◌&&◌, not, cond}
 use mathlib.Core.List.{List, [], ◌∷◌}
 use Prim.Native.Nat.{ℕ, ◌+◌}
 use lib.Dec.{eqb, leb, ltb}
 use lib.ListN.{set}
-use Rattle.fields.specs.declared.search.Found.{Found}
-use Rattle.fields.specs.declared.search.Found.TheVariants as found
 use Rattle.ticket.specs.declared.kinds.Kind.{Kind}
 use Rattle.ticket.specs.declared.kinds.Kind.TheVariants as kind
 use Rattle.rules.specs.Book.{cover_of}
@@ -90,19 +89,19 @@ refused-put : (n : ℕ) → Put (refused_verdict n)
 refused-put n = record { first = λ e. refl; second = λ e. refl }
 
 -- a confirm moves cover unless it is excluded, and then it is refused
-confirm-put : (s : Found) (n : ℕ) (none within all above : Bool)
+confirm-put : (s : Option ℕ) (n : ℕ) (none within all above : Bool)
     → let how = confirming (confirmed none within all) in
     Put
     (unless
     (first_of (sender_refusal (sender_check s))
     (first_of (confirm_refusal (confirmed none within all)) (total_refusal (cond (brings how && above) Above Within))))
     (cover_moved (sending (sender_check s)) how n))
-confirm-put found.Nothing n none within all above = refused-put 12
-confirm-put (found.At p) n true true all true = refused-put 22
-confirm-put (found.At p) n true true all false = record { first = λ e. cc; second = λ e. refl }
-confirm-put (found.At p) n true false all above = refused-put 21
-confirm-put (found.At p) n false within true above = record { first = λ e. cc; second = λ e. refl }
-confirm-put (found.At p) n false within false above = refused-put 21
+confirm-put None n none within all above = refused-put 12
+confirm-put (Some p) n true true all true = refused-put 22
+confirm-put (Some p) n true true all false = record { first = λ e. cc; second = λ e. refl }
+confirm-put (Some p) n true false all above = refused-put 21
+confirm-put (Some p) n false within true above = record { first = λ e. cc; second = λ e. refl }
+confirm-put (Some p) n false within false above = refused-put 21
 
 put-for : (k : Kind) (x : Facts) → Put (verdict_for k x)
 put-for kind.CoverIn x = by_kind Put refused-put kind.CoverIn x (record { first = λ e. cc; second = λ e. refl })

@@ -4,8 +4,7 @@
 --     ..Verdict      refused by that, or the step
 --     verdict_of      of any ticket, by what was found for it
 -- Assumes nothing.
-use Rattle.std.specs.Prelude.{ℕ, Bool}
-use Rattle.fields.specs.declared.search.Found.{Found}
+use Rattle.std.specs.Prelude.{ℕ, Bool, Option}
 use Rattle.ticket.specs.declared.kinds.Kind.{Kind}
 use Rattle.ticket.specs.declared.kinds.Kind.TheVariants as kind
 use Rattle.dayfile.specs.declared.route.Followed.{Followed}
@@ -63,25 +62,25 @@ use Rattle.verdict.specs.OwnStep.{
 }
 
 -- Cover in: available rises
-abbrev pub cover_in_refusal : Found → ℕ → ℕ → ℕ
+abbrev pub cover_in_refusal : Option ℕ → ℕ → ℕ → ℕ
 cover_in_refusal sender total n =
     first_of (sender_refusal (sender_check sender))
     (total_refusal (limit_check Give total n))
 
-abbrev pub cover_in_verdict : Found → ℕ → ℕ → Verdict
+abbrev pub cover_in_verdict : Option ℕ → ℕ → ℕ → Verdict
 cover_in_verdict sender total n = unless (cover_in_refusal sender total n) (cover_moved (sending (sender_check sender)) Give n)
 
 -- Cover out: available falls
-abbrev pub cover_out_refusal : Found → ℕ → ℕ → ℕ
+abbrev pub cover_out_refusal : Option ℕ → ℕ → ℕ → ℕ
 cover_out_refusal sender available n =
     first_of (sender_refusal (sender_check sender))
     (funds_refusal (funds_check available n))
 
-abbrev pub cover_out_verdict : Found → ℕ → ℕ → Verdict
+abbrev pub cover_out_verdict : Option ℕ → ℕ → ℕ → Verdict
 cover_out_verdict sender available n = unless (cover_out_refusal sender available n) (cover_moved (sending (sender_check sender)) Draw n)
 
 -- Order
-abbrev pub order_refusal : Found → Found → Found → Followed → ℕ → ℕ → ℕ → ℕ
+abbrev pub order_refusal : Option ℕ → Option ℕ → Option ℕ → Followed → ℕ → ℕ → ℕ → ℕ
 order_refusal sender order route way count available n =
     first_of (sender_refusal (sender_check sender))
     (first_of (new_refusal (new_check order))
@@ -89,27 +88,27 @@ order_refusal sender order route way count available n =
     (first_of (space_refusal (space_check count))
     (funds_refusal (funds_check available n)))))
 
-abbrev pub order_verdict : Found → Found → Found → Followed → ℕ → ℕ → ℕ → Verdict
+abbrev pub order_verdict : Option ℕ → Option ℕ → Option ℕ → Followed → ℕ → ℕ → ℕ → Verdict
 order_verdict sender order route way count available n =
     unless (order_refusal sender order route way count available n)
     (opened count (sending (sender_check sender)) (receiving (payee_check route way)) n)
 
 -- Yes and no: of the payee, to Waiting
-abbrev pub answer_refusal : Found → Found → About → ℕ
+abbrev pub answer_refusal : Option ℕ → Option ℕ → About → ℕ
 answer_refusal sender order a =
     first_of (sender_refusal (sender_check sender))
     (first_of (held_refusal (held_check order))
     (first_of (party_refusal (party_check (sending (sender_check sender)) a.payee))
     (standing_refusal (waiting_check a.status))))
 
-abbrev pub yes_verdict : Found → Found → About → Bool → ℕ → Verdict
+abbrev pub yes_verdict : Option ℕ → Option ℕ → About → Bool → ℕ → Verdict
 yes_verdict sender order a bank clock = unless (answer_refusal sender order a) (settled (named (held_check order)) a bank clock)
 
-abbrev pub no_verdict : Found → Found → About → Verdict
+abbrev pub no_verdict : Option ℕ → Option ℕ → About → Verdict
 no_verdict sender order a = unless (answer_refusal sender order a) (turned_down (named (held_check order)) a)
 
 -- Recall: of the payer, of Settled with mark none, less than 864,000 seconds after the settlement
-abbrev pub recall_refusal : Found → Found → About → ℕ → ℕ
+abbrev pub recall_refusal : Option ℕ → Option ℕ → About → ℕ → ℕ
 recall_refusal sender order a clock =
     first_of (sender_refusal (sender_check sender))
     (first_of (held_refusal (held_check order))
@@ -117,11 +116,11 @@ recall_refusal sender order a clock =
     (first_of (standing_refusal (unmarked_check a.status))
     (recalling_refusal (recall_check clock a.status)))))
 
-abbrev pub recall_verdict : Found → Found → About → ℕ → Verdict
+abbrev pub recall_verdict : Option ℕ → Option ℕ → About → ℕ → Verdict
 recall_verdict sender order a clock = unless (recall_refusal sender order a clock) (recalled (named (held_check order)) a)
 
 -- Return: of the payee, of Settled, asked, by an amount up to the order's
-abbrev pub return_refusal : Found → Found → About → ℕ → ℕ → ℕ
+abbrev pub return_refusal : Option ℕ → Option ℕ → About → ℕ → ℕ → ℕ
 return_refusal sender order a available n =
     first_of (sender_refusal (sender_check sender))
     (first_of (held_refusal (held_check order))
@@ -130,28 +129,28 @@ return_refusal sender order a available n =
     (first_of (sum_refusal (sum_check n a.amount))
     (funds_refusal (funds_check available n))))))
 
-abbrev pub return_verdict : Found → Found → About → ℕ → ℕ → Verdict
+abbrev pub return_verdict : Option ℕ → Option ℕ → About → ℕ → ℕ → Verdict
 return_verdict sender order a available n = unless (return_refusal sender order a available n) (returned (named (held_check order)) a n)
 
 -- Decline: of the payee, of Settled, asked
-abbrev pub decline_refusal : Found → Found → About → ℕ
+abbrev pub decline_refusal : Option ℕ → Option ℕ → About → ℕ
 decline_refusal sender order a =
     first_of (sender_refusal (sender_check sender))
     (first_of (held_refusal (held_check order))
     (first_of (party_refusal (party_check (sending (sender_check sender)) a.payee))
     (standing_refusal (asked_check a.status))))
 
-abbrev pub decline_verdict : Found → Found → About → Verdict
+abbrev pub decline_verdict : Option ℕ → Option ℕ → About → Verdict
 decline_verdict sender order a = unless (decline_refusal sender order a) (declined (named (held_check order)) a)
 
 -- Inquiry: of the payer
-abbrev pub inquiry_refusal : Found → Found → About → ℕ
+abbrev pub inquiry_refusal : Option ℕ → Option ℕ → About → ℕ
 inquiry_refusal sender order a =
     first_of (sender_refusal (sender_check sender))
     (first_of (held_refusal (held_check order))
     (party_refusal (party_check (sending (sender_check sender)) a.payer)))
 
-abbrev pub inquiry_verdict : Found → Found → About → Bool → Verdict
+abbrev pub inquiry_verdict : Option ℕ → Option ℕ → About → Bool → Verdict
 inquiry_verdict sender order a bank = unless (inquiry_refusal sender order a) (answered (named (held_check order)) a bank)
 
 -- Cut
@@ -159,13 +158,13 @@ abbrev pub cuts_verdict : Bool → Verdict
 cuts_verdict unconfirmed = unless (cut_refusal (cut_check unconfirmed)) cut_verdict
 
 -- Confirm: as a confirmed credit or debit
-abbrev pub confirms_refusal : Found → ℕ → ℕ → ℕ → ℕ → ℕ
+abbrev pub confirms_refusal : Option ℕ → ℕ → ℕ → ℕ → ℕ → ℕ
 confirms_refusal sender held debit total n =
     first_of (sender_refusal (sender_check sender))
     (first_of (confirm_refusal (confirm_check held debit n))
     (total_refusal (limit_check (confirming (confirm_check held debit n)) total n)))
 
-abbrev pub confirm_verdict : Found → ℕ → ℕ → ℕ → ℕ → Verdict
+abbrev pub confirm_verdict : Option ℕ → ℕ → ℕ → ℕ → ℕ → Verdict
 confirm_verdict sender held debit total n =
     unless (confirms_refusal sender held debit total n)
     (cover_moved (sending (sender_check sender)) (confirming (confirm_check held debit n)) n)

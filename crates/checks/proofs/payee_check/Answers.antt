@@ -1,10 +1,10 @@
 -- `checks::payee_check` meets its contract. Assumes nothing.
 use Rattle.checks.proofs.payee_check.Goals as goal
 
-pub returns-in-At : goal.returns-in-At
-returns-in-At c =
-    simp (c.reached.ensures, c.in-At.is)
+pub returns-in-Some : goal.returns-in-Some
+returns-in-Some c =
+    simp (c.reached.ensures, c.in-Some.is)
 
-pub returns-in-Nothing : goal.returns-in-Nothing
-returns-in-Nothing c =
-    simp c.in-Nothing.is
+pub returns-in-None : goal.returns-in-None
+returns-in-None c =
+    simp c.in-None.is

@@ -43,7 +43,7 @@ use Rattle.engine.proofs.Passing.{refused-as, refused-done, sighted, taken, belo
 use Rattle.engine.proofs.Searching.{words_in, keys-lent}
 use Rattle.engine.proofs.SeenEntry.{entry_by}
 use Rattle.engine.proofs.taking.take.Goals as goal
-use Rattle.engine.proofs.taking.take.Goals.{In-loop-roster, In-Read, Left-loop-next, After-number_of-i, After-judge-v, After-put_notices-n, Joined-does, else-loop-next-test, then-loop-next-test+then-is_young, then-is_cut, else-is_cut, in-Nothing, in-Opens, in-Becomes, in-Cuts}
+use Rattle.engine.proofs.taking.take.Goals.{In-loop-roster, In-Read, Left-loop-next, After-unwrap_or-i, After-judge-v, After-put_notices-n, Joined-does, else-loop-next-test, then-loop-next-test+then-is_young, then-is_cut, else-is_cut, in-Nothing, in-Opens, in-Becomes, in-Cuts}
 
 -- the loop over tickets: there is room for the ticket at hand, and it is whole
 module _ (c : In-loop-roster) where
@@ -77,21 +77,21 @@ expired c =
     ])
 
 -- what was found for the ticket
-found : (c : After-number_of-i)
+found : (c : After-unwrap_or-i)
     → Searched c.loop-roster.b (ticket_at c.args.tickets.now c.loop-roster.taken) (entry_by c.in-Read.s) c.in-Read.s.sender c.in-Read.s.order
-    c.in-Read.s.route c.number_of-p.result c.number_of-i.result
+    c.in-Read.s.route c.unwrap_or-p.result c.unwrap_or-i.result
 found c =
     let h = c.loop-roster.invariant in
     let s = sighted h c.requires.0.roster c.requires.1 (whole-ticket h c.room_left.ensures c.loop-roster-test.true)
     (ticket-bytes (slice-bytes _ c.type_inv.tickets) c.loop-roster.taken) c.in-Read.ensures refl in
-    record { sends = s.sends; names = s.names; leads = s.leads; from = c.number_of-p.ensures; at = c.number_of-i.ensures }
+    record { sends = s.sends; names = s.names; leads = s.leads; from = c.unwrap_or-p.ensures; at = c.unwrap_or-i.ensures }
 
 -- the verdict
 module _ (c : After-judge-v)
     (w : Expired c.loop-roster.b (ticket_at c.args.tickets.now c.loop-roster.taken) (entry_by c.in-Read.s) c.loop-roster.n
     c.loop-roster.reports c.loop-next.b c.loop-next.next c.loop-next.n c.loop-next.reports)
     (f : Searched c.loop-roster.b (ticket_at c.args.tickets.now c.loop-roster.taken) (entry_by c.in-Read.s) c.in-Read.s.sender
-    c.in-Read.s.order c.in-Read.s.route c.number_of-p.result c.number_of-i.result) where
+    c.in-Read.s.order c.in-Read.s.route c.unwrap_or-p.result c.unwrap_or-i.result) where
   abbrev anywhere : Bool
   anywhere = any_to (λ q. is_open (cover_of c.loop-next.b.covers q)) c.args.b.roster.size
 
@@ -315,23 +315,23 @@ bounds-b-p c =
 
 pub offset_bounds-b-i : goal.offset_bounds-b-i
 offset_bounds-b-i c =
-    let h = order-in (expired (goal.at.offset_bounds-b-i c).Left-loop-next) (found (goal.at.offset_bounds-b-i c).After-number_of-i) in
+    let h = order-in (expired (goal.at.offset_bounds-b-i c).Left-loop-next) (found (goal.at.offset_bounds-b-i c).After-unwrap_or-i) in
     search rules
 
 pub bounds-b-i : goal.bounds-b-i
 bounds-b-i c =
-    order-in (expired (goal.at.bounds-b-i c).Left-loop-next) (found (goal.at.bounds-b-i c).After-number_of-i)
+    order-in (expired (goal.at.bounds-b-i c).Left-loop-next) (found (goal.at.bounds-b-i c).After-unwrap_or-i)
 
 pub offset_bounds-roster-payee-in-loop-roster : goal.offset_bounds-roster-payee-in-loop-roster
 offset_bounds-roster-payee-in-loop-roster c =
     let h = payee-in (expired (goal.at.offset_bounds-roster-payee-in-loop-roster c).Left-loop-next)
-    (found (goal.at.offset_bounds-roster-payee-in-loop-roster c).After-number_of-i) in
+    (found (goal.at.offset_bounds-roster-payee-in-loop-roster c).After-unwrap_or-i) in
     search rules
 
 pub bounds-roster-payee-in-loop-roster : goal.bounds-roster-payee-in-loop-roster
 bounds-roster-payee-in-loop-roster c =
     payee-in (expired (goal.at.bounds-roster-payee-in-loop-roster c).Left-loop-next)
-    (found (goal.at.bounds-roster-payee-in-loop-roster c).After-number_of-i)
+    (found (goal.at.bounds-roster-payee-in-loop-roster c).After-unwrap_or-i)
 
 pub judge-v-requires : goal.judge-v-requires
 judge-v-requires c =
@@ -357,7 +357,7 @@ late-done c refused w is =
 pub overflow_sub-n : goal.overflow_sub-n
 overflow_sub-n c =
     let w = expired (goal.at.overflow_sub-n c).Left-loop-next in
-    let f = found (goal.at.overflow_sub-n c).After-number_of-i in
+    let f = found (goal.at.overflow_sub-n c).After-unwrap_or-i in
     let is = verdict-is (goal.at.overflow_sub-n c).After-judge-v w f in
     let d = late-done (goal.at.overflow_sub-n c).After-judge-v c.if-refused.true w is in
     let h = d.told in omega arith
@@ -365,7 +365,7 @@ overflow_sub-n c =
 pub overflow_cast-n : goal.overflow_cast-n
 overflow_cast-n c =
     let w = expired (goal.at.overflow_cast-n c).Left-loop-next in
-    let f = found (goal.at.overflow_cast-n c).After-number_of-i in
+    let f = found (goal.at.overflow_cast-n c).After-unwrap_or-i in
     let is = verdict-is (goal.at.overflow_cast-n c).After-judge-v w f in
     let d = late-done (goal.at.overflow_cast-n c).After-judge-v c.if-refused.true w is in
     let h = d.told in let few = d.few_told in omega arith
@@ -379,7 +379,7 @@ put_answer-requires-then-refused c =
 pub loop-roster-preserved-then-refused : goal.loop-roster-preserved-then-refused
 loop-roster-preserved-then-refused c =
     let w = expired (goal.at.loop-roster-preserved-then-refused c).Left-loop-next in
-    let f = found (goal.at.loop-roster-preserved-then-refused c).After-number_of-i in
+    let f = found (goal.at.loop-roster-preserved-then-refused c).After-unwrap_or-i in
     let is = verdict-is (goal.at.loop-roster-preserved-then-refused c).After-judge-v w f in
     let d = late-done (goal.at.loop-roster-preserved-then-refused c).After-judge-v c.if-refused.true w is in
     let h = c.loop-roster.invariant in
@@ -389,7 +389,7 @@ loop-roster-preserved-then-refused c =
 pub offset_bounds-b-who-in-loop-roster : goal.offset_bounds-b-who-in-loop-roster
 offset_bounds-b-who-in-loop-roster c =
     let w = expired (goal.at.offset_bounds-b-who-in-loop-roster c).Left-loop-next in
-    let f = found (goal.at.offset_bounds-b-who-in-loop-roster c).After-number_of-i in
+    let f = found (goal.at.offset_bounds-b-who-in-loop-roster c).After-unwrap_or-i in
     let is = verdict-is (goal.at.offset_bounds-b-who-in-loop-roster c).After-judge-v w f in
     let s = fits w is in
     let h = s.first in search rules
@@ -397,7 +397,7 @@ offset_bounds-b-who-in-loop-roster c =
 pub bounds-b-who-in-loop-roster : goal.bounds-b-who-in-loop-roster
 bounds-b-who-in-loop-roster c =
     let w = expired (goal.at.bounds-b-who-in-loop-roster c).Left-loop-next in
-    let f = found (goal.at.bounds-b-who-in-loop-roster c).After-number_of-i in
+    let f = found (goal.at.bounds-b-who-in-loop-roster c).After-unwrap_or-i in
     let is = verdict-is (goal.at.bounds-b-who-in-loop-roster c).After-judge-v w f in
     let s = fits w is in
     s.first
@@ -405,7 +405,7 @@ bounds-b-who-in-loop-roster c =
 pub moved-new-requires : goal.moved-new-requires
 moved-new-requires c =
     let w = expired (goal.at.moved-new-requires c).Left-loop-next in
-    let f = found (goal.at.moved-new-requires c).After-number_of-i in
+    let f = found (goal.at.moved-new-requires c).After-unwrap_or-i in
     let is = verdict-is (goal.at.moved-new-requires c).After-judge-v w f in
     let s = fits w is in
     s.first_room
@@ -413,7 +413,7 @@ moved-new-requires c =
 pub total_moved-total-requires : goal.total_moved-total-requires
 total_moved-total-requires c =
     let w = expired (goal.at.total_moved-total-requires c).Left-loop-next in
-    let f = found (goal.at.total_moved-total-requires c).After-number_of-i in
+    let f = found (goal.at.total_moved-total-requires c).After-unwrap_or-i in
     let is = verdict-is (goal.at.total_moved-total-requires c).After-judge-v w f in
     let s = fits w is in
     let room = first_fits w s refl c.loop-roster.invariant.sum in
@@ -422,7 +422,7 @@ total_moved-total-requires c =
 pub offset_bounds-b-who-in-loop-roster-2 : goal.offset_bounds-b-who-in-loop-roster-2
 offset_bounds-b-who-in-loop-roster-2 c =
     let w = expired (goal.at.offset_bounds-b-who-in-loop-roster-2 c).Left-loop-next in
-    let f = found (goal.at.offset_bounds-b-who-in-loop-roster-2 c).After-number_of-i in
+    let f = found (goal.at.offset_bounds-b-who-in-loop-roster-2 c).After-unwrap_or-i in
     let is = verdict-is (goal.at.offset_bounds-b-who-in-loop-roster-2 c).After-judge-v w f in
     let s = fits w is in
     let h = s.first in search rules
@@ -430,7 +430,7 @@ offset_bounds-b-who-in-loop-roster-2 c =
 pub bounds-b-who-in-loop-roster-2 : goal.bounds-b-who-in-loop-roster-2
 bounds-b-who-in-loop-roster-2 c =
     let w = expired (goal.at.bounds-b-who-in-loop-roster-2 c).Left-loop-next in
-    let f = found (goal.at.bounds-b-who-in-loop-roster-2 c).After-number_of-i in
+    let f = found (goal.at.bounds-b-who-in-loop-roster-2 c).After-unwrap_or-i in
     let is = verdict-is (goal.at.bounds-b-who-in-loop-roster-2 c).After-judge-v w f in
     let s = fits w is in
     s.first
@@ -438,7 +438,7 @@ bounds-b-who-in-loop-roster-2 c =
 pub offset_bounds-b-who-in-loop-roster-3 : goal.offset_bounds-b-who-in-loop-roster-3
 offset_bounds-b-who-in-loop-roster-3 c =
     let w = expired (goal.at.offset_bounds-b-who-in-loop-roster-3 c).Left-loop-next in
-    let f = found (goal.at.offset_bounds-b-who-in-loop-roster-3 c).After-number_of-i in
+    let f = found (goal.at.offset_bounds-b-who-in-loop-roster-3 c).After-unwrap_or-i in
     let is = verdict-is (goal.at.offset_bounds-b-who-in-loop-roster-3 c).After-judge-v w f in
     let s = fits w is in
     let h = s.second in search rules
@@ -446,7 +446,7 @@ offset_bounds-b-who-in-loop-roster-3 c =
 pub bounds-b-who-in-loop-roster-3 : goal.bounds-b-who-in-loop-roster-3
 bounds-b-who-in-loop-roster-3 c =
     let w = expired (goal.at.bounds-b-who-in-loop-roster-3 c).Left-loop-next in
-    let f = found (goal.at.bounds-b-who-in-loop-roster-3 c).After-number_of-i in
+    let f = found (goal.at.bounds-b-who-in-loop-roster-3 c).After-unwrap_or-i in
     let is = verdict-is (goal.at.bounds-b-who-in-loop-roster-3 c).After-judge-v w f in
     let s = fits w is in
     s.second
@@ -454,7 +454,7 @@ bounds-b-who-in-loop-roster-3 c =
 pub gained-new-requires : goal.gained-new-requires
 gained-new-requires c =
     let w = expired (goal.at.gained-new-requires c).Left-loop-next in
-    let f = found (goal.at.gained-new-requires c).After-number_of-i in
+    let f = found (goal.at.gained-new-requires c).After-unwrap_or-i in
     let is = verdict-is (goal.at.gained-new-requires c).After-judge-v w f in
     let s = fits w is in
     (s.second_gains, second-room w s c.moved-new.ensures c.loop-roster.invariant.sum)
@@ -462,7 +462,7 @@ gained-new-requires c =
 pub total_moved-total-requires-in-loop-roster : goal.total_moved-total-requires-in-loop-roster
 total_moved-total-requires-in-loop-roster c =
     let w = expired (goal.at.total_moved-total-requires-in-loop-roster c).Left-loop-next in
-    let f = found (goal.at.total_moved-total-requires-in-loop-roster c).After-number_of-i in
+    let f = found (goal.at.total_moved-total-requires-in-loop-roster c).After-unwrap_or-i in
     let is = verdict-is (goal.at.total_moved-total-requires-in-loop-roster c).After-judge-v w f in
     let s = fits w is in
     let sum = c.loop-roster.invariant.sum in
@@ -474,7 +474,7 @@ total_moved-total-requires-in-loop-roster c =
 pub offset_bounds-b-who-in-loop-roster-4 : goal.offset_bounds-b-who-in-loop-roster-4
 offset_bounds-b-who-in-loop-roster-4 c =
     let w = expired (goal.at.offset_bounds-b-who-in-loop-roster-4 c).Left-loop-next in
-    let f = found (goal.at.offset_bounds-b-who-in-loop-roster-4 c).After-number_of-i in
+    let f = found (goal.at.offset_bounds-b-who-in-loop-roster-4 c).After-unwrap_or-i in
     let is = verdict-is (goal.at.offset_bounds-b-who-in-loop-roster-4 c).After-judge-v w f in
     let s = fits w is in
     let h = s.second in search rules
@@ -482,7 +482,7 @@ offset_bounds-b-who-in-loop-roster-4 c =
 pub bounds-b-who-in-loop-roster-4 : goal.bounds-b-who-in-loop-roster-4
 bounds-b-who-in-loop-roster-4 c =
     let w = expired (goal.at.bounds-b-who-in-loop-roster-4 c).Left-loop-next in
-    let f = found (goal.at.bounds-b-who-in-loop-roster-4 c).After-number_of-i in
+    let f = found (goal.at.bounds-b-who-in-loop-roster-4 c).After-unwrap_or-i in
     let is = verdict-is (goal.at.bounds-b-who-in-loop-roster-4 c).After-judge-v w f in
     let s = fits w is in
     s.second
@@ -490,7 +490,7 @@ bounds-b-who-in-loop-roster-4 c =
 pub put_notices-n-requires : goal.put_notices-n-requires
 put_notices-n-requires c =
     let w = expired (goal.at.put_notices-n-requires c).Left-loop-next in
-    let f = found (goal.at.put_notices-n-requires c).After-number_of-i in
+    let f = found (goal.at.put_notices-n-requires c).After-unwrap_or-i in
     let is = verdict-is (goal.at.put_notices-n-requires c).After-judge-v w f in
     let s = fits w is in
     let has = (has (goal.at.put_notices-n-requires c).In-loop-roster).report in
@@ -504,7 +504,7 @@ copy-requires c =
 pub put_key-requires : goal.put_key-requires
 put_key-requires c =
     let w = expired (goal.at.put_key-requires c).Left-loop-next in
-    let f = found (goal.at.put_key-requires c).After-number_of-i in
+    let f = found (goal.at.put_key-requires c).After-unwrap_or-i in
     let is = verdict-is (goal.at.put_key-requires c).After-judge-v w f in
     let s = fits w is in
     let x = c.loop-roster.invariant.index in
@@ -517,7 +517,7 @@ put_key-requires c =
 pub offset_bounds-b-k : goal.offset_bounds-b-k
 offset_bounds-b-k c =
     let w = expired (goal.at.offset_bounds-b-k c).Left-loop-next in
-    let f = found (goal.at.offset_bounds-b-k c).After-number_of-i in
+    let f = found (goal.at.offset_bounds-b-k c).After-unwrap_or-i in
     let is = verdict-is (goal.at.offset_bounds-b-k c).After-judge-v w f in
     let s = fits w is in
     let h = s.opens c.in-Opens.is in search rules
@@ -525,7 +525,7 @@ offset_bounds-b-k c =
 pub bounds-b-k : goal.bounds-b-k
 bounds-b-k c =
     let w = expired (goal.at.bounds-b-k c).Left-loop-next in
-    let f = found (goal.at.bounds-b-k c).After-number_of-i in
+    let f = found (goal.at.bounds-b-k c).After-unwrap_or-i in
     let is = verdict-is (goal.at.bounds-b-k c).After-judge-v w f in
     let s = fits w is in
     s.opens c.in-Opens.is
@@ -533,33 +533,33 @@ bounds-b-k c =
 pub overflow_add-b : goal.overflow_add-b
 overflow_add-b c =
     let w = expired (goal.at.overflow_add-b c).Left-loop-next in
-    let f = found (goal.at.overflow_add-b c).After-number_of-i in
+    let f = found (goal.at.overflow_add-b c).After-unwrap_or-i in
     let is = verdict-is (goal.at.overflow_add-b c).After-judge-v w f in
     let s = fits w is in
     let h = s.opens c.in-Opens.is in search rules
 
 pub offset_bounds-b-i-in-Becomes : goal.offset_bounds-b-i-in-Becomes
 offset_bounds-b-i-in-Becomes c =
-    let h = order-in (expired (goal.at.offset_bounds-b-i-in-Becomes c).Left-loop-next) (found (goal.at.offset_bounds-b-i-in-Becomes c).After-number_of-i) in
+    let h = order-in (expired (goal.at.offset_bounds-b-i-in-Becomes c).Left-loop-next) (found (goal.at.offset_bounds-b-i-in-Becomes c).After-unwrap_or-i) in
     search rules
 
 pub offset_bounds-b-i-in-Becomes-2 : goal.offset_bounds-b-i-in-Becomes-2
 offset_bounds-b-i-in-Becomes-2 c =
-    let h = order-in (expired (goal.at.offset_bounds-b-i-in-Becomes-2 c).Left-loop-next) (found (goal.at.offset_bounds-b-i-in-Becomes-2 c).After-number_of-i) in
+    let h = order-in (expired (goal.at.offset_bounds-b-i-in-Becomes-2 c).Left-loop-next) (found (goal.at.offset_bounds-b-i-in-Becomes-2 c).After-unwrap_or-i) in
     search rules
 
 pub bounds-b-i-in-Becomes : goal.bounds-b-i-in-Becomes
 bounds-b-i-in-Becomes c =
-    order-in (expired (goal.at.bounds-b-i-in-Becomes c).Left-loop-next) (found (goal.at.bounds-b-i-in-Becomes c).After-number_of-i)
+    order-in (expired (goal.at.bounds-b-i-in-Becomes c).Left-loop-next) (found (goal.at.bounds-b-i-in-Becomes c).After-unwrap_or-i)
 
 pub bounds-b-i-in-Becomes-2 : goal.bounds-b-i-in-Becomes-2
 bounds-b-i-in-Becomes-2 c =
-    order-in (expired (goal.at.bounds-b-i-in-Becomes-2 c).Left-loop-next) (found (goal.at.bounds-b-i-in-Becomes-2 c).After-number_of-i)
+    order-in (expired (goal.at.bounds-b-i-in-Becomes-2 c).Left-loop-next) (found (goal.at.bounds-b-i-in-Becomes-2 c).After-unwrap_or-i)
 
 pub put_cut-n-requires : goal.put_cut-n-requires
 put_cut-n-requires c =
     let w = expired (goal.at.put_cut-n-requires c).Left-loop-next in
-    let f = found (goal.at.put_cut-n-requires c).After-number_of-i in
+    let f = found (goal.at.put_cut-n-requires c).After-unwrap_or-i in
     let is = verdict-is (goal.at.put_cut-n-requires c).After-judge-v w f in
     let s = fits w is in
     let has = (has (goal.at.put_cut-n-requires c).In-loop-roster).report in
@@ -571,7 +571,7 @@ put_cut-n-requires c =
 pub cut_covers-after-requires : goal.cut_covers-after-requires
 cut_covers-after-requires c =
     let w = expired (goal.at.cut_covers-after-requires c).Left-loop-next in
-    let f = found (goal.at.cut_covers-after-requires c).After-number_of-i in
+    let f = found (goal.at.cut_covers-after-requires c).After-unwrap_or-i in
     let is = verdict-is (goal.at.cut_covers-after-requires c).After-judge-v w f in
     let s = fits w is in
     let k = carried (goal.at.cut_covers-after-requires c).After-put_notices-n w s in
@@ -583,7 +583,7 @@ module _ (c : Joined-does)
     (w : Expired c.loop-roster.b (ticket_at c.args.tickets.now c.loop-roster.taken) (entry_by c.in-Read.s) c.loop-roster.n
     c.loop-roster.reports c.loop-next.b c.loop-next.next c.loop-next.n c.loop-next.reports)
     (f : Searched c.loop-roster.b (ticket_at c.args.tickets.now c.loop-roster.taken) (entry_by c.in-Read.s) c.in-Read.s.sender
-    c.in-Read.s.order c.in-Read.s.route c.number_of-p.result c.number_of-i.result)
+    c.in-Read.s.order c.in-Read.s.route c.unwrap_or-p.result c.unwrap_or-i.result)
     (is : c.judge-v.result
     ≡ verdict_of (facts_of (sought c.loop-next.b (entry_by c.in-Read.s) (ticket_at c.args.tickets.now c.loop-roster.taken))))
     (k : CarriedOut c.loop-next.b c.judge-v.result c.loop-next.n c.loop-next.reports
@@ -600,7 +600,7 @@ module _ (c : Joined-does)
   newly txid payee =
       record {
         txid = txid;
-        payer = c.number_of-p.result;
+        payer = c.unwrap_or-p.result;
         payee = payee;
         amount = c.in-Read.s.amount;
         time = c.loop-next.b.clock;
@@ -639,7 +639,7 @@ module _ (c : Joined-does)
         | in-Becomes x ↦
             done-as
             (changed w is k index x.in-Becomes.is (number_is w f)
-            (x.b-is ∙ ap (with-order c.number_of-i.result c.loop-next.b.count) x.with_status-changed.ensures))
+            (x.b-is ∙ ap (with-order c.unwrap_or-i.result c.loop-next.b.count) x.with_status-changed.ensures))
             x.reports-is x.keys-is x.heads-is x.links-is x.n-is x.followed-is
         | in-Cuts x ↦
             done-as
@@ -650,7 +650,7 @@ module _ (c : Joined-does)
 pub overflow_sub-n-in-loop-roster : goal.overflow_sub-n-in-loop-roster
 overflow_sub-n-in-loop-roster c =
     let w = expired (goal.at.overflow_sub-n-in-loop-roster c).Left-loop-next in
-    let f = found (goal.at.overflow_sub-n-in-loop-roster c).After-number_of-i in
+    let f = found (goal.at.overflow_sub-n-in-loop-roster c).After-unwrap_or-i in
     let is = verdict-is (goal.at.overflow_sub-n-in-loop-roster c).After-judge-v w f in
     let d = done (goal.at.overflow_sub-n-in-loop-roster c).Joined-does w f is (carried (goal.at.overflow_sub-n-in-loop-roster c).After-put_notices-n w (fits w is)) in
     let h = d.told in omega arith
@@ -658,7 +658,7 @@ overflow_sub-n-in-loop-roster c =
 pub overflow_cast-n-in-loop-roster : goal.overflow_cast-n-in-loop-roster
 overflow_cast-n-in-loop-roster c =
     let w = expired (goal.at.overflow_cast-n-in-loop-roster c).Left-loop-next in
-    let f = found (goal.at.overflow_cast-n-in-loop-roster c).After-number_of-i in
+    let f = found (goal.at.overflow_cast-n-in-loop-roster c).After-unwrap_or-i in
     let is = verdict-is (goal.at.overflow_cast-n-in-loop-roster c).After-judge-v w f in
     let d = done (goal.at.overflow_cast-n-in-loop-roster c).Joined-does w f is (carried (goal.at.overflow_cast-n-in-loop-roster c).After-put_notices-n w (fits w is)) in
     let h = d.told in let few = d.few_told in omega arith
@@ -666,7 +666,7 @@ overflow_cast-n-in-loop-roster c =
 pub overflow_cast-followed : goal.overflow_cast-followed
 overflow_cast-followed c =
     let w = expired (goal.at.overflow_cast-followed c).Left-loop-next in
-    let f = found (goal.at.overflow_cast-followed c).After-number_of-i in
+    let f = found (goal.at.overflow_cast-followed c).After-unwrap_or-i in
     let is = verdict-is (goal.at.overflow_cast-followed c).After-judge-v w f in
     let d = done (goal.at.overflow_cast-followed c).Joined-does w f is (carried (goal.at.overflow_cast-followed c).After-put_notices-n w (fits w is)) in
     let h = d.few_rows in omega arith
@@ -680,7 +680,7 @@ put_answer-requires-in-loop-roster c =
 pub loop-roster-preserved : goal.loop-roster-preserved
 loop-roster-preserved c =
     let w = expired (goal.at.loop-roster-preserved c).Left-loop-next in
-    let f = found (goal.at.loop-roster-preserved c).After-number_of-i in
+    let f = found (goal.at.loop-roster-preserved c).After-unwrap_or-i in
     let is = verdict-is (goal.at.loop-roster-preserved c).After-judge-v w f in
     let d = done (goal.at.loop-roster-preserved c).Joined-does w f is (carried (goal.at.loop-roster-preserved c).After-put_notices-n w (fits w is)) in
     let h = c.loop-roster.invariant in

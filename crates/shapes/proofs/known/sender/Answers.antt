@@ -1,13 +1,13 @@
 -- `shapes::known::sender` meets its contract. Assumes nothing.
+use Rattle.std.specs.Prelude.{is_some}
 use mathlib.Core.Path.{sym, ap}
-use Rattle.fields.specs.Search.{is_found}
 use Rattle.classes.proofs.CheckAnswer.{answer-is-1}
 use Rattle.shapes.proofs.known.sender.Goals as goal
 
-pub returns-in-At : goal.returns-in-At
-returns-in-At c =
-    sym (c.requires.1 (ap is_found c.in-At.is))
+pub returns-in-Some : goal.returns-in-Some
+returns-in-Some c =
+    sym (c.requires.1 (ap is_some c.in-Some.is))
 
-pub returns-in-Nothing : goal.returns-in-Nothing
-returns-in-Nothing c =
+pub returns-in-None : goal.returns-in-None
+returns-in-None c =
     simp (c.zolfigar_bic_ok.ensures, answer-is-1)

@@ -1,5 +1,6 @@
 -- `sight::subjects::formed_of` meets its contract: each class finds what the ticket shows, and what was found is well formed.
 -- Assumes nothing.
+use Rattle.std.specs.Prelude.{Option}
 use mathlib.Core.Path.{◌≡◌, refl, sym, ◌∙◌, ap}
 use mathlib.Core.List.{List}
 use Prim.Native.Nat.{ℕ}
@@ -7,7 +8,6 @@ use native.Mathlib.Omega.{arith}
 use lib.Dec.{lit≤}
 use lib.ListN.{length}
 use Rattle.fields.specs.Rows.{first_row}
-use Rattle.fields.specs.declared.search.Found.{Found}
 use Rattle.ticket.specs.TicketLayout.{ticket_length, sender_of, payee_of, payer_of, txid_field}
 use Rattle.ticket.specs.declared.kinds.Kind.{Kind}
 use Rattle.ticket.specs.declared.kinds.Kind.TheVariants.{Order}
@@ -32,13 +32,13 @@ module _ (c : After-subject_of-subject) where
   abbrev kind : Kind
   kind = c.args.kind
 
-  abbrev sender : Found
+  abbrev sender : Option ℕ
   sender = first_row 2 c.args.size (bic_words (sender_of t)) c.args.bics.now
 
-  abbrev order : Found
+  abbrev order : Option ℕ
   order = first_row 7 c.args.count (key_words (payer_of t) (txid_field t)) c.args.keys.now
 
-  abbrev route : Found
+  abbrev route : Option ℕ
   route = first_row 2 c.args.route_rows (bic_words (payee_of t)) c.args.routes.now
 
   whole : length t ≡ ticket_length
@@ -59,7 +59,7 @@ module _ (c : After-subject_of-subject) where
   naming-order e = record { whole = whole; kinds = (naming NewOrder e).kinds ∙ ap As (is-order e); names = refl }
 
   -- the order, by the payer that the kind names
-  by-payer : {payer : List ℕ} {f : Found} → payer_of t ≡ payer
+  by-payer : {payer : List ℕ} {f : Option ℕ} → payer_of t ≡ payer
       → f ≡ first_row 7 c.args.count (key_words payer (txid_field t)) c.args.keys.now → f ≡ order
   by-payer is e =
       e
@@ -67,13 +67,13 @@ module _ (c : After-subject_of-subject) where
       (sym is)
 
   -- what a class sees by what was found
-  sees : (clock : ℕ) {s o r : Found} {x : Sight} → x ≡ sight_of clock t s o r → s ≡ sender → o ≡ order → r ≡ route
+  sees : (clock : ℕ) {s o r : Option ℕ} {x : Sight} → x ≡ sight_of clock t s o r → s ≡ sender → o ≡ order → r ≡ route
       → x ≡ sight_of clock t sender order route
   sees clock {s} {o} {r} e e₁ e₂ e₃ =
       e
-      ∙ ap (λ (f : Found). sight_of clock t f o r) e₁
-      ∙ ap (λ (f : Found). sight_of clock t sender f r) e₂
-      ∙ ap (λ (f : Found). sight_of clock t sender order f) e₃
+      ∙ ap (λ (f : Option ℕ). sight_of clock t f o r) e₁
+      ∙ ap (λ (f : Option ℕ). sight_of clock t sender f r) e₂
+      ∙ ap (λ (f : Option ℕ). sight_of clock t sender order f) e₃
 
 pub cover-requires : goal.cover-requires
 cover-requires c =
