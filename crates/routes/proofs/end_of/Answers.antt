@@ -3,7 +3,7 @@ use mathlib.Core.Path.{sym, ◌∙◌, ap}
 use Rattle.routes.specs.Ways.{end_at}
 use Rattle.routes.proofs.end_of.Goals as goal
 
-pub returns-in-At : goal.returns-in-At
-returns-in-At c =
+pub returns-in-Some : goal.returns-in-Some
+returns-in-Some c =
     let a = c.args in
-    c.follow.ensures ∙ ap (end_at a.kinds.now a.numbers.now) (sym c.in-At.is)
+    c.follow.ensures ∙ ap (end_at a.kinds.now a.numbers.now) (sym c.in-Some.is)
