@@ -1,4 +1,5 @@
 -- The own step of a cut: it tells no ending, and what is held or open after it is what it told. Assumes nothing.
+use Rattle.std.specs.Prelude.{None, Option, Some, ℕ}
 use mathlib.Core.Path.{◌≡◌, refl, ◌∙◌, ap, ap₂}
 use mathlib.Core.Bool.{Bool, true, false, cond, and-false}
 use mathlib.Core.List.{List, [], ◌∷◌, ◌++◌}
@@ -13,8 +14,6 @@ use Rattle.report.specs.Ending.{endings_in}
 use Rattle.report.specs.declared.Report.{Report}
 use Rattle.report.proofs.Ending.{endings-append}
 use Rattle.dayfile.specs.Roster.{participant_of}
-use Rattle.dayfile.specs.declared.roster.Opening.{Opening}
-use Rattle.dayfile.specs.declared.roster.Opening.TheVariants as opening
 use Rattle.dayfile.specs.declared.roster.Roster.{Roster}
 use Rattle.rules.specs.Book.{cover_of}
 use Rattle.rules.specs.Cover.{transferred}
@@ -37,9 +36,9 @@ use Rattle.audit.proofs.ReportTelling.{cuts-append, fours-no-cuts, no-cuts}
 use Rattle.audit.proofs.Own.{AcceptedTicket, taken_event, OwnStepOf, kind-is, steady, orders-kept}
 
 -- what a participant is told is no ending
-one-no-ending : (i p : ℕ) (o : Opening) (c : Cover) → endings_in i (cut_report p o c) ≡ []
-one-no-ending i p opening.None c = refl
-one-no-ending i p (opening.Cover n) c = go (ltb n c.available) (ltb c.available n)
+one-no-ending : (i p : ℕ) (o : Option ℕ) (c : Cover) → endings_in i (cut_report p o c) ≡ []
+one-no-ending i p None c = refl
+one-no-ending i p (Some n) c = go (ltb n c.available) (ltb c.available n)
   where
     go : (x y : Bool) → endings_in i (cond x (tell_cut p 11 (c.available - n) ∷ []) (cond y (tell_cut p 10 (n - c.available) ∷ []) [])) ≡ []
     go true y = simp and-false
@@ -53,9 +52,9 @@ no-ending i r cs (suc p) =
     ∙ ap₂ ◌++◌ (no-ending i r cs p) (one-no-ending i p (participant_of r p).opening (cover_of cs p))
 
 -- what another is told says nothing of p
-other-told : (q p told : ℕ) (o : Opening) (c : Cover) → (q ≡ p → ⊥) → last_cut_in p told (cut_report q o c) ≡ told
-other-told q p told opening.None c differs = refl
-other-told q p told (opening.Cover n) c differs = go (ltb n c.available) (ltb c.available n)
+other-told : (q p told : ℕ) (o : Option ℕ) (c : Cover) → (q ≡ p → ⊥) → last_cut_in p told (cut_report q o c) ≡ told
+other-told q p told None c differs = refl
+other-told q p told (Some n) c differs = go (ltb n c.available) (ltb c.available n)
   where
     go : (x y : Bool)
         → last_cut_in p told (cond x (tell_cut q 11 (c.available - n) ∷ []) (cond y (tell_cut q 10 (n - c.available) ∷ []) [])) ≡ told
@@ -94,9 +93,9 @@ record Marked (p told : ℕ) (c : Cover) (rs : List Report) : Type 0 where
   held : (c.held ≡ 0) ⊎ (last_cut_in p told rs ≡ 11)
   debit : (c.debit ≡ 0) ⊎ (last_cut_in p told rs ≡ 10)
 
-marks-told : (p told : ℕ) (o : Opening) (c : Cover) → Closed c → Marked p told (cut_cover o c) (cut_report p o c)
-marks-told p told opening.None c z = record { held = inl z.held; debit = inl z.debit }
-marks-told p told (opening.Cover n) c z = go (ltb n c.available) (ltb c.available n)
+marks-told : (p told : ℕ) (o : Option ℕ) (c : Cover) → Closed c → Marked p told (cut_cover o c) (cut_report p o c)
+marks-told p told None c z = record { held = inl z.held; debit = inl z.debit }
+marks-told p told (Some n) c z = go (ltb n c.available) (ltb c.available n)
   where
     go : (x y : Bool)
         → Marked p told (cond x (with_held (c.available - n) c) (cond y (with_debit (n - c.available) c) c))

@@ -1,12 +1,11 @@
 -- One ticket through the core, or turned back before it, is the outcome of the rules. Assumes nothing.
-use Rattle.std.specs.Prelude.{◌≡◌, ℕ, zero, suc, ◌-◌, ◌*◌, ◌<◌, ◌≤◌, Bool, true, false, cond, ◌&&◌, leb, List, [], ◌∷◌, length, take, drop}
+use Rattle.std.specs.Prelude.{◌≡◌, ℕ, zero, suc, ◌-◌, ◌*◌, ◌<◌, ◌≤◌, Bool, true, false, cond, ◌&&◌, leb, List, [], ◌∷◌, length, take, drop, None}
 use mathlib.Core.Path.{refl, sym, ◌∙◌, ap, subst}
 use mathlib.Core.List.{append-nil}
 use native.Mathlib.Omega.{arith}
 use borrow.Author.Tests.{le-leb, le-ltb, lt-ltb, ne_eqb}
 use Rattle.fields.proofs.FromFront.{to_end}
 use Rattle.ticket.specs.Shape.{shape_of}
-use Rattle.ticket.specs.declared.shapes.Shape.TheVariants.{Malformed}
 use Rattle.ticket.proofs.CheckLaws.{read-malformed}
 use Rattle.report.specs.ReportLayout.{laid}
 use Rattle.report.specs.Answer.{answer_at, answers_laid, AllFittingAnswers}
@@ -93,7 +92,7 @@ unfolding handed
 short-outcome b t buffer h = rw (lt-ltb (length buffer) 6528 h)
 
 -- a ticket that is not 108 bytes
-malformed : (t : List ℕ) → (length t ≡ 108 → ⊥) → shape_of t ≡ Malformed
+malformed : (t : List ℕ) → (length t ≡ 108 → ⊥) → shape_of t ≡ None
 malformed t n = rw (ne_eqb (length t) 108 n)
 
 other_step : (b : Book) (t : List ℕ) → (length t ≡ 108 → ⊥) → step_of b t ≡ untouched b 7

@@ -1,5 +1,5 @@
 -- One ticket by TxId alone, and the ticket in its place by payer and TxId: the step is the same. Assumes nothing.
-use Rattle.std.specs.Prelude.{Option}
+use Rattle.std.specs.Prelude.{Option, Some}
 use mathlib.Core.Path.{◌≡◌, refl, sym, ◌∙◌, ap, subst}
 use mathlib.Core.Bool.{Bool, true, false, cond}
 use mathlib.Core.List.{List}
@@ -20,7 +20,6 @@ use Rattle.ticket.specs.Form.{form_of}
 use Rattle.ticket.specs.declared.Fields.{Fields}
 use Rattle.ticket.specs.declared.kinds.Kind.{Kind}
 use Rattle.ticket.specs.declared.kinds.Kind.TheVariants as kind
-use Rattle.ticket.specs.declared.shapes.Shape.TheVariants.{Formed}
 use Rattle.ticket.proofs.TicketTelling.{Tells, tells-shape, tells-bytes, payer-named}
 use Rattle.dayfile.specs.Roster.{participant_of}
 use Rattle.dayfile.specs.declared.roster.Roster.{Roster}
@@ -125,7 +124,7 @@ module _ (xs : List Input) (old : OnePayer xs) (n : ℕ) (inside : n < length xs
         payer-named t f.kind tells.kind ∙ ap (λ (k : Kind). cond (eqb (kind_number k) 3) (sender_of t) (payee_of t)) order in
         has-payer f l i (payer_of t)
         (payer-is
-        ∙ sym (old.payer from.at n from.inside inside from.ticket (tells-shape t f tells ∙ ap Formed order) (from.txid ∙ is))
+        ∙ sym (old.payer from.at n from.inside inside from.ticket (tells-shape t f tells ∙ ap Some order) (from.txid ∙ is))
         ∙ from.sender))
         (λ (unlisted : (form_of f.kind).txid ≡ false).
         never

@@ -1,4 +1,5 @@
 -- For every list in which order tickets that share a TxId have one sender there is one that names the payers. Assumes nothing.
+use Rattle.std.specs.Prelude.{None, Option, Some}
 use mathlib.Core.Path.{◌≡◌, refl, sym, ◌∙◌, ap, subst}
 use mathlib.Core.Bool.{Bool, true, false, ◌&&◌, cond}
 use mathlib.Core.List.{List, [], ◌∷◌}
@@ -13,28 +14,27 @@ use Rattle.fields.proofs.Tests.{and_left, and_right, never}
 use Rattle.ticket.specs.TicketLayout as layout
 use Rattle.ticket.specs.Shape.{txid_if_listed, blank_unless_listed, shape_of}
 use Rattle.ticket.specs.declared.kinds.Kind.TheVariants as kind
-use Rattle.ticket.specs.declared.shapes.Shape.{Shape}
-use Rattle.ticket.specs.declared.shapes.Shape.TheVariants.{Formed, Malformed}
 use Rattle.ticket.proofs.TicketTelling.{shaped}
 use Rattle.rules.specs.Inputs.{Input}
 use Rattle.by_txid.specs.OldLists.{no_input, input_of, ticket_of, about_order, OrderTicket, OnePayer, with_payer, NamedIf, Renamed}
 use Rattle.by_txid.specs.Renaming.{is_order, payer_for, renamed_input, renaming}
+use Rattle.ticket.specs.declared.kinds.Kind.{Kind}
 
 -- an order's shape
-order-shape : (s : Shape) → is_order s ≡ true → s ≡ Formed kind.Order
-order-shape (Formed kind.CoverIn) e = never (sym e)
-order-shape (Formed kind.CoverOut) e = never (sym e)
-order-shape (Formed kind.Order) e = refl
-order-shape (Formed kind.Yes) e = never (sym e)
-order-shape (Formed kind.No) e = never (sym e)
-order-shape (Formed kind.Recall) e = never (sym e)
-order-shape (Formed kind.Return) e = never (sym e)
-order-shape (Formed kind.Decline) e = never (sym e)
-order-shape (Formed kind.Inquiry) e = never (sym e)
-order-shape (Formed kind.Cut) e = never (sym e)
-order-shape (Formed kind.Confirm) e = never (sym e)
-order-shape (Formed kind.Tick) e = never (sym e)
-order-shape Malformed e = never (sym e)
+order-shape : (s : Option Kind) → is_order s ≡ true → s ≡ Some kind.Order
+order-shape (Some kind.CoverIn) e = never (sym e)
+order-shape (Some kind.CoverOut) e = never (sym e)
+order-shape (Some kind.Order) e = refl
+order-shape (Some kind.Yes) e = never (sym e)
+order-shape (Some kind.No) e = never (sym e)
+order-shape (Some kind.Recall) e = never (sym e)
+order-shape (Some kind.Return) e = never (sym e)
+order-shape (Some kind.Decline) e = never (sym e)
+order-shape (Some kind.Inquiry) e = never (sym e)
+order-shape (Some kind.Cut) e = never (sym e)
+order-shape (Some kind.Confirm) e = never (sym e)
+order-shape (Some kind.Tick) e = never (sym e)
+order-shape None e = never (sym e)
 
 -- the sender of an order ticket that passes 7 is a BIC
 sender-bic : (t : List ℕ) → OrderTicket t → is_bic (layout.sender_of t) ≡ true

@@ -16,7 +16,6 @@ use Rattle.ticket.specs.declared.kinds.Kind.{Kind}
 use Rattle.ticket.specs.declared.kinds.Kind.TheVariants as kind
 use Rattle.dayfile.specs.Roster.{participant_of}
 use Rattle.dayfile.specs.declared.roster.Roster.{Roster}
-use Rattle.dayfile.specs.declared.route.Followed.{Followed}
 use Rattle.rules.specs.Book.{order_of, cover_of, is_bank}
 use Rattle.rules.specs.Cover.{total}
 use Rattle.rules.specs.Terms.{terms_of, names_order}
@@ -33,6 +32,7 @@ use Rattle.rules.specs.declared.Status.TheVariants as status
 use Rattle.rules.specs.declared.Order.{Order}
 use Rattle.rules.specs.declared.Book.{Book}
 use Rattle.by_txid.specs.StepBy.{order_by_txid}
+use Rattle.dayfile.specs.declared.route.Way.{Way}
 
 -- each order with the TxId has the payer too
 pub order_alike : (r : Roster) (os : List Order) (count : ℕ) (t u : List ℕ) → txid_field u ≡ txid_field t
@@ -52,7 +52,7 @@ order_alike r os count t u txid payer =
 
 -- where a kind opens no order, nothing looks at the route row of bytes 27 to 37
 module _ (w : Step) (b : Book) (order : Option ℕ) (n : ℕ) (txid : List ℕ) (sender : Option ℕ) where
-  abbrev found : Kind → Option ℕ → Followed → Finding
+  abbrev found : Kind → Option ℕ → Option Way → Finding
   found k route way =
       record {
         kind = k;
@@ -72,7 +72,7 @@ module _ (w : Step) (b : Book) (order : Option ℕ) (n : ℕ) (txid : List ℕ) 
       }
 
   -- an inquiry's answer goes by the order
-  answer-same : (r r' : Option ℕ) (v v' : Followed) (s : Status)
+  answer-same : (r r' : Option ℕ) (v v' : Option Way) (s : Status)
       → inquiry_answer (found kind.Inquiry r v) s ≡ inquiry_answer (found kind.Inquiry r' v') s
   answer-same r r' v v' status.Waiting = refl
   answer-same r r' v v' status.Refused = refl
@@ -82,7 +82,7 @@ module _ (w : Step) (b : Book) (order : Option ℕ) (n : ℕ) (txid : List ℕ) 
   answer-same r r' v v' (status.Settled mark.Asked at) = refl
   answer-same r r' v v' (status.Settled mark.Declined at) = refl
 
-  unrouted : (k : Kind) → names_order (terms_of k).subject ≡ true → (r r' : Option ℕ) (v v' : Followed)
+  unrouted : (k : Kind) → names_order (terms_of k).subject ≡ true → (r r' : Option ℕ) (v v' : Option Way)
       → decided w (found k r v) ≡ decided w (found k r' v')
   unrouted kind.CoverIn e r r' v v' = never (sym e)
   unrouted kind.CoverOut e r r' v v' = never (sym e)

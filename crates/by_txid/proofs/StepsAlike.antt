@@ -1,5 +1,5 @@
 -- Two steps are the same where the readings are, and what is done after the expiries. Assumes nothing.
-use Rattle.std.specs.Prelude.{Option}
+use Rattle.std.specs.Prelude.{Option, Err, Ok, Result, ℕ}
 use mathlib.Core.Path.{◌≡◌, refl, ◌∙◌, ap}
 use mathlib.Core.Bool.{Bool, true, false, cond}
 use mathlib.Core.List.{List}
@@ -9,8 +9,6 @@ use lib.Dec.{ltb}
 use Rattle.ticket.specs.Form.{form_of}
 use Rattle.ticket.specs.TicketReading.{reading}
 use Rattle.ticket.specs.declared.Fields.{Fields}
-use Rattle.ticket.specs.declared.Reading.{Reading}
-use Rattle.ticket.specs.declared.Reading.TheVariants.{Read, Refused}
 use Rattle.ticket.specs.declared.forms.Form.{Form}
 use Rattle.ticket.specs.declared.kinds.Kind.{Kind}
 use Rattle.ticket.proofs.TicketTelling.{Tells, read-tells}
@@ -41,9 +39,9 @@ module _ (form : Kind → Form) (search : Roster → List Order → ℕ → List
       go true e = refl
       go false e = after f tells (ltb-false f.time b.clock e)
 
-  read_alike : (r : Reading) → reading u ≡ r → step_read_by form search b t r ≡ step_read b u r
-  read_alike (Read f) e = timed-alike f (read-tells u f e)
-  read_alike (Refused n) e = refl
+  read_alike : (r : Result Fields ℕ) → reading u ≡ r → step_read_by form search b t r ≡ step_read b u r
+  read_alike (Ok f) e = timed-alike f (read-tells u f e)
+  read_alike (Err n) e = refl
 
   lent_alike : (x : Buffer) → step_lent_by form search b t x ≡ step_lent b u x
   unfolding step_of

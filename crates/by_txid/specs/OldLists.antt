@@ -8,14 +8,13 @@
 --     Named          the ticket with a well-formed BIC there: the sender's of the list's order ticket with that TxId, if one passes 7
 --     Renamed        input by input the same, but for the payers that tickets of kinds 4 to 8 name
 -- Assumes nothing.
-use Rattle.std.specs.Prelude.{ℕ, ◌<◌, ◌≡◌, Bool, true, false, ◌&&◌, List, [], leb, eqb, length, get_or}
+use Rattle.std.specs.Prelude.{ℕ, ◌<◌, ◌≡◌, Bool, true, false, ◌&&◌, List, [], leb, eqb, length, get_or, Some}
 use Rattle.std.proofs.lemmas.List.Edits.{sets}
 use Rattle.codes.specs.Bic.{is_bic}
 use Rattle.fields.specs.Text.{blank}
 use Rattle.ticket.specs.TicketLayout.{ticket_length, kind_byte, sender_of, payee_of, txid_field}
 use Rattle.ticket.specs.Shape.{shape_of}
 use Rattle.ticket.specs.declared.kinds.Kind.TheVariants.{Order}
-use Rattle.ticket.specs.declared.shapes.Shape.TheVariants.{Formed}
 use Rattle.rules.specs.Inputs.{Input}
 
 -- past the end, which nothing looks at
@@ -32,7 +31,7 @@ abbrev pub about_order : List ℕ → Bool
 about_order t = eqb (length t) ticket_length && (leb 4 (kind_byte t) && leb (kind_byte t) 8)
 
 abbrev pub OrderTicket : List ℕ → Type 0
-OrderTicket t = shape_of t ≡ Formed Order
+OrderTicket t = shape_of t ≡ Some Order
 
 -- two tickets that pass 7 share their TxId exactly where its padded bytes are the same. The same ticket twice shares it too
 pub record Old (xs : List Input) : Type 0 where

@@ -3,19 +3,18 @@
 --     payer_for      the sender of the first order ticket that passes 7 and has that TxId; where there is none, a BIC
 --     renaming      each ticket of kinds 4 to 8 names that payer
 -- Assumes nothing.
-use Rattle.std.specs.Prelude.{ℕ, Bool, false, ◌&&◌, cond, List, [], ◌∷◌, map, eqb}
+use Rattle.std.specs.Prelude.{ℕ, Bool, false, ◌&&◌, cond, List, [], ◌∷◌, map, eqb, None, Option, Some}
 use Rattle.fields.specs.Text.{text, same}
 use Rattle.ticket.specs.TicketLayout.{sender_of, txid_field}
 use Rattle.ticket.specs.Kind.{kind_number}
 use Rattle.ticket.specs.Shape.{shape_of}
-use Rattle.ticket.specs.declared.shapes.Shape.{Shape}
-use Rattle.ticket.specs.declared.shapes.Shape.TheVariants.{Formed, Malformed}
 use Rattle.rules.specs.Inputs.{Input}
 use Rattle.by_txid.specs.OldLists.{about_order, with_payer}
+use Rattle.ticket.specs.declared.kinds.Kind.{Kind}
 
-abbrev pub is_order : Shape → Bool
-is_order (Formed kind) = eqb (kind_number kind) 3
-is_order Malformed = false
+abbrev pub is_order : Option Kind → Bool
+is_order (Some kind) = eqb (kind_number kind) 3
+is_order None = false
 
 abbrev any_bic : List ℕ
 any_bic = text "ZZZZLV22XXX"

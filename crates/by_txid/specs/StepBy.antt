@@ -5,13 +5,11 @@
 --     handed_by_txid   the step by TxId alone: it differs from the present one in `form_by_txid` and `order_by_txid`
 --     steps_with      the steps of inputs, one after the other, by a step of each
 -- Assumes nothing.
-use Rattle.std.specs.Prelude.{ℕ, List, [], ◌∷◌, Option}
+use Rattle.std.specs.Prelude.{ℕ, List, [], ◌∷◌, Option, Err, Ok, Result}
 use Rattle.fields.specs.Text.{same}
 use Rattle.fields.specs.Search.{first_to}
 use Rattle.ticket.specs.TicketLayout.{txid_field}
 use Rattle.ticket.specs.declared.Fields.{Fields}
-use Rattle.ticket.specs.declared.Reading.{Reading}
-use Rattle.ticket.specs.declared.Reading.TheVariants.{Read, Refused}
 use Rattle.ticket.specs.declared.forms.Form.{Form}
 use Rattle.ticket.specs.declared.kinds.Kind.{Kind}
 use Rattle.dayfile.specs.declared.roster.Roster.{Roster}
@@ -43,9 +41,9 @@ module _ (form : Kind → Form) (search : Roster → List Order → ℕ → List
   step_timed_by b t f InTime = after_tick_by (tick b f.time) f t
   step_timed_by b t f Early = untouched b (timing_refusal Early)
 
-  abbrev pub step_read_by : Book → List ℕ → Reading → Step
-  step_read_by b t (Read f) = step_timed_by b t f (timing_of b.clock f.time)
-  step_read_by b t (Refused n) = untouched b n
+  abbrev pub step_read_by : Book → List ℕ → Result Fields ℕ → Step
+  step_read_by b t (Ok f) = step_timed_by b t f (timing_of b.clock f.time)
+  step_read_by b t (Err n) = untouched b n
 
   abbrev pub step_lent_by : Book → List ℕ → Buffer → Step
   step_lent_by b t Enough = step_read_by b t (reading_by form t)

@@ -7,12 +7,15 @@ ghost use Rattle.dayfile.specs.Route.{rows_in, row_with, followed_bic};
 use super::{bytes, print, words};
 use dayfile::limits;
 use dayfile::roster::{Roster, Route};
-use dayfile::route::Followed;
+use dayfile::route::Way;
 
-fn print_way(rt: &impl Print, way: Followed) {
+fn print_way(rt: &impl Print, way: Option<Way>) {
     match way {
-        Followed::At(p, n) => print::shown(print!(rt; " {p}/{n}")),
-        Followed::Nowhere => print::put(rt, b" -"),
+        Some(Way {
+            participant: p,
+            rows: n,
+        }) => print::shown(print!(rt; " {p}/{n}")),
+        None => print::put(rt, b" -"),
     }
 }
 
@@ -80,7 +83,7 @@ fn row_with(r: Roster, bic: &[u8]) -> Option<usize>
     found
 }
 
-fn way_of(f: &[u8], bic: &[u8]) -> Followed
+fn way_of(f: &[u8], bic: &[u8]) -> Option<Way>
     ensures { result ≡ followed_bic (day_file f.now).roster bic.now }
 {
     let d = dayread::read_day_file(f);

@@ -24,7 +24,7 @@ ghost use Rattle.rules.specs.Checks.{
   limit_check,
 };
 
-use dayfile::route::Followed;
+use dayfile::route::Way;
 use orders::status;
 use rules::Status;
 use rules::checks::{
@@ -60,7 +60,7 @@ pub fn new_check(order: Option<usize>) -> Key
 }
 
 // 14. Order: no route row with the payee BIC.
-pub fn payee_check(route: Option<usize>, way: Followed) -> Payee
+pub fn payee_check(route: Option<usize>, way: Option<Way>) -> Payee
     ensures { result ≡ payee_check route way }
 {
     match route {

@@ -13,8 +13,6 @@ use Rattle.fields.specs.UpTo.{any_to}
 use Rattle.ticket.specs.TicketLayout.{txid_field}
 use Rattle.dayfile.specs.Route.{followed_from}
 use Rattle.dayfile.specs.declared.roster.Roster.{Roster}
-use Rattle.dayfile.specs.declared.route.Followed.{Followed}
-use Rattle.dayfile.specs.declared.route.Followed.TheVariants as followed
 use Rattle.rules.specs.Book.{no_order, order_of, key_of, cover_of, is_bank}
 use Rattle.rules.specs.Cover.{total_of, total}
 use Rattle.rules.specs.Find.{route_in, way_in, is_open, any_open}
@@ -29,10 +27,11 @@ use Rattle.course.specs.Expiry.{expires, stays, expiry_in}
 use Rattle.course.specs.Seeking.{sought_sender, sought_order, sought}
 use Rattle.course.specs.declared.Entry.{Entry}
 use Rattle.course.proofs.Sweeping.{sweep-book}
+use Rattle.dayfile.specs.declared.route.Way.{Way}
 
 -- where the row leads, if it is sought
 pub way-if : (r : Roster) (z : Bool) (t : List ℕ)
-    → followed_from r (cond z (route_in r t) None) ≡ cond z (way_in r t) followed.Nowhere
+    → followed_from r (cond z (route_in r t) None) ≡ cond z (way_in r t) None
 unfolding route_in way_in
 way-if r true t = refl
 way-if r false t = refl
@@ -76,7 +75,7 @@ swept-key b s (suc m) h i =
 
 module _ (c : Book) (e : Entry) (t : List ℕ) where
   -- the finding, field by field
-  pub made : (txid : List ℕ) (sender order : Option ℕ) (p i : ℕ) (bank : Bool) (route : Option ℕ) (way : Followed)
+  pub made : (txid : List ℕ) (sender order : Option ℕ) (p i : ℕ) (bank : Bool) (route : Option ℕ) (way : Option Way)
       (unconfirmed : Bool) (total : ℕ)
       → txid ≡ txid_field t → sender ≡ sought_sender c e t → order ≡ sought_order c e t → p ≡ number_of sender → i ≡ number_of order
       → bank ≡ is_bank c.roster (order_of c.orders i).payee → route ≡ (sought c e t).route → way ≡ (sought c e t).way

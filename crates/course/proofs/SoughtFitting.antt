@@ -1,6 +1,6 @@
 -- In a sound book what is sought, and what is decided on it, fits: every number is in range, and there is room for what moves.
 -- Assumes nothing.
-use Rattle.std.specs.Prelude.{Option, Some, None}
+use Rattle.std.specs.Prelude.{Option, Some, None, Err, Ok, Result, ℕ}
 use mathlib.Core.Path.{◌≡◌, refl, sym, ◌∙◌, ap}
 use mathlib.Core.Bool.{Bool, true, false, cond}
 use mathlib.Core.List.{List}
@@ -16,16 +16,13 @@ use Rattle.fields.proofs.Stores.{length_part}
 use Rattle.ticket.specs.TicketLayout.{payee_of}
 use Rattle.ticket.specs.TicketReading.{reading}
 use Rattle.ticket.specs.declared.Fields.{Fields}
-use Rattle.ticket.specs.declared.Reading.{Reading}
-use Rattle.ticket.specs.declared.Reading.TheVariants.{Read, Refused}
 use Rattle.ticket.specs.declared.kinds.Kind.{Kind}
 use Rattle.ticket.specs.declared.kinds.Kind.TheVariants as kind
 use Rattle.ticket.proofs.TicketTelling.{Tells, read-tells}
 use Rattle.ticket.proofs.Refusals.{refused-number}
 use Rattle.dayfile.specs.FileLimits.{most_participants}
-use Rattle.dayfile.specs.Route.{reached, rows_followed, target_in, row_with, followed_from, followed_bic}
+use Rattle.dayfile.specs.Route.{way_to, reached, rows_followed, target_in, row_with, followed_from, followed_bic}
 use Rattle.dayfile.specs.declared.roster.Roster.{Roster}
-use Rattle.dayfile.specs.declared.route.Followed.TheVariants.{At, Nowhere}
 use Rattle.dayfile.proofs.Arriving.{bic-arrives}
 use Rattle.dayfile.proofs.Following.{rows_few}
 use Rattle.rules.specs.Book.{most_orders, order_of, cover_of, is_bank}
@@ -145,16 +142,16 @@ module _ (b : Book) (s : Sound b) where
       go : (f : Option ℕ) → row_with b.roster bic ≡ f → reached (followed_from b.roster f) < most_participants
       go (Some row) e =
           let a = bic-arrives b.roster s.roster bic (rw e refl) in
-          let is : followed_from b.roster (Some row) ≡ At a.participant a.rows = rw e at a.is in
+          let is : followed_from b.roster (Some row) ≡ way_to a.participant a.rows = rw e at a.is in
           rw is (let l = a.known in let g = s.roster.size in omega arith)
       go None e = omega arith
 
-  pub reached-below : (looks : Bool) (t : List ℕ) → reached (cond looks (way_in b.roster t) Nowhere) < most_participants
+  pub reached-below : (looks : Bool) (t : List ℕ) → reached (cond looks (way_in b.roster t) None) < most_participants
   unfolding way_in
   reached-below true t = way-below (payee_of t)
   reached-below false t = omega arith
 
-  rows-below : (looks : Bool) (t : List ℕ) → rows_followed (cond looks (way_in b.roster t) Nowhere) < 256
+  rows-below : (looks : Bool) (t : List ℕ) → rows_followed (cond looks (way_in b.roster t) None) < 256
   unfolding way_in
   rows-below true t = let l = way-rows b.roster (row_with b.roster (payee_of t)) in omega arith
   rows-below false t = omega arith
@@ -348,14 +345,14 @@ pub record Entered (clock : ℕ) (t : List ℕ) (e : Entry) : Type 0 where
 pub entered : (clock : ℕ) (t : List ℕ) → Entered clock t (entry_of clock t)
 entered clock t = from-reading (reading t) refl
   where
-    from-timing : (f : Fields) → reading t ≡ Read f → (z : Bool) → ltb f.time clock ≡ z
+    from-timing : (f : Fields) → reading t ≡ Ok f → (z : Bool) → ltb f.time clock ≡ z
         → Entered clock t (timed_entry clock f (cond z Early InTime))
     from-timing f e true q = record { later = omega arith; tells = λ (z : ◌≡◌ {A = ℕ} 11 0). absurd (omega arith) }
     from-timing f e false q = record { later = ltb-false f.time clock q; tells = λ z. read-tells t f e }
 
-    from-reading : (r : Reading) → reading t ≡ r → Entered clock t (read_entry clock r)
-    from-reading (Read f) e = from-timing f e (ltb f.time clock) refl
-    from-reading (Refused n) e = record { later = omega arith; tells = λ (z : n ≡ 0). let h = refused-number t n e in absurd (omega arith) }
+    from-reading : (r : Result Fields ℕ) → reading t ≡ r → Entered clock t (read_entry clock r)
+    from-reading (Ok f) e = from-timing f e (ltb f.time clock) refl
+    from-reading (Err n) e = record { later = omega arith; tells = λ (z : n ≡ 0). let h = refused-number t n e in absurd (omega arith) }
 
 -- what is judged of an entry can be carried out
 pub judged-applicable : (b : Book) → Sound b → (clock : ℕ) (t : List ℕ) (e : Entry) → Entered clock t e

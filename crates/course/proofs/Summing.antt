@@ -1,4 +1,5 @@
 -- All cover together, as the code keeps it: over all 32 places, moved by what each change of a cover adds and takes. Assumes nothing.
+use Rattle.std.specs.Prelude.{None, Option, Some, ℕ}
 use mathlib.Core.Path.{◌≡◌, refl, ◌∙◌, ap}
 use mathlib.Core.Bool.{Bool, true, false, cond}
 use mathlib.Core.List.{List}
@@ -12,8 +13,6 @@ use lib.Seq.{get_or-set_other}
 use Rattle.fields.proofs.UpTo.{sum-part, sum_same, sum-beyond}
 use Rattle.dayfile.specs.FileLimits.{most_participants}
 use Rattle.dayfile.specs.Roster.{participant_of}
-use Rattle.dayfile.specs.declared.roster.Opening.{Opening}
-use Rattle.dayfile.specs.declared.roster.Opening.TheVariants as opening
 use Rattle.dayfile.specs.declared.roster.Roster.{Roster}
 use Rattle.rules.specs.Book.{no_cover, order_of, cover_of, is_bank}
 use Rattle.rules.specs.Cover.{moved, transferred, whole, total_of, total, most_total}
@@ -115,9 +114,9 @@ swept_all b s (suc m) h =
     ∙ swept_all b s m (omega arith)
 
 -- so does a cut
-cut-whole : (o : Opening) (c : Cover) → whole (cut_cover o c) ≡ whole c
-cut-whole opening.None c = refl
-cut-whole (opening.Cover k) c = go (ltb k c.available) refl (ltb c.available k)
+cut-whole : (o : Option ℕ) (c : Cover) → whole (cut_cover o c) ≡ whole c
+cut-whole None c = refl
+cut-whole (Some k) c = go (ltb k c.available) refl (ltb c.available k)
   where
     go : (x : Bool) → ltb k c.available ≡ x → (y : Bool)
         → whole (cond x (with_held (c.available - k) c) (cond y (with_debit (k - c.available) c) c)) ≡ whole c

@@ -1,4 +1,5 @@
 -- The step as one way for every ticket is the step of the rules. Assumes nothing.
+use Rattle.std.specs.Prelude.{Err, Ok, Result, ℕ}
 use mathlib.Core.Path.{◌≡◌, refl, sym, ◌∙◌, ap, ap₂}
 use mathlib.Core.Bool.{Bool, true, false, cond}
 use mathlib.Core.List.{List, ◌++◌, append-nil}
@@ -11,8 +12,6 @@ use lib.Seq.{set-get_or}
 use Rattle.fields.specs.Search.{number_of}
 use Rattle.ticket.specs.TicketReading.{reading}
 use Rattle.ticket.specs.declared.Fields.{Fields}
-use Rattle.ticket.specs.declared.Reading.{Reading}
-use Rattle.ticket.specs.declared.Reading.TheVariants.{Read, Refused}
 use Rattle.ticket.specs.declared.kinds.Kind.{Kind}
 use Rattle.ticket.specs.declared.kinds.Kind.TheVariants as kind
 use Rattle.ticket.proofs.Refusals.{refused-number}
@@ -202,9 +201,9 @@ unfolding tick
 step-timed b t f InTime = passed (tick b f.time) t 0 f.time f.amount f.kind
 step-timed b t f Early = turned 11 refl b t
 
-step-read : (b : Book) (t : List ℕ) (r : Reading) → reading t ≡ r → taken_as b (read_entry b.clock r) t ≡ step_read b t r
-step-read b t (Read f) e = step-timed b t f (timing_of b.clock f.time)
-step-read b t (Refused n) e = turned n (ne_eqb n 0 (λ z. let h = refused-number t n e in omega arith)) b t
+step-read : (b : Book) (t : List ℕ) (r : Result Fields ℕ) → reading t ≡ r → taken_as b (read_entry b.clock r) t ≡ step_read b t r
+step-read b t (Ok f) e = step-timed b t f (timing_of b.clock f.time)
+step-read b t (Err n) e = turned n (ne_eqb n 0 (λ z. let h = refused-number t n e in omega arith)) b t
 
 pub step-taken : (b : Book) (t : List ℕ) → step_of b t ≡ taken_up b t
 unfolding step_of

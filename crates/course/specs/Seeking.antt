@@ -8,7 +8,6 @@
 use Rattle.std.specs.Prelude.{ℕ, Bool, true, false, ◌||◌, cond, List, Option, None}
 use Rattle.fields.specs.Search.{number_of}
 use Rattle.ticket.specs.TicketLayout.{txid_field}
-use Rattle.dayfile.specs.declared.route.Followed.TheVariants.{Nowhere}
 use Rattle.rules.specs.Book.{order_of, cover_of, is_bank}
 use Rattle.rules.specs.Cover.{total}
 use Rattle.rules.specs.Find.{sender_in, order_in, route_in, way_in, any_open}
@@ -57,7 +56,7 @@ sought b e t =
       about = about;
       bank = is_bank b.roster about.payee;
       route = if (opens_order terms.subject) (route_in b.roster t);
-      way = cond (opens_order terms.subject) (way_in b.roster t) Nowhere;
+      way = cond (opens_order terms.subject) (way_in b.roster t) None;
       count = b.count;
       unconfirmed = cond (seeks_open terms.flow) (any_open b) false;
       total = total b;

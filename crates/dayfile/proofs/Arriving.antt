@@ -10,22 +10,21 @@ use native.Mathlib.Omega.{arith}
 use Rattle.fields.specs.Search.{number_of}
 use Rattle.fields.proofs.Finding.{found_at}
 use Rattle.dayfile.specs.Roster.{route_of}
-use Rattle.dayfile.specs.Route.{one_more, target_in, followed, has_bic, rows_in, row_with, followed_from, followed_bic}
+use Rattle.dayfile.specs.Route.{way_to, one_more, target_in, followed, has_bic, rows_in, row_with, followed_from, followed_bic}
 use Rattle.dayfile.specs.Guarantee.{LeadsWithin, Guaranteed}
 use Rattle.dayfile.specs.declared.roster.Target.{Target}
 use Rattle.dayfile.specs.declared.roster.Target.TheVariants.{To, Row}
 use Rattle.dayfile.specs.declared.roster.Roster.{Roster}
-use Rattle.dayfile.specs.declared.route.Followed.{Followed}
-use Rattle.dayfile.specs.declared.route.Followed.TheVariants.{At}
 use Rattle.dayfile.proofs.Following.{follows_to, follows-row}
+use Rattle.dayfile.specs.declared.route.Way.{Way}
 
 -- where a way leads: a participant of the roster, and how many rows were followed
-pub record Arrives (r : Roster) (way : Followed) : Type 0 where
+pub record Arrives (r : Roster) (way : Option Way) : Type 0 where
   pub participant : ℕ
   pub rows : ℕ
   pub known : participant < r.size
   pub one : 1 ≤ rows
-  pub is : way ≡ At participant rows
+  pub is : way ≡ way_to participant rows
 
 module _ (r : Roster) (g : Guaranteed r) where
   to : (n row : ℕ) → row < n → row < r.rows → Arrives r (followed (target_in r.routes) row)

@@ -1,4 +1,5 @@
 -- The laws of following a route: one row at a time, and in no more rows than its number and itself. Assumes nothing.
+use Rattle.std.specs.Prelude.{Some, None, Option}
 use mathlib.Core.Path.{◌≡◌, refl, sym, ◌∙◌, ap}
 use mathlib.Core.Bool.{Bool, true, false, cond}
 use Prim.Native.Nat.{ℕ, zero, suc, ◌+◌, ◌≤◌, ◌<◌}
@@ -6,18 +7,17 @@ use native.Mathlib.Nat.{not-suc-le-zero}
 use native.Mathlib.Omega.{arith}
 use borrow.Author.Tests.{ltb-true, lt-ltb, le-ltb}
 use lib.Dec.{ltb}
-use Rattle.dayfile.specs.Route.{rows_followed, one_more, leads, follow_to, followed}
+use Rattle.dayfile.specs.Route.{way_to, rows_followed, one_more, leads, follow_to, followed}
 use Rattle.dayfile.specs.declared.roster.Target.{Target}
 use Rattle.dayfile.specs.declared.roster.Target.TheVariants.{To, Row}
-use Rattle.dayfile.specs.declared.route.Followed.{Followed}
-use Rattle.dayfile.specs.declared.route.Followed.TheVariants.{At, Nowhere}
+use Rattle.dayfile.specs.declared.route.Way.{Way}
 
 -- only rows below the row's own number matter
-leads-same : (f g : ℕ → Followed) (row : ℕ) (t : Target) → ((k : ℕ) → k < row → f k ≡ g k) → leads f row t ≡ leads g row t
+leads-same : (f g : ℕ → Option Way) (row : ℕ) (t : Target) → ((k : ℕ) → k < row → f k ≡ g k) → leads f row t ≡ leads g row t
 leads-same f g row (To p) h = refl
 leads-same f g row (Row k) h = go (ltb k row) refl
   where
-    go : (b : Bool) → ltb k row ≡ b → cond b (one_more (f k)) Nowhere ≡ cond b (one_more (g k)) Nowhere
+    go : (b : Bool) → ltb k row ≡ b → cond b (one_more (f k)) None ≡ cond b (one_more (g k)) None
     go true e = ap one_more (h k (ltb-true k row e))
     go false e = refl
 
@@ -30,7 +30,7 @@ enough (suc n) (suc m) target row h k =
     (λ j l. enough n m target j (omega arith) (omega arith))
 
 module _ (target : ℕ → Target) (row : ℕ) where
-  pub followed-out : 64 ≤ row → followed target row ≡ Nowhere
+  pub followed-out : 64 ≤ row → followed target row ≡ None
   unfolding followed
   followed-out h = rw (le-ltb row 64 h)
 
@@ -56,19 +56,19 @@ pub followed_same : (f g : ℕ → Target) → ((k : ℕ) → k < 64 → f k ≡
 unfolding followed
 followed_same f g h row = go (ltb row 64) refl
   where
-    go : (b : Bool) → ltb row 64 ≡ b → cond b (follow_to (suc row) f row) Nowhere ≡ cond b (follow_to (suc row) g row) Nowhere
+    go : (b : Bool) → ltb row 64 ≡ b → cond b (follow_to (suc row) f row) None ≡ cond b (follow_to (suc row) g row) None
     go true a = to_same (suc row) f g h row (ltb-true row 64 a)
     go false a = refl
 
-one-more-rows : (f : Followed) → rows_followed (one_more f) ≤ rows_followed f + 1
-one-more-rows (At p n) = omega arith
-one-more-rows Nowhere = omega arith
+one-more-rows : (f : Option Way) → rows_followed (one_more f) ≤ rows_followed f + 1
+one-more-rows (Some w) = omega arith
+one-more-rows None = omega arith
 
-leads-rows : (f : ℕ → Followed) (n row : ℕ) (t : Target) → ((k : ℕ) → rows_followed (f k) ≤ n) → rows_followed (leads f row t) ≤ suc n
+leads-rows : (f : ℕ → Option Way) (n row : ℕ) (t : Target) → ((k : ℕ) → rows_followed (f k) ≤ n) → rows_followed (leads f row t) ≤ suc n
 leads-rows f n row (To p) h = omega arith
 leads-rows f n row (Row k) h = go (ltb k row)
   where
-    go : (b : Bool) → rows_followed (cond b (one_more (f k)) Nowhere) ≤ suc n
+    go : (b : Bool) → rows_followed (cond b (one_more (f k)) None) ≤ suc n
     go true = let o = one-more-rows (f k) in let g = h k in omega arith
     go false = omega arith
 
@@ -77,20 +77,20 @@ to-rows zero target row = omega arith
 to-rows (suc n) target row = leads-rows (λ k. follow_to n target k) n row (target row) (λ k. to-rows n target k)
 
 -- a row is followed in no more rows than its number and itself
-pub followed-rows : (target : ℕ → Target) (row p n : ℕ) → followed target row ≡ At p n → n ≤ row + 1
+pub followed-rows : (target : ℕ → Target) (row : ℕ) (w : Way) → followed target row ≡ Some w → w.rows ≤ row + 1
 unfolding followed
-followed-rows target row p n e = go (ltb row 64) refl
+followed-rows target row w e = go (ltb row 64) refl
   where
-    go : (b : Bool) → ltb row 64 ≡ b → n ≤ row + 1
+    go : (b : Bool) → ltb row 64 ≡ b → w.rows ≤ row + 1
     go true a =
-        let e' : ◌≡◌ {A = Followed} (follow_to (suc row) target row) (At p n) = rw a at e in
-        let r : rows_followed (At p n) ≤ suc row = rw e' at (to-rows (suc row) target row) in
+        let e' : ◌≡◌ {A = Option Way} (follow_to (suc row) target row) (Some w) = rw a at e in
+        let r : rows_followed (Some w) ≤ suc row = rw e' at (to-rows (suc row) target row) in
         omega arith
-    go false a = let e' : ◌≡◌ {A = Followed} Nowhere (At p n) = rw a at e in let z : ◌≡◌ {A = ℕ} 0 1 = cc in omega arith
+    go false a = let e' : ◌≡◌ {A = Option Way} None (Some w) = rw a at e in let z : ◌≡◌ {A = ℕ} 0 1 = cc in omega arith
 
 module _ (target : ℕ → Target) (row : ℕ) (h : row < 64) where
   -- the row leads to a participant
-  pub follows_to : (p : ℕ) → target row ≡ To p → followed target row ≡ At p 1
+  pub follows_to : (p : ℕ) → target row ≡ To p → followed target row ≡ way_to p 1
   follows_to p e = followed-on target row h ∙ ap (leads (followed target) row) e
 
   -- the row goes on from an earlier one
@@ -98,13 +98,13 @@ module _ (target : ℕ → Target) (row : ℕ) (h : row < 64) where
   follows-row k e l = followed-on target row h ∙ ap (leads (followed target) row) e ∙ simp (lt-ltb k row l)
 
   -- or from none
-  pub follows-none : (k : ℕ) → target row ≡ Row k → row ≤ k → followed target row ≡ Nowhere
+  pub follows-none : (k : ℕ) → target row ≡ Row k → row ≤ k → followed target row ≡ None
   follows-none k e l = followed-on target row h ∙ ap (leads (followed target) row) e ∙ simp (le-ltb k row l)
 
 pub rows_few : (target : ℕ → Target) (row : ℕ) → rows_followed (followed target row) ≤ 64
 unfolding followed
 rows_few target row = go (ltb row 64) refl
   where
-    go : (b : Bool) → ltb row 64 ≡ b → rows_followed (cond b (follow_to (suc row) target row) Nowhere) ≤ 64
+    go : (b : Bool) → ltb row 64 ≡ b → rows_followed (cond b (follow_to (suc row) target row) None) ≤ 64
     go true a = let h = ltb-true row 64 a in let r = to-rows (suc row) target row in omega arith
     go false a = omega arith

@@ -1,4 +1,5 @@
 -- What the checks of a day file tell, one after the other. Assumes nothing.
+use Rattle.std.specs.Prelude.{None, Option, Some}
 use mathlib.Core.Path.{◌≡◌, refl, ◌∙◌, ap}
 use mathlib.Core.Bool.{Bool, true, false, ◌&&◌, cond}
 use mathlib.Core.List.{List}
@@ -14,8 +15,6 @@ use Rattle.dayfile.specs.Check.{CountsInRange, ranged, placed, participants_ok, 
 use Rattle.dayfile.specs.DayFile.{day_file, file_headed, file_ranged, file_placed, file_enrolled, file_routed, refused_file, accepted_file}
 use Rattle.dayfile.specs.declared.DayFile.{DayFile}
 use Rattle.dayfile.specs.declared.header.Header.{Header}
-use Rattle.dayfile.specs.declared.header.Headed.{Headed}
-use Rattle.dayfile.specs.declared.header.Headed.TheVariants.{As, Short}
 use Rattle.dayfile.specs.declared.check.Ranged.{Ranged}
 use Rattle.dayfile.specs.declared.check.Ranged.TheVariants.{Within, Outside}
 use Rattle.dayfile.specs.declared.check.Placed.{Placed}
@@ -108,7 +107,7 @@ unfolding day_file
 file-is-headed f = refl
 
 -- the file from each check on
-module _ (f : List ℕ) (h : Header) (head : headed f ≡ As h) where
+module _ (f : List ℕ) (h : Header) (head : headed f ≡ Some h) where
   pub file-headed : day_file f ≡ file_ranged h f (ranged h)
   unfolding day_file
   file-headed = ap (file_headed f) head
@@ -131,7 +130,7 @@ module _ (f : List ℕ) (h : Header) (head : headed f ≡ As h) where
 -- a file that is not refused has passed all five
 pub record Accepted (f : List ℕ) : Type 0 where
   pub header : Header
-  pub head : headed f ≡ As header
+  pub head : headed f ≡ Some header
   pub range : CountsInRange header.counts
   pub place : InPlace header (length f)
   pub participants : participants_ok header.offsets.participants header.counts.participants f ≡ true
@@ -150,7 +149,7 @@ refused-by f n h e = inr (record { number = n; some = h; file = e })
 pub file-outcome : (f : List ℕ) → Accepted f ⊎ Refused f
 file-outcome f = from-head (headed f) refl
   where
-    from-routes : (h : Header) → headed f ≡ As h → ranged h ≡ Within → placed h (length f) ≡ Right
+    from-routes : (h : Header) → headed f ≡ Some h → ranged h ≡ Within → placed h (length f) ≡ Right
         → (p : Bool) → participants_ok h.offsets.participants h.counts.participants f ≡ p
         → (r : Bool) → routes_ok h.counts.participants h.offsets.routes h.counts.routes f ≡ r → Accepted f ⊎ Refused f
     from-routes h e₁ e₂ e₃ true e₄ true e₅ =
@@ -172,17 +171,17 @@ file-outcome f = from-head (headed f) refl
         refused-by f 4 (omega arith)
         (file-placed f h e₁ e₂ e₃ ∙ ap (λ (b : Bool). file_enrolled h f (cond b participants-are.Right participants-are.Wrong)) e₄)
 
-    from_place : (h : Header) → headed f ≡ As h → ranged h ≡ Within → (p : Placed) → placed h (length f) ≡ p → Accepted f ⊎ Refused f
+    from_place : (h : Header) → headed f ≡ Some h → ranged h ≡ Within → (p : Placed) → placed h (length f) ≡ p → Accepted f ⊎ Refused f
     from_place h e₁ e₂ Right e₃ = from-routes h e₁ e₂ e₃ _ refl _ refl
     from_place h e₁ e₂ Wrong e₃ = refused-by f 3 (omega arith) (file-ranged f h e₁ e₂ ∙ ap (file_placed h f) e₃)
 
-    from-range : (h : Header) → headed f ≡ As h → (r : Ranged) → ranged h ≡ r → Accepted f ⊎ Refused f
+    from-range : (h : Header) → headed f ≡ Some h → (r : Ranged) → ranged h ≡ r → Accepted f ⊎ Refused f
     from-range h e₁ Within e₂ = from_place h e₁ e₂ (placed h (length f)) refl
     from-range h e₁ Outside e₂ = refused-by f 2 (omega arith) (file-headed f h e₁ ∙ ap (file_ranged h f) e₂)
 
-    from-head : (h : Headed) → headed f ≡ h → Accepted f ⊎ Refused f
-    from-head (As h) e = from-range h e (ranged h) refl
-    from-head Short e = refused-by f 1 (omega arith) (file-is-headed f ∙ ap (file_headed f) e)
+    from-head : (h : Option Header) → headed f ≡ h → Accepted f ⊎ Refused f
+    from-head (Some h) e = from-range h e (ranged h) refl
+    from-head None e = refused-by f 1 (omega arith) (file-is-headed f ∙ ap (file_headed f) e)
 
 pub passing-accepted : (f : List ℕ) → (day_file f).refusal ≡ 0 → Accepted f
 passing-accepted f z =

@@ -1,4 +1,5 @@
 -- The bytes that are written of a well-formed day are accepted, and reading them gives the day back. Assumes nothing.
+use Rattle.std.specs.Prelude.{Some}
 use mathlib.Core.Path.{◌≡◌, refl, ◌∙◌, ap, ap₂}
 use mathlib.Core.Bool.{Bool, true, false, ◌&&◌, not}
 use mathlib.Core.List.{List, [], ◌∷◌}
@@ -35,7 +36,6 @@ use Rattle.dayfile.proofs.RowsReadBack.{participant-back, participant-written, r
 use Rattle.dayfile.specs.declared.DayFile.{DayFile}
 use Rattle.dayfile.specs.declared.header.Sections.{Sections}
 use Rattle.dayfile.specs.declared.header.Header.{Header}
-use Rattle.dayfile.specs.declared.header.Headed.TheVariants.{As}
 use Rattle.dayfile.specs.declared.check.Ranged.TheVariants.{Within}
 use Rattle.dayfile.specs.declared.check.Placed.TheVariants.{Right}
 use Rattle.dayfile.specs.declared.roster.Target.{Target}
@@ -132,11 +132,11 @@ module _ (ps : List Participant) (rs : List Route) (ts : List (List ℕ)) (w : W
           (other i l)
 
   -- 1 to 3
-  head : headed file ≡ As header
+  head : headed file ≡ Some header
   head =
       let s = file-length ps rs ts w in
       rw (le-ltb (length file) 12 (omega arith))
-      (ap₂ (λ (a b : Sections). As (record { counts = a; offsets = b }))
+      (ap₂ (λ (a b : Sections). Some (record { counts = a; offsets = b }))
       (sections-back file 0 counts (held_in (held_first (header_bytes header) _) (held_first (sections_bytes counts) _))
       (let m = w.participants in omega arith) (let m = w.routes in omega arith) (let m = w.tickets in omega arith))
       (sections-back file 6 header.offsets

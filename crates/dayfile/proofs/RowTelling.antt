@@ -1,4 +1,5 @@
 -- What a participant row and a route row that are right by themselves tell. Assumes nothing.
+use Rattle.std.specs.Prelude.{None, Some}
 use mathlib.Core.Path.{◌≡◌, refl, sym}
 use mathlib.Core.Bool.{Bool, true, false, ◌&&◌, ◌||◌, cond}
 use mathlib.Core.List.{List}
@@ -26,7 +27,6 @@ use Rattle.dayfile.specs.Roster.{
   route_at,
 }
 use Rattle.dayfile.specs.Guarantee.{OpeningWithin, LeadsWithin, ParticipantNumbers, RouteNumbers}
-use Rattle.dayfile.specs.declared.roster.Opening.TheVariants.{None, Cover}
 use Rattle.dayfile.specs.declared.roster.Target.TheVariants.{To, Row}
 
 -- the number of a case is the number that it was read from
@@ -44,7 +44,7 @@ wish-number b n h = zero-or-one b h (λ e. rw e) (λ e. rw e)
 opening-number : (b n : ℕ) → (eqb b 1 || eqb n 0) ≡ true → opening_number (opening_of b n) ≡ n
 opening-number b n = go (eqb b 1)
   where
-    go : (w : Bool) → (w || eqb n 0) ≡ true → opening_number (cond w (Cover n) None) ≡ n
+    go : (w : Bool) → (w || eqb n 0) ≡ true → opening_number (cond w (Some n) None) ≡ n
     go true h = refl
     go false h = sym (eqb-true n 0 h)
 
@@ -87,7 +87,7 @@ module _ (at : ℕ) (f : List ℕ) (ok : participant_ok at f ≡ true) where
   unfolding most
   participant-opening = go (eqb (get_or f (at + 20) 0) 1)
     where
-      go : (b : Bool) → OpeningWithin (cond b (Cover (number_at 8 (at + 12) f)) None)
+      go : (b : Bool) → OpeningWithin (cond b (Some (number_at 8 (at + 12) f)) None)
       go true = leb-true (number_at 8 (at + 12) f) most_opening (and_right (bic && kind && wish) most to-most)
       go false = tt
 

@@ -1,4 +1,5 @@
 -- Rows that are written read back, and they are right by themselves. Assumes nothing.
+use Rattle.std.specs.Prelude.{None, Option, Some, ℕ}
 use mathlib.Core.Path.{◌≡◌, refl}
 use mathlib.Core.Bool.{true, ◌||◌}
 use mathlib.Core.List.{List, [], ◌∷◌}
@@ -29,8 +30,6 @@ use Rattle.dayfile.specs.Guarantee.{OpeningWithin, LeadsWithin}
 use Rattle.dayfile.specs.FileWriting.{participant_bytes, route_bytes}
 use Rattle.dayfile.specs.declared.roster.PartyKind.{PartyKind}
 use Rattle.dayfile.specs.declared.roster.PartyKind.TheVariants.{Bank, Linked}
-use Rattle.dayfile.specs.declared.roster.Opening.{Opening}
-use Rattle.dayfile.specs.declared.roster.Opening.TheVariants.{None, Cover}
 use Rattle.dayfile.specs.declared.roster.Target.{Target}
 use Rattle.dayfile.specs.declared.roster.Target.TheVariants.{To, Row}
 use Rattle.dayfile.specs.declared.roster.Participant.{Participant}
@@ -41,9 +40,9 @@ kind-back : (k : PartyKind) → kind_of (party_number k) ≡ k
 kind-back Bank = refl
 kind-back Linked = refl
 
-opening-back : (o : Opening) → opening_of (wish_number o) (opening_number o) ≡ o
+opening-back : (o : Option ℕ) → opening_of (wish_number o) (opening_number o) ≡ o
 opening-back None = refl
-opening-back (Cover n) = refl
+opening-back (Some n) = refl
 
 pub target-back : (t : Target) → target_of (target_kind t) (target_number t) ≡ t
 target-back (To p) = refl
@@ -54,17 +53,17 @@ kind-most : (k : PartyKind) → leb (party_number k) 1 ≡ true
 kind-most Bank = refl
 kind-most Linked = refl
 
-wish-most : (o : Opening) → leb (wish_number o) 1 ≡ true
+wish-most : (o : Option ℕ) → leb (wish_number o) 1 ≡ true
 wish-most None = refl
-wish-most (Cover n) = refl
+wish-most (Some n) = refl
 
-wished : (o : Opening) → (eqb (wish_number o) 1 || eqb (opening_number o) 0) ≡ true
+wished : (o : Option ℕ) → (eqb (wish_number o) 1 || eqb (opening_number o) 0) ≡ true
 wished None = refl
-wished (Cover n) = refl
+wished (Some n) = refl
 
-opening-most : (o : Opening) → OpeningWithin o → opening_number o ≤ most_opening
+opening-most : (o : Option ℕ) → OpeningWithin o → opening_number o ≤ most_opening
 opening-most None h = omega arith
-opening-most (Cover n) h = h
+opening-most (Some n) h = h
 
 target-most : (t : Target) → leb (target_kind t) 1 ≡ true
 target-most (To p) = refl

@@ -3,7 +3,7 @@
 --     day_file      all of that
 --     ticket_at     ticket k of an accepted file: 108 bytes
 -- Assumes nothing.
-use Rattle.std.specs.Prelude.{ℕ, ◌+◌, ◌*◌, List, length}
+use Rattle.std.specs.Prelude.{ℕ, ◌+◌, ◌*◌, List, length, None, Option, Some}
 use Rattle.fields.specs.Number.{part}
 use Rattle.ticket.specs.TicketLayout.{ticket_length}
 use Rattle.dayfile.specs.Header.{headed}
@@ -12,8 +12,6 @@ use Rattle.dayfile.specs.Roster.{roster_of, empty_roster}
 use Rattle.dayfile.specs.FileRefusal.{headed_refusal, ranged_refusal, placed_refusal, enrolled_refusal, routed_refusal}
 use Rattle.dayfile.specs.declared.DayFile.{DayFile}
 use Rattle.dayfile.specs.declared.header.Header.{Header}
-use Rattle.dayfile.specs.declared.header.Headed.{Headed}
-use Rattle.dayfile.specs.declared.header.Headed.TheVariants.{As, Short}
 use Rattle.dayfile.specs.declared.check.Ranged.{Ranged}
 use Rattle.dayfile.specs.declared.check.Ranged.TheVariants.{Within, Outside}
 use Rattle.dayfile.specs.declared.check.Placed.{Placed}
@@ -47,9 +45,9 @@ abbrev pub file_ranged : Header → List ℕ → Ranged → DayFile
 file_ranged h f Within = file_placed h f (placed h (length f))
 file_ranged h f Outside = refused_file (ranged_refusal Outside)
 
-abbrev pub file_headed : List ℕ → Headed → DayFile
-file_headed f (As h) = file_ranged h f (ranged h)
-file_headed f Short = refused_file (headed_refusal Short)
+abbrev pub file_headed : List ℕ → Option Header → DayFile
+file_headed f (Some h) = file_ranged h f (ranged h)
+file_headed f None = refused_file (headed_refusal None)
 
 unfoldable pub day_file : List ℕ → DayFile
 day_file f = file_headed f (headed f)

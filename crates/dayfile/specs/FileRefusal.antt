@@ -1,7 +1,5 @@
 -- The paper's number for each answer of each check: 0 where the check passes. Assumes nothing.
-use Rattle.std.specs.Prelude.{ℕ}
-use Rattle.dayfile.specs.declared.header.Headed.{Headed}
-use Rattle.dayfile.specs.declared.header.Headed.TheVariants.{As, Short}
+use Rattle.std.specs.Prelude.{ℕ, None, Option, Some}
 use Rattle.dayfile.specs.declared.check.Ranged.{Ranged}
 use Rattle.dayfile.specs.declared.check.Ranged.TheVariants.{Within, Outside}
 use Rattle.dayfile.specs.declared.check.Placed.{Placed}
@@ -10,10 +8,11 @@ use Rattle.dayfile.specs.declared.check.Enrolled.{Enrolled}
 use Rattle.dayfile.specs.declared.check.Enrolled.TheVariants as participants-are
 use Rattle.dayfile.specs.declared.check.Routed.{Routed}
 use Rattle.dayfile.specs.declared.check.Routed.TheVariants as routes-are
+use Rattle.dayfile.specs.declared.header.Header.{Header}
 
-abbrev pub headed_refusal : Headed → ℕ
-headed_refusal (As h) = 0
-headed_refusal Short = 1
+abbrev pub headed_refusal : Option Header → ℕ
+headed_refusal (Some h) = 0
+headed_refusal None = 1
 
 abbrev pub ranged_refusal : Ranged → ℕ
 ranged_refusal Within = 0

@@ -7,7 +7,7 @@
 --     bank, bank_opening, linked     participants as on paper
 --     direct, onward                route rows as on paper
 -- Assumes nothing.
-use Rattle.std.specs.Prelude.{ℕ, ◌≤◌, ◌<◌, ◌≡◌, true, false, List, [], ◌∷◌, ◌++◌, map, length, get_or}
+use Rattle.std.specs.Prelude.{ℕ, ◌≤◌, ◌<◌, ◌≡◌, true, false, List, [], ◌∷◌, ◌++◌, map, length, get_or, None, Some}
 use Rattle.codes.specs.Bic.{is_bic}
 use Rattle.fields.specs.Number.{bytes_of}
 use Rattle.fields.specs.Text.{same, joined}
@@ -19,7 +19,6 @@ use Rattle.dayfile.specs.Guarantee.{OpeningWithin, LeadsWithin}
 use Rattle.dayfile.specs.declared.header.Sections.{Sections}
 use Rattle.dayfile.specs.declared.header.Header.{Header}
 use Rattle.dayfile.specs.declared.roster.PartyKind.TheVariants.{Bank, Linked}
-use Rattle.dayfile.specs.declared.roster.Opening.TheVariants.{None, Cover}
 use Rattle.dayfile.specs.declared.roster.Target.TheVariants.{To, Row}
 use Rattle.dayfile.specs.declared.roster.Participant.{Participant}
 use Rattle.dayfile.specs.declared.roster.Route.{Route}
@@ -75,7 +74,7 @@ abbrev pub bank : List ℕ → Participant
 bank bic = record { bic = bic; kind = Bank; opening = None }
 
 abbrev pub bank_opening : List ℕ → ℕ → Participant
-bank_opening bic n = record { bic = bic; kind = Bank; opening = Cover n }
+bank_opening bic n = record { bic = bic; kind = Bank; opening = Some n }
 
 abbrev pub linked : List ℕ → Participant
 linked bic = record { bic = bic; kind = Linked; opening = None }

@@ -7,7 +7,7 @@
 --     Guaranteed               the roster: counts, BICs, openings, where each row points; what is not in use is as in the empty roster
 --     GuaranteedFile           the roster, at least one participant, and where the tickets lie
 -- Assumes nothing.
-use Rattle.std.specs.Prelude.{ℕ, ◌+◌, ◌*◌, ◌≤◌, ◌<◌, ◌≡◌, true, false, List, length, get_or}
+use Rattle.std.specs.Prelude.{ℕ, ◌+◌, ◌*◌, ◌≤◌, ◌<◌, ◌≡◌, true, false, List, length, get_or, None, Option, Some}
 use Rattle.codes.specs.Bic.{is_bic}
 use Rattle.fields.specs.Number.{number_at}
 use Rattle.fields.specs.Text.{same}
@@ -33,17 +33,15 @@ use Rattle.dayfile.specs.Roster.{
   route_of,
 }
 use Rattle.dayfile.specs.DayFile.{day_file}
-use Rattle.dayfile.specs.declared.roster.Opening.{Opening}
-use Rattle.dayfile.specs.declared.roster.Opening.TheVariants.{None, Cover}
 use Rattle.dayfile.specs.declared.roster.Target.{Target}
 use Rattle.dayfile.specs.declared.roster.Target.TheVariants.{To, Row}
 use Rattle.dayfile.specs.declared.roster.Participant.{Participant}
 use Rattle.dayfile.specs.declared.roster.Route.{Route}
 use Rattle.dayfile.specs.declared.roster.Roster.{Roster}
 
-abbrev pub OpeningWithin : Opening → Type 0
+abbrev pub OpeningWithin : Option ℕ → Type 0
 OpeningWithin None = Unit {0}
-OpeningWithin (Cover n) = n ≤ most_opening
+OpeningWithin (Some n) = n ≤ most_opening
 
 abbrev pub LeadsWithin : ℕ → ℕ → Target → Type 0
 LeadsWithin size own (To p) = p < size

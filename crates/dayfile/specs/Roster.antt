@@ -12,15 +12,13 @@
 --     participant_in, row_of          the same of the participants and the routes alone
 --     empty_roster                   none of either
 -- Assumes nothing.
-use Rattle.std.specs.Prelude.{ℕ, ◌+◌, ◌*◌, ◌≤◌, Bool, true, false, cond, List, [], eqb, get_or, replicate}
+use Rattle.std.specs.Prelude.{ℕ, ◌+◌, ◌*◌, ◌≤◌, Bool, true, false, cond, List, [], eqb, get_or, replicate, None, Option, Some}
 use Rattle.fields.specs.Number.{part, number_at}
 use Rattle.fields.specs.UpTo.{rows_to}
 use Rattle.dayfile.specs.FileLimits.{most_participants, most_routes, participant_length, route_length}
 use Rattle.dayfile.specs.declared.header.Header.{Header}
 use Rattle.dayfile.specs.declared.roster.PartyKind.{PartyKind}
 use Rattle.dayfile.specs.declared.roster.PartyKind.TheVariants.{Bank, Linked}
-use Rattle.dayfile.specs.declared.roster.Opening.{Opening}
-use Rattle.dayfile.specs.declared.roster.Opening.TheVariants.{None, Cover}
 use Rattle.dayfile.specs.declared.roster.Target.{Target}
 use Rattle.dayfile.specs.declared.roster.Target.TheVariants.{To, Row}
 use Rattle.dayfile.specs.declared.roster.Participant.{Participant}
@@ -33,13 +31,13 @@ party_number Bank = 0
 party_number Linked = 1
 
 -- 01: if it wishes, an opening cover (0 included); wish 0 or 1
-abbrev pub wish_number : Opening → ℕ
+abbrev pub wish_number : Option ℕ → ℕ
 wish_number None = 0
-wish_number (Cover n) = 1
+wish_number (Some n) = 1
 
-abbrev pub opening_number : Opening → ℕ
+abbrev pub opening_number : Option ℕ → ℕ
 opening_number None = 0
-opening_number (Cover n) = n
+opening_number (Some n) = n
 
 -- 01: kind (0 participant, 1 row), k
 abbrev pub target_kind : Target → ℕ
@@ -57,8 +55,8 @@ abbrev pub bank_kind : PartyKind → Bool
 bank_kind Bank = true
 bank_kind Linked = false
 
-abbrev pub opening_of : ℕ → ℕ → Opening
-opening_of wish n = cond (eqb wish (wish_number (Cover n))) (Cover n) None
+abbrev pub opening_of : ℕ → ℕ → Option ℕ
+opening_of wish n = cond (eqb wish (wish_number (Some n))) (Some n) None
 
 -- 01: leads either to participant k, or goes on from row k
 abbrev pub target_of : ℕ → ℕ → Target

@@ -13,9 +13,3 @@ pub struct Header {
     pub counts: Sections,
     pub offsets: Sections,
 }
-
-#[derive(Clone, Copy)]
-pub enum Headed {
-    As(Header),
-    Short,
-}

@@ -10,18 +10,12 @@ pub enum PartyKind {
     Linked,
 }
 
-// An opening cover, if the participant wishes one.
-#[derive(Clone, Copy)]
-pub enum Opening {
-    None,
-    Cover(u64),
-}
-
+// The opening cover stands here if the participant wishes one.
 #[derive(Clone, Copy)]
 pub struct Participant {
     pub bic: [u8; 11],
     pub kind: PartyKind,
-    pub opening: Opening,
+    pub opening: Option<u64>,
 }
 
 pub fn is_bank(p: Participant) -> bool

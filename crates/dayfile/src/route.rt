@@ -2,28 +2,28 @@
 ghost use Rattle.std.specs.Prelude.{◌≡◌};
 ghost use Rattle.dayfile.specs.Route.{reached, rows_followed};
 
-// The participant reached and the number of rows followed.
+// The participant reached and the number of rows followed. A BIC that leads nowhere has none.
 #[derive(Clone, Copy)]
-pub enum Followed {
-    At(usize, usize),
-    Nowhere,
+pub struct Way {
+    pub participant: usize,
+    pub rows: usize,
 }
 
 // The participant that was reached, and how many rows were followed; 0 where it leads nowhere.
-pub fn reached(way: Followed) -> usize
+pub fn reached(way: Option<Way>) -> usize
     ensures { result ≡ reached way }
 {
     match way {
-        Followed::At(p, _) => p,
-        Followed::Nowhere => 0,
+        Some(w) => w.participant,
+        None => 0,
     }
 }
 
-pub fn rows_followed(way: Followed) -> usize
+pub fn rows_followed(way: Option<Way>) -> usize
     ensures { result ≡ rows_followed way }
 {
     match way {
-        Followed::At(_, n) => n,
-        Followed::Nowhere => 0,
+        Some(w) => w.rows,
+        None => 0,
     }
 }

@@ -12,7 +12,7 @@ ghost use Rattle.dayread.specs.Outcome.{refused_header, file_of};
 
 use dayfile::DayFile;
 use dayfile::check::{Enrolled, Placed, Ranged, Routed};
-use dayfile::header::{Headed, Header, Sections};
+use dayfile::header::{Header, Sections};
 
 // What the checks leave: the refusal, 0 if none, and the header; of a refused file a header of nothing, all zero.
 #[derive(Clone, Copy)]
@@ -41,7 +41,7 @@ fn refused(refusal: u8) -> Outcome
 fn checked(f: &[u8]) -> Outcome
     ensures { (file_of f.now result ≡ day_file f.now) × RowsWithin result.header (length f.now) }
 {
-    let Headed::As(h) = dayrows::read_header(f) else {
+    let Some(h) = dayrows::read_header(f) else {
         return refused(1);
     };
     let Ranged::Within = dayrows::check_counts(h) else {

@@ -19,7 +19,7 @@ ghost use Rattle.dayfile.specs.Roster.{
 
 use dayfile::header::Header;
 use dayfile::limits;
-use dayfile::roster::{Opening, Participant, PartyKind, Roster, Route, Target};
+use dayfile::roster::{Participant, PartyKind, Roster, Route, Target};
 
 fn bic_at(f: &[u8], at: usize) -> [u8; 11]
     requires { at + 11 ≤ length f.now }
@@ -40,13 +40,13 @@ fn kind_of(b: u8) -> PartyKind
     }
 }
 
-fn opening_of(wish: u8, n: u64) -> Opening
+fn opening_of(wish: u8, n: u64) -> Option<u64>
     ensures { result ≡ opening_of wish n }
 {
     if wish == 1 {
-        Opening::Cover(n)
+        Some(n)
     } else {
-        Opening::None
+        None
     }
 }
 
@@ -88,7 +88,7 @@ fn no_participant() -> Participant
     Participant {
         bic: [0u8; 11],
         kind: PartyKind::Bank,
-        opening: Opening::None,
+        opening: None,
     }
 }
 

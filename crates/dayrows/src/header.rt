@@ -2,14 +2,14 @@
 ghost use Rattle.std.specs.Prelude.{◌≡◌};
 ghost use Rattle.dayfile.specs.Header.{headed};
 
-use dayfile::header::{Headed, Header, Sections};
+use dayfile::header::{Header, Sections};
 use dayfile::limits;
 
-pub fn read_header(f: &[u8]) -> Headed
+pub fn read_header(f: &[u8]) -> Option<Header>
     ensures { result ≡ headed f.now }
 {
     if f.len() < limits::HEADER_LENGTH {
-        return Headed::Short;
+        return None;
     }
     let counts = Sections {
         participants: fields::u16_at(f, 0) as usize,
@@ -21,5 +21,5 @@ pub fn read_header(f: &[u8]) -> Headed
         routes: fields::u16_at(f, 8) as usize,
         tickets: fields::u16_at(f, 10) as usize,
     };
-    Headed::As(Header { counts, offsets })
+    Some(Header { counts, offsets })
 }

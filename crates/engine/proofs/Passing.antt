@@ -18,7 +18,6 @@ use Rattle.ticket.specs.TicketLayout.{sender_of, payee_of, payer_of, txid_field}
 use Rattle.dayfile.specs.Guarantee.{Guaranteed}
 use Rattle.dayfile.specs.Route.{followed_from}
 use Rattle.dayfile.specs.declared.roster.Roster.{Roster}
-use Rattle.dayfile.specs.declared.route.Followed.{Followed}
 use Rattle.routes.specs.Ways.{end_at}
 use Rattle.routes.proofs.Leading.{led-end}
 use Rattle.rules.specs.Book.{order_of, is_bank}
@@ -48,6 +47,7 @@ use Rattle.engine.specs.Directory.{Directs}
 use Rattle.engine.proofs.LoopKeeping.{LoopKept}
 use Rattle.engine.proofs.Searching.{words_in, all_found}
 use Rattle.engine.proofs.SeenEntry.{entry_by, Sighted, sight-read, sight-refused}
+use Rattle.dayfile.specs.declared.route.Way.{Way}
 
 module _ {b₀ : Book} {tickets answers₀ reports₀ : List ℕ} {b : Book} {keys heads links : List ℕ} {all m k n : ℕ} {bytes text : List ℕ}
     (h : LoopKept b₀ tickets answers₀ reports₀ b keys heads links all m k n bytes text)
@@ -125,7 +125,7 @@ module _ {b : Book} {t : List ℕ} {e : Entry} (u : TakenUp b t e) {n₀ : ℕ} 
         (text-is ∙ ap (λ (y : Expiry). sets text (12 * n) (reports_bytes (listed y.told))) lapse-is)
 
 pub follows : {r : Roster} {bics bic_heads bic_links routes route_heads route_links kinds numbers : List ℕ}
-    → Directs r bics bic_heads bic_links routes route_heads route_links kinds numbers → (route : Option ℕ) {way : Followed}
+    → Directs r bics bic_heads bic_links routes route_heads route_links kinds numbers → (route : Option ℕ) {way : Option Way}
     → way ≡ end_at kinds numbers route → way ≡ followed_from r route
 follows {r} d route is = is ∙ ap₂ (λ (x y : List ℕ). end_at x y route) d.kind d.number ∙ led-end r route
 

@@ -5,7 +5,7 @@
 --     refusal-told     between 1,024 and 2,048: the file is refused, and by which number
 --     room-told        2,048: the file is accepted and has tickets, and there is no room for the first
 -- Assumes nothing.
-use Rattle.std.specs.Prelude.{◌≡◌, ℕ, zero, suc, ◌+◌, ◌<◌, ◌≤◌, Bool, true, false, cond, not, ◌&&◌, eqb, leb, List, [], length, drop}
+use Rattle.std.specs.Prelude.{◌≡◌, ℕ, zero, suc, ◌+◌, ◌<◌, ◌≤◌, Bool, true, false, cond, not, ◌&&◌, eqb, leb, List, [], length, drop, None, Option, Some}
 use mathlib.Core.Path.{refl}
 use native.Mathlib.Nat.{add-zero}
 use native.Mathlib.Omega.{arith}
@@ -17,8 +17,6 @@ use Rattle.dayfile.specs.DayFile.{day_file, file_routed, file_enrolled, file_pla
 use Rattle.dayfile.specs.Header.{headed}
 use Rattle.dayfile.specs.Check.{ranged, placed, enrolled, routed}
 use Rattle.dayfile.specs.declared.header.Header.{Header}
-use Rattle.dayfile.specs.declared.header.Headed.{Headed}
-use Rattle.dayfile.specs.declared.header.Headed.TheVariants.{As, Short}
 use Rattle.dayfile.specs.declared.check.Ranged.{Ranged}
 use Rattle.dayfile.specs.declared.check.Ranged.TheVariants.{Within, Outside}
 use Rattle.dayfile.specs.declared.check.Placed.{Placed}
@@ -54,9 +52,9 @@ module _ (f : List ℕ) where
   ranged-most h Within = placed-most h (placed h (length f))
   ranged-most h Outside = omega arith
 
-  headed-most : (h : Headed) → (file_headed f h).refusal ≤ 5
-  headed-most (As h) = ranged-most h (ranged h)
-  headed-most Short = omega arith
+  headed-most : (h : Option Header) → (file_headed f h).refusal ≤ 5
+  headed-most (Some h) = ranged-most h (ranged h)
+  headed-most None = omega arith
 
   file-refusal-most : (day_file f).refusal ≤ 5
   unfolding day_file

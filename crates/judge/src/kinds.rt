@@ -17,7 +17,7 @@ ghost use Rattle.verdict.specs.Judgement.{
   confirm_verdict,
 };
 
-use dayfile::route::Followed;
+use dayfile::route::Way;
 use rules::checks::{
     Confirming, Cutting, Funds, Held, Key, Limit, Party, Payee, Recalling, Sender, Space, Standing,
     Sum,
@@ -57,7 +57,7 @@ pub fn order(
     sender: Option<usize>,
     order: Option<usize>,
     route: Option<usize>,
-    way: Followed,
+    way: Option<Way>,
     count: usize,
     available: u64,
     n: u64,

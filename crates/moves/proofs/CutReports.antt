@@ -1,4 +1,5 @@
 -- The reports of a cut: at most one for each participant, and those of one participant more. Assumes nothing.
+use Rattle.std.specs.Prelude.{None, Option, Some, ℕ}
 use mathlib.Core.Path.{◌≡◌, sym, ◌∙◌, ap, ap₂}
 use mathlib.Core.Bool.{Bool, true, false, cond}
 use mathlib.Core.List.{List, [], ◌∷◌}
@@ -9,8 +10,6 @@ use lib.Dec.{ltb}
 use lib.ListN.{length, length-append}
 use lib.Seq.{sets}
 use Rattle.dayfile.specs.Roster.{participant_of}
-use Rattle.dayfile.specs.declared.roster.Opening.{Opening}
-use Rattle.dayfile.specs.declared.roster.Opening.TheVariants as opening
 use Rattle.dayfile.specs.declared.roster.Roster.{Roster}
 use Rattle.report.specs.ReportLayout.{reports_bytes}
 use Rattle.report.specs.declared.Report.{Report}
@@ -20,9 +19,9 @@ use Rattle.rules.specs.Cut.{cut_report, cut_reports_to}
 use Rattle.rules.specs.Tell.{tell_cut}
 use Rattle.rules.specs.declared.Cover.{Cover}
 
-one_at_most : (p : ℕ) (o : Opening) (c : Cover) → length (cut_report p o c) ≤ 1
-one_at_most p opening.None c = omega arith
-one_at_most p (opening.Cover k) c = go (ltb k c.available) (ltb c.available k)
+one_at_most : (p : ℕ) (o : Option ℕ) (c : Cover) → length (cut_report p o c) ≤ 1
+one_at_most p None c = omega arith
+one_at_most p (Some k) c = go (ltb k c.available) (ltb c.available k)
   where
     go : (x y : Bool) → length (cond x (tell_cut p 11 (c.available - k) ∷ []) (cond y (tell_cut p 10 (k - c.available) ∷ []) [])) ≤ 1
     go true y = omega arith

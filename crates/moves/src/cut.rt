@@ -8,7 +8,7 @@ ghost use Rattle.rules.specs.Tell.{listed};
 ghost use Rattle.rules.specs.Cut.{with_held, with_debit, cut_cover, cut_report, cut_to, cut_reports_to};
 
 use super::told;
-use dayfile::roster::{Opening, Roster};
+use dayfile::roster::Roster;
 use orders::tell;
 use rules::Cover;
 use rules::decision::Told;
@@ -38,11 +38,11 @@ fn with_debit(n: u64, c: Cover) -> Cover
     }
 }
 
-pub fn cut_cover(opening: Opening, c: Cover) -> Cover
+pub fn cut_cover(opening: Option<u64>, c: Cover) -> Cover
     requires { whole c ≤ most_total }
     ensures { result ≡ cut_cover opening c }
 {
-    let Opening::Cover(k) = opening else {
+    let Some(k) = opening else {
         return c;
     };
     if k < c.available {
@@ -55,11 +55,11 @@ pub fn cut_cover(opening: Opening, c: Cover) -> Cover
 }
 
 // At most one report.
-pub fn cut_told(p: usize, opening: Opening, c: Cover) -> Told
+pub fn cut_told(p: usize, opening: Option<u64>, c: Cover) -> Told
     requires { p < 256 }
     ensures { listed result ≡ cut_report p opening c }
 {
-    let Opening::Cover(k) = opening else {
+    let Some(k) = opening else {
         return Told::Nobody;
     };
     if k < c.available {

@@ -1,5 +1,5 @@
 -- A file that is longer than any day: its first 57,101 bytes print what it prints. Assumes nothing.
-use Rattle.std.specs.Prelude.{◌≡◌, ℕ, ◌≤◌, List, [], length, take}
+use Rattle.std.specs.Prelude.{◌≡◌, ℕ, ◌≤◌, List, [], length, take, Some}
 use mathlib.Core.Path.{refl, sym, ◌∙◌, ap, ap₂}
 use native.Mathlib.Omega.{arith}
 use borrow.Author.Tests.{le-ltb}
@@ -13,7 +13,6 @@ use Rattle.dayfile.specs.declared.DayFile.{DayFile}
 use Rattle.dayfile.specs.FileLimits.{most_read}
 use Rattle.dayfile.specs.declared.header.Sections.{Sections}
 use Rattle.dayfile.specs.declared.header.Header.{Header}
-use Rattle.dayfile.specs.declared.header.Headed.TheVariants.{As}
 use Rattle.dayfile.specs.declared.check.Ranged.{Ranged}
 use Rattle.dayfile.specs.declared.check.Ranged.TheVariants.{Within, Outside}
 use Rattle.dayfile.specs.declared.check.Placed.{Placed}
@@ -26,7 +25,7 @@ abbrev too_long : Ranged → DayFile
 too_long Outside = refused_file 2
 too_long Within = refused_file 3
 
-module _ (g : List ℕ) (h : Header) (head : headed g ≡ As h) (long : most_read ≤ length g) where
+module _ (g : List ℕ) (h : Header) (head : headed g ≡ Some h) (long : most_read ≤ length g) where
   misplaced : ranged h ≡ Within → (z : Placed) → placed h (length g) ≡ z → file_placed h g z ≡ refused_file 3
   misplaced e placed-is.Wrong q = refl
   misplaced e placed-is.Right q =
@@ -49,7 +48,7 @@ module _ (g : List ℕ) (h : Header) (head : headed g ≡ As h) (long : most_rea
       go Outside = refl
       go Within = refl
 
-headed-long : (g : List ℕ) → most_read ≤ length g → headed g ≡ As (header_of g)
+headed-long : (g : List ℕ) → most_read ≤ length g → headed g ≡ Some (header_of g)
 headed-long g long = rw (le-ltb (length g) 12 (omega arith))
 
 module _ (f : List ℕ) (long : most_read ≤ length f) where

@@ -7,6 +7,7 @@
 --     cents-below       an amount has at most eleven digits; digits-below
 --     accepted-passes   it reads as an order at the time given, with the amount
 -- Assumes nothing.
+use Rattle.std.specs.Prelude.{Ok}
 use Prim.Native.Nat.{ℕ, zero, suc, ◌+◌, ◌-◌, ◌*◌, ◌^◌, ◌≤◌, ◌<◌}
 use Prim.Native.String.{String}
 use mathlib.Core.Path.{◌≡◌, refl, ap, sym, subst, ◌∙◌}
@@ -23,7 +24,6 @@ use Rattle.codes.specs.Txid.{is_txid}
 use Rattle.iban.specs.Iban.{is_iban}
 use Rattle.ticket.specs.TicketWriting.{order_ticket, order_written}
 use Rattle.ticket.specs.TicketReading.{reading}
-use Rattle.ticket.specs.declared.Reading.TheVariants.{Read}
 use Rattle.ticket.specs.declared.kinds.Kind.TheVariants.{Order}
 use Rattle.ticket.proofs.ReadsBack.{written-reads}
 use Rattle.xml.specs.Bytes.{all_of}
@@ -303,7 +303,7 @@ cents-below s e =
 
 -- 02, slip 3: an accepted text yields one order ticket that passes refusals 7 to 10
 pub accepted-passes : (root : Element) (time : ℕ) (ticket : List ℕ) → time < 256 ^ 4 → (o : OrderIn root time ticket)
-    → reading ticket ≡ Read (record { kind = Order; time = time; amount = cents o.amount })
+    → reading ticket ≡ Ok (record { kind = Order; time = time; amount = cents o.amount })
 accepted-passes root time ticket fits o =
     let below = cents-below o.amount o.amount-right in
     let above = o.above_zero in

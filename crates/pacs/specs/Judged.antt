@@ -13,14 +13,13 @@
 --     Verdict     a refusal, or a ticket
 --     judged      of the named elements, at a time
 -- Assumes nothing.
-use Rattle.std.specs.Prelude.{ℕ, suc, ◌+◌, ◌-◌, ◌*◌, Bool, false, ◌&&◌, ◌||◌, not, cond, List, [], ◌∷◌, ◌++◌, eqb, leb, length, get_or, take, drop}
+use Rattle.std.specs.Prelude.{ℕ, suc, ◌+◌, ◌-◌, ◌*◌, Bool, false, ◌&&◌, ◌||◌, not, cond, List, [], ◌∷◌, ◌++◌, eqb, leb, length, get_or, take, drop, None}
 use Rattle.fields.specs.Text.{text, same}
 use Rattle.codes.specs.Bic.{is_bic}
 use Rattle.codes.specs.Txid.{is_txid}
 use Rattle.iban.specs.Iban.{is_iban}
 use Rattle.ticket.specs.TicketRefusal.{shape_refusal, account_refusal}
 use Rattle.ticket.specs.TicketWriting.{order_ticket}
-use Rattle.ticket.specs.declared.shapes.Shape.TheVariants.{Malformed}
 use Rattle.ticket.specs.declared.shapes.Account.TheVariants.{Wrong}
 use Rattle.xml.specs.Bytes.{all_of}
 use Rattle.xml.specs.Tree.{Attribute}
@@ -100,7 +99,7 @@ abbrev pub amount_refusal : ℕ
 amount_refusal = 25
 
 abbrev pub code_refusal : ℕ
-code_refusal = shape_refusal Malformed
+code_refusal = shape_refusal None
 
 abbrev pub iban_refusal : ℕ
 iban_refusal = account_refusal Wrong

@@ -11,8 +11,7 @@ use Rattle.dayfile.specs.Roster.{target_kind, target_number, target_of}
 use Rattle.dayfile.specs.Route.{target_in, followed}
 use Rattle.dayfile.specs.declared.roster.Target.{Target}
 use Rattle.dayfile.specs.declared.roster.Route.{Route}
-use Rattle.dayfile.specs.declared.route.Followed.{Followed}
-use Rattle.dayfile.specs.declared.route.Followed.TheVariants.{Nowhere}
+use Rattle.dayfile.specs.declared.route.Way.{Way}
 
 unfoldable pub kinds_of : List Route → List ℕ
 kinds_of routes = rows_to most_routes 0 (λ i. target_kind (target_in routes i)) most_routes
@@ -23,6 +22,6 @@ numbers_of routes = rows_to most_routes 0 (λ i. target_number (target_in routes
 abbrev pub target_by : List ℕ → List ℕ → ℕ → Target
 target_by kinds numbers row = target_of (get_or kinds row 0) (get_or numbers row 0)
 
-abbrev pub end_at : List ℕ → List ℕ → Option ℕ → Followed
+abbrev pub end_at : List ℕ → List ℕ → Option ℕ → Option Way
 end_at kinds numbers (Some row) = followed (target_by kinds numbers) row
-end_at kinds numbers None = Nowhere
+end_at kinds numbers None = None

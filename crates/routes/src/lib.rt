@@ -10,7 +10,7 @@ ghost use Rattle.dayfile.specs.Route.{followed};
 ghost use Rattle.routes.specs.Ways.{kinds_of, numbers_of, target_by, end_at};
 
 use dayfile::roster::{Route, Target};
-use dayfile::route::Followed;
+use dayfile::route::Way;
 
 // Where each row leads, as numbers: its kind, 0 participant or 1 row, and its k.
 #[derive(Clone, Copy)]
@@ -54,31 +54,37 @@ pub fn targets_of(routes: [Route; 64]) -> Targets
 }
 
 // From a row on, until a participant is reached. The row number falls at each call.
-pub fn follow(kinds: &[u8; 64], numbers: &[usize; 64], row: usize) -> Followed
+pub fn follow(kinds: &[u8; 64], numbers: &[usize; 64], row: usize) -> Option<Way>
     ensures { result ≡ followed (target_by kinds.now numbers.now) row }
 {
     if 64 <= row {
-        return Followed::Nowhere;
+        return None;
     }
     let k = numbers[row];
     if kinds[row] != 1 {
-        return Followed::At(k, 1);
+        return Some(Way {
+            participant: k,
+            rows: 1,
+        });
     }
     if row <= k {
-        return Followed::Nowhere;
+        return None;
     }
     match follow(kinds, numbers, k) {
-        Followed::At(p, n) => Followed::At(p, n + 1),
-        Followed::Nowhere => Followed::Nowhere,
+        Some(w) => Some(Way {
+            rows: w.rows + 1,
+            ..w
+        }),
+        None => None,
     }
 }
 
 // The same from a row that was found on.
-pub fn end_of(kinds: &[u8; 64], numbers: &[usize; 64], found: Option<usize>) -> Followed
+pub fn end_of(kinds: &[u8; 64], numbers: &[usize; 64], found: Option<usize>) -> Option<Way>
     ensures { result ≡ end_at kinds.now numbers.now found }
 {
     match found {
         Some(row) => follow(kinds, numbers, row),
-        None => Followed::Nowhere,
+        None => None,
     }
 }

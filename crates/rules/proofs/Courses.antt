@@ -1,5 +1,6 @@
 -- The three courses that a step can take: turned back by 6 to 11, refused by 12 or more, or accepted. What holds of each holds of every
 -- step; and a step's refusal fits its byte in an answer. What 26 leaves is what 18 leaves. Assumes nothing.
+use Rattle.std.specs.Prelude.{Err, Ok, Result, ℕ}
 use mathlib.Core.Path.{◌≡◌, refl, ◌∙◌}
 use mathlib.Core.Bool.{Bool, true, false, cond}
 use mathlib.Core.List.{List}
@@ -10,8 +11,6 @@ use borrow.Author.Tests.{ltb-false, eqb-true, eqb-false}
 use lib.Dec.{ltb, eqb}
 use Rattle.ticket.specs.TicketReading.{reading}
 use Rattle.ticket.specs.declared.Fields.{Fields}
-use Rattle.ticket.specs.declared.Reading.{Reading}
-use Rattle.ticket.specs.declared.Reading.TheVariants.{Read, Refused}
 use Rattle.ticket.proofs.TicketTelling.{Tells, read-tells}
 use Rattle.ticket.proofs.Refusals.{refused-number}
 use Rattle.rules.specs.Tick.{Step, tick}
@@ -54,9 +53,9 @@ module _ (b : Book) (t : List ℕ) (P : Step → Type 0)
           let x = finding (tick b f.time).book f t in
           decided-goes f tells (ltb-false f.time b.clock q) (first_refusal x) refl (refusal-late x)
 
-  read_goes : (r : Reading) → reading t ≡ r → P (step_read b t r)
-  read_goes (Refused n) e = let l = refused-number t n e in turned n (let x = l.0 in omega arith) (let x = l.1 in omega arith)
-  read_goes (Read f) e = timed-goes f (read-tells t f e)
+  read_goes : (r : Result Fields ℕ) → reading t ≡ r → P (step_read b t r)
+  read_goes (Err n) e = let l = refused-number t n e in turned n (let x = l.0 in omega arith) (let x = l.1 in omega arith)
+  read_goes (Ok f) e = timed-goes f (read-tells t f e)
 
   pub step-goes : P (step_of b t)
   unfolding step_of
@@ -78,9 +77,9 @@ module _ (b : Book) (t : List ℕ) where
       go true = omega arith
       go false = refusal-small x
 
-  read_small : (r : Reading) → reading t ≡ r → (step_read b t r).refusal < 256
-  read_small (Refused n) e = let l = (refused-number t n e).1 in omega arith
-  read_small (Read f) e = go (ltb f.time b.clock)
+  read_small : (r : Result Fields ℕ) → reading t ≡ r → (step_read b t r).refusal < 256
+  read_small (Err n) e = let l = (refused-number t n e).1 in omega arith
+  read_small (Ok f) e = go (ltb f.time b.clock)
     where
       go : (x : Bool) → (step_timed b t f (cond x Early InTime)).refusal < 256
       go true = omega arith

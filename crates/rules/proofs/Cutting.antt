@@ -1,4 +1,5 @@
 -- A cut: what it makes of each cover, and that it keeps a book sound. Assumes nothing.
+use Rattle.std.specs.Prelude.{None, Option, Some, ℕ}
 use mathlib.Core.Path.{◌≡◌, refl, ◌∙◌, ap}
 use mathlib.Core.Bool.{Bool, true, false, not, cond}
 use mathlib.Core.List.{List}
@@ -13,8 +14,6 @@ use lib.Seq.{get_or-set_same, get_or-set_other}
 use Rattle.fields.proofs.Tests.{or_left, or_right}
 use Rattle.dayfile.specs.FileLimits.{most_participants}
 use Rattle.dayfile.specs.Roster.{participant_of}
-use Rattle.dayfile.specs.declared.roster.Opening.{Opening}
-use Rattle.dayfile.specs.declared.roster.Opening.TheVariants as opening
 use Rattle.dayfile.specs.declared.roster.Roster.{Roster}
 use Rattle.rules.specs.Book.{no_cover, cover_of}
 use Rattle.rules.specs.Cover.{whole, total_of}
@@ -43,9 +42,9 @@ pub record CutRight (c d : Cover) : Type 0 where
   pub reserved : d.reserved ≡ c.reserved
   pub either : Either d
 
-pub cut_right : (o : Opening) (c : Cover) → Closed c → CutRight c (cut_cover o c)
-cut_right opening.None c z = record { whole = refl; reserved = refl; either = inl z.held }
-cut_right (opening.Cover k) c z = go (ltb k c.available) refl (ltb c.available k)
+pub cut_right : (o : Option ℕ) (c : Cover) → Closed c → CutRight c (cut_cover o c)
+cut_right None c z = record { whole = refl; reserved = refl; either = inl z.held }
+cut_right (Some k) c z = go (ltb k c.available) refl (ltb c.available k)
   where
     go : (x : Bool) → ltb k c.available ≡ x → (y : Bool)
         → CutRight c (cond x (with_held (c.available - k) c) (cond y (with_debit (k - c.available) c) c))
@@ -65,7 +64,7 @@ module _ (r : Roster) (few : r.size ≤ most_participants) {due : ℕ → ℕ} {
   cut-sound zero h = record { sound = s; total = refl; later = λ q l. refl }
   cut-sound (suc p) h = go (cut-sound p (omega arith))
     where
-      o : Opening
+      o : Option ℕ
       o = (participant_of r p).opening
 
       d : Cover

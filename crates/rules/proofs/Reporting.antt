@@ -1,4 +1,5 @@
 -- The reports of a step: each fits its 12 bytes, there are at most 544, and they read back from the buffer. Assumes nothing.
+use Rattle.std.specs.Prelude.{None, Option, Some, ℕ}
 use mathlib.Core.Path.{◌≡◌, refl}
 use mathlib.Core.Bool.{Bool, true, false, cond}
 use mathlib.Core.List.{List, [], ◌∷◌, ◌++◌}
@@ -17,8 +18,6 @@ use Rattle.report.specs.declared.Report.{Report}
 use Rattle.report.proofs.ReportLaws.{laid-reads-back}
 use Rattle.dayfile.specs.Roster.{participant_of}
 use Rattle.dayfile.specs.Guarantee.{OpeningWithin}
-use Rattle.dayfile.specs.declared.roster.Opening.{Opening}
-use Rattle.dayfile.specs.declared.roster.Opening.TheVariants as opening
 use Rattle.rules.specs.Book.{most_orders, order_of, cover_of, is_bank}
 use Rattle.rules.specs.Tell.{tell_order, tell_cut, listed}
 use Rattle.rules.specs.Tick.{Step, due, expire_told, sweep_to, at_time, tick}
@@ -114,9 +113,9 @@ ticked-few b s time l =
 
 module _ (b : Book) (s : Sound b) where
   -- the cut: at most one for each participant
-  cut-one-few : (p : ℕ) → p < b.roster.size → (o : Opening) → OpeningWithin o → Few 1 (cut_report p o (cover_of b.covers p))
-  cut-one-few p h opening.None i = few-none 1
-  cut-one-few p h (opening.Cover k) i = go (ltb k a) (ltb a k)
+  cut-one-few : (p : ℕ) → p < b.roster.size → (o : Option ℕ) → OpeningWithin o → Few 1 (cut_report p o (cover_of b.covers p))
+  cut-one-few p h None i = few-none 1
+  cut-one-few p h (Some k) i = go (ltb k a) (ltb a k)
     where
       a : ℕ
       a = (cover_of b.covers p).available

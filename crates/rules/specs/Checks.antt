@@ -11,7 +11,6 @@
 -- Assumes nothing.
 use Rattle.std.specs.Prelude.{ℕ, ◌+◌, Bool, true, false, ◌&&◌, not, cond, leb, ltb, eqb, Option, Some, None}
 use Rattle.dayfile.specs.Route.{reached}
-use Rattle.dayfile.specs.declared.route.Followed.{Followed}
 use Rattle.rules.specs.Book.{most_orders}
 use Rattle.rules.specs.Cover.{most_total}
 use Rattle.rules.specs.Status.{is_waiting, is_unmarked, is_asked, is_late}
@@ -44,6 +43,7 @@ use Rattle.rules.specs.declared.checks.Confirming.TheVariants.{By, Excluded}
 use Rattle.rules.specs.declared.checks.Limit.{Limit}
 use Rattle.rules.specs.declared.checks.Limit.TheVariants.{Within, Above}
 use Rattle.rules.specs.declared.Status.{Status}
+use Rattle.dayfile.specs.declared.route.Way.{Way}
 
 -- 12. Sender no participant (all but 9 and 11)
 abbrev pub sender_check : Option ℕ → Sender
@@ -69,7 +69,7 @@ new_refusal New = 0
 new_refusal AlreadyHeld = 13
 
 -- 14. Order: no route row with the payee BIC (PY01)
-abbrev pub payee_check : Option ℕ → Followed → Payee
+abbrev pub payee_check : Option ℕ → Option Way → Payee
 payee_check (Some row) way = Reached (reached way)
 payee_check None way = NoRoute
 

@@ -4,10 +4,8 @@
 --     cut_to          the covers when the first n participants are cut
 --     cut_reports_to   what those are told
 -- Assumes nothing.
-use Rattle.std.specs.Prelude.{ℕ, zero, suc, ◌+◌, ◌-◌, cond, List, [], ◌∷◌, ◌++◌, ltb, set}
+use Rattle.std.specs.Prelude.{ℕ, zero, suc, ◌+◌, ◌-◌, cond, List, [], ◌∷◌, ◌++◌, ltb, set, None, Option, Some}
 use Rattle.dayfile.specs.Roster.{participant_of}
-use Rattle.dayfile.specs.declared.roster.Opening.{Opening}
-use Rattle.dayfile.specs.declared.roster.Opening.TheVariants as opening
 use Rattle.dayfile.specs.declared.roster.Roster.{Roster}
 use Rattle.report.specs.declared.Report.{Report}
 use Rattle.rules.specs.Book.{cover_of}
@@ -22,15 +20,15 @@ with_held n c = record { available = c.available - n; reserved = c.reserved; hel
 abbrev pub with_debit : ℕ → Cover → Cover
 with_debit n c = record { available = c.available; reserved = c.reserved; held = c.held; debit = n }
 
-abbrev pub cut_cover : Opening → Cover → Cover
-cut_cover opening.None c = c
-cut_cover (opening.Cover k) c =
+abbrev pub cut_cover : Option ℕ → Cover → Cover
+cut_cover None c = c
+cut_cover (Some k) c =
     cond (ltb k c.available) (with_held (c.available - k) c) (cond (ltb c.available k) (with_debit (k - c.available) c) c)
 
 -- above: report 11; below: report 10; equal, none. Both go to the participant with that amount
-abbrev pub cut_report : ℕ → Opening → Cover → List Report
-cut_report p opening.None c = []
-cut_report p (opening.Cover k) c =
+abbrev pub cut_report : ℕ → Option ℕ → Cover → List Report
+cut_report p None c = []
+cut_report p (Some k) c =
     cond (ltb k c.available) (tell_cut p 11 (c.available - k) ∷ [])
     (cond (ltb c.available k) (tell_cut p 10 (k - c.available) ∷ []) [])
 

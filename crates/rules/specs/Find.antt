@@ -15,13 +15,13 @@ use Rattle.ticket.specs.declared.Fields.{Fields}
 use Rattle.dayfile.specs.Roster.{participant_of}
 use Rattle.dayfile.specs.Route.{row_with, followed_bic}
 use Rattle.dayfile.specs.declared.roster.Roster.{Roster}
-use Rattle.dayfile.specs.declared.route.Followed.{Followed}
 use Rattle.rules.specs.Book.{order_of, cover_of, is_bank}
 use Rattle.rules.specs.Cover.{total}
 use Rattle.rules.specs.declared.finding.Finding.{Finding}
 use Rattle.rules.specs.declared.Order.{Order}
 use Rattle.rules.specs.declared.Cover.{Cover}
 use Rattle.rules.specs.declared.Book.{Book}
+use Rattle.dayfile.specs.declared.route.Way.{Way}
 
 unfoldable pub sender_in : Roster → List ℕ → Option ℕ
 sender_in r t = first_to (λ p. same (participant_of r p).bic (sender_of t)) r.size
@@ -37,7 +37,7 @@ order_in r os count t = first_to (λ i. has_key r (payer_of t) (txid_field t) (o
 unfoldable pub route_in : Roster → List ℕ → Option ℕ
 route_in r t = row_with r (payee_of t)
 
-unfoldable pub way_in : Roster → List ℕ → Followed
+unfoldable pub way_in : Roster → List ℕ → Option Way
 way_in r t = followed_bic r (payee_of t)
 
 abbrev pub is_open : Cover → Bool

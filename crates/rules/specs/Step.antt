@@ -6,11 +6,9 @@
 --     outcome    the whole step
 --     steps_of    the steps of tickets one after the other
 -- Assumes nothing.
-use Rattle.std.specs.Prelude.{ℕ, cond, List, [], ◌∷◌, ◌++◌, eqb, length}
+use Rattle.std.specs.Prelude.{ℕ, cond, List, [], ◌∷◌, ◌++◌, eqb, length, Err, Ok, Result}
 use Rattle.ticket.specs.TicketReading.{reading}
 use Rattle.ticket.specs.declared.Fields.{Fields}
-use Rattle.ticket.specs.declared.Reading.{Reading}
-use Rattle.ticket.specs.declared.Reading.TheVariants.{Read, Refused}
 use Rattle.report.specs.ReportLayout.{laid}
 use Rattle.rules.specs.Tick.{Step, tick}
 use Rattle.rules.specs.Find.{finding}
@@ -50,9 +48,9 @@ abbrev pub step_timed : Book → List ℕ → Fields → Timing → Step
 step_timed b t f InTime = after_tick (tick b f.time) f t
 step_timed b t f Early = untouched b (timing_refusal Early)
 
-abbrev pub step_read : Book → List ℕ → Reading → Step
-step_read b t (Read f) = step_timed b t f (timing_of b.clock f.time)
-step_read b t (Refused n) = untouched b n
+abbrev pub step_read : Book → List ℕ → Result Fields ℕ → Step
+step_read b t (Ok f) = step_timed b t f (timing_of b.clock f.time)
+step_read b t (Err n) = untouched b n
 
 unfoldable pub step_of : Book → List ℕ → Step
 step_of b t = step_read b t (reading t)

@@ -1,6 +1,6 @@
 // What a book finds in a ticket: all that refusals from 12 on and the ticket's own step look at.
 use super::{Cover, Order};
-use dayfile::route::Followed;
+use dayfile::route::Way;
 use ticket::kinds::Kind;
 
 #[derive(Clone, Copy)]
@@ -19,7 +19,7 @@ pub struct Finding {
     pub bank: bool,
     // the route row with its payee BIC, and where that leads
     pub route: Option<usize>,
-    pub way: Followed,
+    pub way: Option<Way>,
     // of the book: orders held, held or open debit anywhere, all cover
     pub count: usize,
     pub unconfirmed: bool,

@@ -5,7 +5,7 @@
 // found are (`verdict-in-range`). Participants are as wide as in the book: a narrower number would ask every caller that it fits.
 use super::decision::Move;
 use super::{Cover, Status};
-use dayfile::route::Followed;
+use dayfile::route::Way;
 use ticket::kinds::Kind;
 
 // The order that a ticket is about, as far as it is looked at.
@@ -33,7 +33,7 @@ pub struct Facts {
     pub bank: bool,
     // the route row with its payee BIC, and where that leads
     pub route: Option<usize>,
-    pub way: Followed,
+    pub way: Option<Way>,
     // of the book: orders held, held or open debit anywhere, all cover
     pub count: usize,
     pub unconfirmed: bool,

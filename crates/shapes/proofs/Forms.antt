@@ -1,4 +1,5 @@
 -- The shape of a ticket by what its kind names: ranges that a kind does not list are blank as one. Assumes nothing.
+use Rattle.std.specs.Prelude.{None, Option, Some}
 use mathlib.Core.Path.{◌≡◌, refl, sym, ◌∙◌, ap}
 use mathlib.Core.Bool.{Bool, true, false, ◌&&◌, ◌||◌, not, cond, and-true}
 use mathlib.Core.List.{List}
@@ -18,8 +19,6 @@ use Rattle.ticket.specs.Form.{form_of}
 use Rattle.ticket.specs.Shape.{well_formed, shape_of, account_of}
 use Rattle.ticket.specs.declared.kinds.Kind.{Kind}
 use Rattle.ticket.specs.declared.kinds.Kind.TheVariants as kind
-use Rattle.ticket.specs.declared.shapes.Shape.{Shape}
-use Rattle.ticket.specs.declared.shapes.Shape.TheVariants.{Formed, Malformed}
 use Rattle.ticket.specs.declared.shapes.Account.TheVariants.{Named}
 use Rattle.rules.specs.Terms.{terms_of, opens_order}
 use Rattle.rules.specs.declared.terms.Subject.{Subject}
@@ -194,16 +193,16 @@ none-new kind.Tick e = refl
 
 -- the shape of a ticket whose kind is known
 pub shape_is : (s : Subject) (k : Kind) (t : List ℕ) → TicketNaming s k t
-    → (b : Bool) → well_formed (form_of k) t ≡ b → shape_of t ≡ cond b (Formed k) Malformed
+    → (b : Bool) → well_formed (form_of k) t ≡ b → shape_of t ≡ cond b (Some k) None
 shape_is s k t n b e = simp (eq-eqb (length t) layout.ticket_length n.whole, n.kinds, e)
 
 -- one that is formed is of its kind
-pub formed-kind : (s : Subject) (k : Kind) (t : List ℕ) → TicketNaming s k t → (j : Kind) → shape_of t ≡ Formed j → shape_of t ≡ Formed k
+pub formed-kind : (s : Subject) (k : Kind) (t : List ℕ) → TicketNaming s k t → (j : Kind) → shape_of t ≡ Some j → shape_of t ≡ Some k
 formed-kind s k t n j e = go (well_formed (form_of k) t) refl
   where
-    go : (b : Bool) → well_formed (form_of k) t ≡ b → shape_of t ≡ Formed k
+    go : (b : Bool) → well_formed (form_of k) t ≡ b → shape_of t ≡ Some k
     go true w = shape_is s k t n true w
-    go false w = let z : ◌≡◌ {A = Shape} Malformed (Formed j) = sym (shape_is s k t n false w) ∙ e in differ cc
+    go false w = let z : ◌≡◌ {A = Option Kind} None (Some j) = sym (shape_is s k t n false w) ∙ e in differ cc
 
 -- only an order has an account
 pub no-account : (k : Kind) (t : List ℕ) → opens_order (terms_of k).subject ≡ false → account_of (form_of k) t ≡ Named

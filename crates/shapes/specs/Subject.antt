@@ -3,20 +3,19 @@
 --     KnownBic        a BIC that was found is well formed
 --     KnownKey        so are a payer's BIC and a TxId, in its padded field, that were found together
 -- Assumes nothing.
-use Rattle.std.specs.Prelude.{ℕ, ◌≡◌, true, List, length, Option, is_some}
+use Rattle.std.specs.Prelude.{ℕ, ◌≡◌, true, List, length, Option, is_some, Some}
 use Rattle.fields.specs.Text.{unpadded}
 use Rattle.codes.specs.Bic.{is_bic}
 use Rattle.codes.specs.Txid.{is_txid}
 use Rattle.ticket.specs.TicketLayout.{ticket_length, kind_byte, flag_byte}
 use Rattle.ticket.specs.Kind.{kinded}
 use Rattle.ticket.specs.declared.kinds.Kind.{Kind}
-use Rattle.ticket.specs.declared.kinds.Kinded.TheVariants.{As}
 use Rattle.rules.specs.Terms.{terms_of}
 use Rattle.rules.specs.declared.terms.Subject.{Subject}
 
 pub record TicketNaming (subject : Subject) (kind : Kind) (t : List ℕ) : Type 0 where
   pub whole : length t ≡ ticket_length
-  pub kinds : kinded (kind_byte t) (flag_byte t) ≡ As kind
+  pub kinds : kinded (kind_byte t) (flag_byte t) ≡ Some kind
   pub names : (terms_of kind).subject ≡ subject
 
 abbrev pub KnownBic : Option ℕ → List ℕ → Type 0

@@ -7,7 +7,7 @@ pub mod amounts;
 mod blanks;
 mod known;
 
-ghost use Rattle.std.specs.Prelude.{◌≡◌, cond, length};
+ghost use Rattle.std.specs.Prelude.{◌≡◌, cond, length, Some, None};
 ghost use Rattle.ticket.specs.TicketLayout.{ticket_length, sender_of, payee_of, txid_field};
 ghost use Rattle.ticket.specs.Form.{form_of};
 ghost use Rattle.ticket.specs.Shape.{shape_of, account_of};
@@ -16,19 +16,19 @@ ghost use Rattle.shapes.specs.Subject.{TicketNaming, KnownBic, KnownKey};
 use rules::terms::Subject;
 use ticket::kinds::Kind;
 use ticket::layout;
-use ticket::shapes::{Account, Shape};
+use ticket::shapes::Account;
 
-fn shape(formed: bool, kind: Kind) -> Shape
-    ensures { result ≡ cond formed (Shape.Formed kind) Shape.Malformed }
+fn shape(formed: bool, kind: Kind) -> Option<Kind>
+    ensures { result ≡ cond formed (Some kind) None }
 {
     if formed {
-        return Shape::Formed(kind);
+        return Some(kind);
     }
-    Shape::Malformed
+    None
 }
 
 // 7. It lists nothing.
-pub fn nothing(t: &[u8], kind: Kind) -> Shape
+pub fn nothing(t: &[u8], kind: Kind) -> Option<Kind>
     requires { TicketNaming Subject.Nothing kind t.now }
     ensures { result ≡ shape_of t.now }
 {
@@ -37,7 +37,7 @@ pub fn nothing(t: &[u8], kind: Kind) -> Shape
 }
 
 // 7. It lists amount and sender.
-pub fn cover(t: &[u8], kind: Kind, sender: Option<usize>) -> Shape
+pub fn cover(t: &[u8], kind: Kind, sender: Option<usize>) -> Option<Kind>
     requires { TicketNaming Subject.Sender kind t.now × KnownBic sender (sender_of t.now) }
     ensures { result ≡ shape_of t.now }
 {
@@ -48,7 +48,7 @@ pub fn cover(t: &[u8], kind: Kind, sender: Option<usize>) -> Shape
 }
 
 // 7. It lists sender, payer and TxId, and a return its amount.
-pub fn about(t: &[u8], kind: Kind, sender: Option<usize>, order: Option<usize>) -> Shape
+pub fn about(t: &[u8], kind: Kind, sender: Option<usize>, order: Option<usize>) -> Option<Kind>
     requires { TicketNaming Subject.HeldOrder kind t.now × KnownBic sender (sender_of t.now)
         × KnownKey order (payee_of t.now) (txid_field t.now) }
     ensures { result ≡ shape_of t.now }
@@ -63,7 +63,7 @@ pub fn about(t: &[u8], kind: Kind, sender: Option<usize>, order: Option<usize>) 
 }
 
 // 7. An order lists every field.
-pub fn order(t: &[u8], sender: Option<usize>, order: Option<usize>, route: Option<usize>) -> Shape
+pub fn order(t: &[u8], sender: Option<usize>, order: Option<usize>, route: Option<usize>) -> Option<Kind>
     requires { TicketNaming Subject.NewOrder Kind.Order t.now × KnownBic sender (sender_of t.now)
         × KnownKey order (sender_of t.now) (txid_field t.now) × KnownBic route (payee_of t.now) }
     ensures { result ≡ shape_of t.now }

@@ -1,5 +1,5 @@
 -- What is seen of a ticket, check by check. Assumes nothing.
-use Rattle.std.specs.Prelude.{Option}
+use Rattle.std.specs.Prelude.{Option, None, Result, Some, ℕ}
 use mathlib.Core.Path.{◌≡◌, refl, sym, ◌∙◌, ap}
 use mathlib.Core.Bool.{Bool, true, false, cond}
 use mathlib.Core.List.{List}
@@ -13,10 +13,7 @@ use Rattle.ticket.specs.Form.{form_of}
 use Rattle.ticket.specs.Shape.{shape_of, account_of}
 use Rattle.ticket.specs.Amount.{stated_in}
 use Rattle.ticket.specs.TicketReading.{read_account, read_stated}
-use Rattle.ticket.specs.declared.Reading.{Reading}
 use Rattle.ticket.specs.declared.kinds.Kind.{Kind}
-use Rattle.ticket.specs.declared.kinds.Kinded.TheVariants.{Unknown}
-use Rattle.ticket.specs.declared.shapes.Shape.TheVariants.{Formed, Malformed}
 use Rattle.ticket.specs.declared.shapes.Account.TheVariants.{Named, Wrong}
 use Rattle.ticket.proofs.CheckLaws.{read-malformed, read-formed, read_named}
 use Rattle.ticket.proofs.Refusals.{unknown-refused}
@@ -31,10 +28,11 @@ use Rattle.sight.specs.Value.{value_sight}
 use Rattle.sight.specs.declared.Sight.{Sight}
 use Rattle.sight.specs.declared.Sight.TheVariants.{Read, Refused}
 use Rattle.shapes.proofs.Forms.{formed-kind, no-account}
+use Rattle.ticket.specs.declared.Fields.{Fields}
 
 module _ (clock : ℕ) (t : List ℕ) (sender order route : Option ℕ) where
   -- of what was read
-  abbrev sight-read : Reading → Sight
+  abbrev sight-read : Result Fields ℕ → Sight
   sight-read r = sight_as (read_entry clock r) sender order route
 
   -- with what its kind asks for, by what that names
@@ -42,19 +40,19 @@ module _ (clock : ℕ) (t : List ℕ) (sender order route : Option ℕ) where
   asked k s = value_sight clock t k (if (names_sender s) sender) (if (seeks_order s) order) (if (opens_order s) route)
 
   -- 7: an unknown kind or flag
-  pub sight-unknown : kinded (kind_byte t) (flag_byte t) ≡ Unknown → sight_of clock t sender order route ≡ Refused 7
+  pub sight-unknown : kinded (kind_byte t) (flag_byte t) ≡ None → sight_of clock t sender order route ≡ Refused 7
   sight-unknown e = ap sight-read (unknown-refused t e)
 
   -- 7
-  pub sight-malformed : shape_of t ≡ Malformed → sight_of clock t sender order route ≡ Refused 7
+  pub sight-malformed : shape_of t ≡ None → sight_of clock t sender order route ≡ Refused 7
   sight-malformed e = ap sight-read (read-malformed t e)
 
   -- 8
-  pub sight-wrong : (k : Kind) → shape_of t ≡ Formed k → account_of (form_of k) t ≡ Wrong → sight_of clock t sender order route ≡ Refused 8
+  pub sight-wrong : (k : Kind) → shape_of t ≡ Some k → account_of (form_of k) t ≡ Wrong → sight_of clock t sender order route ≡ Refused 8
   sight-wrong k e w = ap sight-read (read-formed t k e ∙ ap (read_account k t) w)
 
   -- 9 to 11, and what is seen where none applies
-  pub sight-named : (k : Kind) → shape_of t ≡ Formed k → account_of (form_of k) t ≡ Named
+  pub sight-named : (k : Kind) → shape_of t ≡ Some k → account_of (form_of k) t ≡ Named
       → sight_of clock t sender order route ≡ asked k (terms_of k).subject
   unfolding amounts_of
   sight-named k e n =
@@ -70,7 +68,7 @@ module _ (clock : ℕ) (t : List ℕ) (sender order route : Option ℕ) where
       go false a false b false c = simp (a, b, c)
 
   -- the same where no account is asked for
-  pub sight-formed : (s : Subject) (k : Kind) → TicketNaming s k t → opens_order s ≡ false → (j : Kind) → shape_of t ≡ Formed j
+  pub sight-formed : (s : Subject) (k : Kind) → TicketNaming s k t → opens_order s ≡ false → (j : Kind) → shape_of t ≡ Some j
       → sight_of clock t sender order route ≡ asked k s
   sight-formed s k n opens j e =
       sight-named k (formed-kind s k t n j e) (no-account k t (ap opens_order n.names ∙ opens))

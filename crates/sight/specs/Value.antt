@@ -1,17 +1,15 @@
 -- Refusals 9 to 11: amount and time, the same for every kind.
---     stated_by        9: the amount, or Zero
+--     stated_by        9: the amount, or None where it is below the least
 --     stated_amount    the amount that was found
 --     limit_by         10: Within, or Above
 --     value_refusal    the first of 9 to 11 that applies, 0 if none does
 --     value_sight      refused by that, or what is seen
 --     formed_sight     refused by 7 or 8, or by that, or what is seen
 -- Assumes nothing.
-use Rattle.std.specs.Prelude.{ℕ, cond, List, ltb, Option}
+use Rattle.std.specs.Prelude.{ℕ, cond, List, ltb, Option, None, Some}
 use Rattle.ticket.specs.TicketLayout.{amount_of, time_of}
 use Rattle.ticket.specs.TicketRefusal.{stated_refusal, amount_limit_refusal}
 use Rattle.ticket.specs.declared.kinds.Kind.{Kind}
-use Rattle.ticket.specs.declared.amounts.Stated.{Stated}
-use Rattle.ticket.specs.declared.amounts.Stated.TheVariants.{Amount, Zero}
 use Rattle.ticket.specs.declared.amounts.Limit.{Limit}
 use Rattle.ticket.specs.declared.amounts.Limit.TheVariants.{Within, Above}
 use Rattle.rules.specs.Refusal.{first_of, timing_of, timing_refusal}
@@ -24,12 +22,12 @@ use Rattle.sight.specs.declared.subjects.Formed.{Formed}
 use Rattle.sight.specs.declared.subjects.Formed.TheVariants as formed
 
 -- 9. Amount zero for kinds 1, 2, 3, 6: those whose least amount is 1
-abbrev pub stated_by : Amounts → List ℕ → Stated
-stated_by amounts t = cond (ltb (amount_of t) amounts.least) Zero (Amount (amount_of t))
+abbrev pub stated_by : Amounts → List ℕ → Option ℕ
+stated_by amounts t = cond (ltb (amount_of t) amounts.least) None (Some (amount_of t))
 
-abbrev stated_amount : Stated → ℕ
-stated_amount (Amount n) = n
-stated_amount Zero = 0
+abbrev stated_amount : Option ℕ → ℕ
+stated_amount (Some n) = n
+stated_amount None = 0
 
 -- 10. Amount above its kind's limit
 abbrev pub limit_by : Amounts → ℕ → Limit

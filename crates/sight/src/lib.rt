@@ -15,7 +15,7 @@ ghost use Rattle.index.specs.Words.{bic_words, key_words};
 ghost use Rattle.sight.specs.Sight.{sight_of, sight_refusal};
 
 use subjects::Formed;
-use ticket::kinds::{Kind, Kinded};
+use ticket::kinds::Kind;
 use ticket::{kinds, layout};
 
 // A ticket that 7 to 11 do not refuse. What its kind does not ask for is nothing.
@@ -60,7 +60,7 @@ pub fn see(
         (first_row 7 count (key_words (payer_of t.now) (txid_field t.now)) keys.now)
         (first_row 2 route_rows (bic_words (payee_of t.now)) routes.now) }
 {
-    let Kinded::As(kind) = kinds::kind_of(t[layout::KIND], t[layout::FLAG]) else {
+    let Some(kind) = kinds::kind_of(t[layout::KIND], t[layout::FLAG]) else {
         return Sight::Refused(7);
     };
     let formed = subjects::formed_of(

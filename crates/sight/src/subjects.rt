@@ -2,7 +2,7 @@
 // anything. A class promises `sight_of` whatever that is, and at any clock; so `formed_of` hands its own findings in, and searches only
 // for what the class asks for. A refusal is the same whether searches come before the tests of form or behind them, since searching
 // changes nothing.
-ghost use Rattle.std.specs.Prelude.{◌≡◌, ℕ, length, Option};
+ghost use Rattle.std.specs.Prelude.{◌≡◌, ℕ, length, Option, Some};
 ghost use Rattle.fields.specs.Rows.{first_row};
 ghost use Rattle.ticket.specs.TicketLayout.{ticket_length, kind_byte, flag_byte, sender_of, payee_of, payer_of, txid_field};
 ghost use Rattle.ticket.specs.Kind.{kinded};
@@ -14,9 +14,9 @@ ghost use Rattle.sight.specs.Value.{formed_sight};
 ghost use Rattle.shapes.specs.Subject.{TicketNaming, KnownBic, KnownKey};
 
 use rules::terms::Subject;
-use ticket::kinds::{Kind, Kinded};
+use ticket::kinds::Kind;
 use ticket::layout;
-use ticket::shapes::{Account, Shape};
+use ticket::shapes::Account;
 
 // Sender, order and route of a ticket that 7 and 8 do not refuse.
 #[derive(Clone, Copy)]
@@ -50,7 +50,7 @@ fn nothing(t: &[u8], kind: Kind) -> Formed
     ensures { (clock : ℕ) (sender order route : Option ℕ)
         → formed_sight clock t.now kind result ≡ sight_of clock t.now sender order route }
 {
-    let Shape::Formed(_) = shapes::nothing(t, kind) else {
+    let Some(_) = shapes::nothing(t, kind) else {
         return Formed::Refused(7);
     };
     Formed::With(None, None, None)
@@ -62,7 +62,7 @@ fn cover(t: &[u8], kind: Kind, sender: Option<usize>) -> Formed
     ensures { (clock : ℕ) (order route : Option ℕ)
         → formed_sight clock t.now kind result ≡ sight_of clock t.now sender order route }
 {
-    let Shape::Formed(_) = shapes::cover(t, kind, sender) else {
+    let Some(_) = shapes::cover(t, kind, sender) else {
         return Formed::Refused(7);
     };
     Formed::With(sender, None, None)
@@ -75,7 +75,7 @@ fn about(t: &[u8], kind: Kind, sender: Option<usize>, order: Option<usize>) -> F
     ensures { (clock : ℕ) (route : Option ℕ)
         → formed_sight clock t.now kind result ≡ sight_of clock t.now sender order route }
 {
-    let Shape::Formed(_) = shapes::about(t, kind, sender, order) else {
+    let Some(_) = shapes::about(t, kind, sender, order) else {
         return Formed::Refused(7);
     };
     Formed::With(sender, order, None)
@@ -88,7 +88,7 @@ fn order(t: &[u8], sender: Option<usize>, order: Option<usize>, route: Option<us
     ensures { (clock : ℕ)
         → formed_sight clock t.now Kind.Order result ≡ sight_of clock t.now sender order route }
 {
-    let Shape::Formed(_) = shapes::order(t, sender, order, route) else {
+    let Some(_) = shapes::order(t, sender, order, route) else {
         return Formed::Refused(7);
     };
     let Account::Named = shapes::account(t) else {
@@ -114,7 +114,7 @@ pub fn formed_of(
     routes: &[u64],
     route_rows: usize,
 ) -> Formed
-    requires { (length t.now ≡ ticket_length) × (kinded (kind_byte t.now) (flag_byte t.now) ≡ Kinded.As kind)
+    requires { (length t.now ≡ ticket_length) × (kinded (kind_byte t.now) (flag_byte t.now) ≡ Some kind)
         × BicRows size bics.now bic_heads.now bic_links.now
         × KeyRows count keys.now key_heads.now key_links.now
         × BicRows route_rows routes.now route_heads.now route_links.now }

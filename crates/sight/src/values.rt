@@ -10,21 +10,21 @@ use super::{Seen, Sight};
 use rules::refusal::Timing;
 use shapes::amounts;
 use shapes::amounts::Amounts;
-use ticket::amounts::{Limit, Stated};
+use ticket::amounts::Limit;
 use ticket::kinds::Kind;
 use ticket::layout;
 
 // 9. Amount zero.
-fn stated(amounts: Amounts, t: &[u8]) -> Stated
+fn stated(amounts: Amounts, t: &[u8]) -> Option<u64>
     requires { length t.now ≡ ticket_length }
     ensures { result ≡ stated_by amounts t.now }
 {
     let n = fields::u64_at(t, layout::AMOUNT);
     let short = n < amounts.least;
     if short {
-        return Stated::Zero;
+        return None;
     }
-    Stated::Amount(n)
+    Some(n)
 }
 
 // 10. Amount above its kind's limit.
@@ -55,7 +55,7 @@ pub fn valued(clock: u32, t: &[u8], kind: Kind, sender: Option<usize>, order: Op
     ensures { result ≡ value_sight clock t.now kind sender order route }
 {
     let amounts = amounts::amounts_of(kind);
-    let Stated::Amount(amount) = stated(amounts, t) else {
+    let Some(amount) = stated(amounts, t) else {
         return Sight::Refused(9);
     };
     let Limit::Within = limit(amounts, amount) else {

@@ -1,4 +1,5 @@
 -- A kind and its bytes tell of each other. Assumes nothing.
+use Rattle.std.specs.Prelude.{Option, Some}
 use mathlib.Core.Path.{◌≡◌, refl, ◌∙◌, ap}
 use mathlib.Core.Bool.{Bool, true, false, ◌&&◌, cond}
 use mathlib.Core.List.{List, [], ◌∷◌}
@@ -23,8 +24,6 @@ use Rattle.ticket.specs.declared.kinds.Kind.TheVariants.{
   Confirm,
   Tick,
 }
-use Rattle.ticket.specs.declared.kinds.Kinded.{Kinded}
-use Rattle.ticket.specs.declared.kinds.Kinded.TheVariants.{As}
 
 -- only n lies between n and n
 pub no_other : (n c : ℕ) → (c ≡ n → ⊥) → (leb n c && leb c n) ≡ false
@@ -52,21 +51,21 @@ of-tells k kind flag e =
       high = leb-true flag (flag_high k) (and_right (leb (flag_low k) flag) (leb flag (flag_high k)) within);
     }
 
-among-tells : (ks : List Kind) (kind flag : ℕ) (k : Kind) → kind_among ks kind flag ≡ As k → is_of k kind flag ≡ true
+among-tells : (ks : List Kind) (kind flag : ℕ) (k : Kind) → kind_among ks kind flag ≡ Some k → is_of k kind flag ≡ true
 among-tells [] kind flag k e = let z : ◌≡◌ {A = ℕ} 0 1 = cc in absurd (omega arith)
 among-tells (j ∷ ks) kind flag k e = go (is_of j kind flag) refl (among-tells ks kind flag k) e
   where
-    go : (b : Bool) → is_of j kind flag ≡ b → (kind_among ks kind flag ≡ As k → is_of k kind flag ≡ true)
-        → ◌≡◌ {A = Kinded} (cond b (As j) (kind_among ks kind flag)) (As k) → is_of k kind flag ≡ true
+    go : (b : Bool) → is_of j kind flag ≡ b → (kind_among ks kind flag ≡ Some k → is_of k kind flag ≡ true)
+        → ◌≡◌ {A = Option Kind} (cond b (Some j) (kind_among ks kind flag)) (Some k) → is_of k kind flag ≡ true
     go true is on q = let same : j ≡ k = cc in rw same at is
     go false is on q = on q
 
 -- the bytes of a kind that was found
-pub kinded-tells : (kind flag : ℕ) (k : Kind) → kinded kind flag ≡ As k → KindBytes k kind flag
+pub kinded-tells : (kind flag : ℕ) (k : Kind) → kinded kind flag ≡ Some k → KindBytes k kind flag
 kinded-tells kind flag k e = of-tells k kind flag (among-tells all_kinds kind flag k e)
 
 -- the kind of a kind's bytes
-number-kinded : (flag : ℕ) (k : Kind) → (leb (flag_low k) flag && leb flag (flag_high k)) ≡ true → kinded (kind_number k) flag ≡ As k
+number-kinded : (flag : ℕ) (k : Kind) → (leb (flag_low k) flag && leb flag (flag_high k)) ≡ true → kinded (kind_number k) flag ≡ Some k
 number-kinded flag CoverIn e = simp e
 number-kinded flag CoverOut e = simp e
 number-kinded flag Order e = simp e
@@ -80,7 +79,7 @@ number-kinded flag Cut e = simp e
 number-kinded flag Confirm e = simp e
 number-kinded flag Tick e = simp e
 
-pub bytes-kinded : (kind flag : ℕ) (k : Kind) → KindBytes k kind flag → kinded kind flag ≡ As k
+pub bytes-kinded : (kind flag : ℕ) (k : Kind) → KindBytes k kind flag → kinded kind flag ≡ Some k
 bytes-kinded kind flag k b =
     ap (λ (n : ℕ). kinded n flag) b.number
     ∙ number-kinded flag k (simp (le-leb (flag_low k) flag b.low, le-leb flag (flag_high k) b.high))

@@ -1,4 +1,5 @@
 -- A well-formed ticket that was written reads back. Assumes nothing.
+use Rattle.std.specs.Prelude.{Ok, Some}
 use mathlib.Core.Path.{◌≡◌, refl, ◌∙◌, ap}
 use mathlib.Core.Bool.{Bool, true, false, not, cond}
 use mathlib.Core.List.{List}
@@ -21,7 +22,6 @@ use Rattle.ticket.specs.Shape.{bic_if_listed, txid_if_listed, blank_unless_liste
 use Rattle.ticket.specs.Amount.{stated_in, limit_of}
 use Rattle.ticket.specs.TicketReading.{reading, read_limit}
 use Rattle.ticket.specs.TicketWriting.{WrittenTicket, ticket_bytes, IfListed, WellFormedTicket}
-use Rattle.ticket.specs.declared.Reading.TheVariants.{Read}
 use Rattle.ticket.specs.declared.kinds.Kind.{Kind}
 use Rattle.ticket.specs.declared.kinds.Kind.TheVariants.{
   CoverIn,
@@ -37,9 +37,7 @@ use Rattle.ticket.specs.declared.kinds.Kind.TheVariants.{
   Confirm,
   Tick,
 }
-use Rattle.ticket.specs.declared.shapes.Shape.TheVariants.{Formed}
 use Rattle.ticket.specs.declared.shapes.Account.TheVariants.{Named, Wrong}
-use Rattle.ticket.specs.declared.amounts.Stated.TheVariants.{Amount}
 use Rattle.ticket.specs.declared.amounts.Limit.TheVariants.{Within}
 use Rattle.ticket.proofs.KindBytes.{bytes-kinded}
 use Rattle.ticket.proofs.CheckLaws.{read-stated}
@@ -140,7 +138,7 @@ module _ (k : Kind) (w : WrittenTicket) (f : WellFormedTicket k w) where
         ap (blank_unless_listed false) (last-field w sender-fits payee-fits txid-fits iban-fits),
       )
 
-  formed : shape_of (ticket_bytes w) ≡ Formed k
+  formed : shape_of (ticket_bytes w) ≡ Some k
   formed =
       simp (
         eq-eqb (length (ticket_bytes w)) layout.ticket_length whole,
@@ -148,7 +146,7 @@ module _ (k : Kind) (w : WrittenTicket) (f : WellFormedTicket k w) where
         fields-pass,
       )
 
-  stated : stated_in (form_of k) (ticket_bytes w) ≡ Amount w.amount
+  stated : stated_in (form_of k) (ticket_bytes w) ≡ Some w.amount
   stated = rw (written-amount w amount-fits) (simp (le-ltb w.amount (form_of k).least f.least))
 
   named : account_of (form_of k) (ticket_bytes w) ≡ Named
@@ -160,8 +158,8 @@ module _ (k : Kind) (w : WrittenTicket) (f : WellFormedTicket k w) where
   within : limit_of (form_of k) w.amount ≡ Within
   within = simp (le-ltb (form_of k).most w.amount f.most)
 
-  pub written-reads : reading (ticket_bytes w) ≡ Read (record { kind = k; time = w.time; amount = w.amount })
+  pub written-reads : reading (ticket_bytes w) ≡ Ok (record { kind = k; time = w.time; amount = w.amount })
   written-reads =
       read-stated (ticket_bytes w) k formed w.amount named stated
       ∙ ap (read_limit k (ticket_bytes w) w.amount) within
-      ∙ ap (λ (n : ℕ). Read (record { kind = k; time = n; amount = w.amount })) (written-time w f.time)
+      ∙ ap (λ (n : ℕ). Ok (record { kind = k; time = n; amount = w.amount })) (written-time w f.time)

@@ -5,11 +5,11 @@
 --     all_kinds             all kinds
 --     is_of                 whether a kind byte and a flag byte are those of a kind
 --     kind_among            the first of some kinds that they are of
---     kinded               the one of all kinds that they are of; Unknown where kind or flag is wrong
+--     kinded               the one of all kinds that they are of; None where kind or flag is wrong
 --     flagged              a kind whose flag lies between two numbers
 --     yes_or_no              kind 4: flag 1 yes, 2 no
 -- Assumes nothing.
-use Rattle.std.specs.Prelude.{ℕ, Bool, ◌&&◌, cond, List, [], ◌∷◌, leb, eqb}
+use Rattle.std.specs.Prelude.{ℕ, Bool, ◌&&◌, cond, List, [], ◌∷◌, leb, eqb, None, Option, Some}
 use Rattle.ticket.specs.declared.kinds.Kind.{Kind}
 use Rattle.ticket.specs.declared.kinds.Kind.TheVariants.{
   CoverIn,
@@ -25,8 +25,6 @@ use Rattle.ticket.specs.declared.kinds.Kind.TheVariants.{
   Confirm,
   Tick,
 }
-use Rattle.ticket.specs.declared.kinds.Kinded.{Kinded}
-use Rattle.ticket.specs.declared.kinds.Kinded.TheVariants.{As, Unknown}
 
 pub record KindRow : Type 0 where
   pub number : ℕ
@@ -69,15 +67,15 @@ all_kinds = CoverIn ∷ CoverOut ∷ Order ∷ Yes ∷ No ∷ Recall ∷ Return 
 abbrev pub is_of : Kind → ℕ → ℕ → Bool
 is_of k kind flag = eqb kind (kind_number k) && (leb (flag_low k) flag && leb flag (flag_high k))
 
-abbrev pub kind_among : List Kind → ℕ → ℕ → Kinded
-kind_among [] kind flag = Unknown
-kind_among (k ∷ ks) kind flag = cond (is_of k kind flag) (As k) (kind_among ks kind flag)
+abbrev pub kind_among : List Kind → ℕ → ℕ → Option Kind
+kind_among [] kind flag = None
+kind_among (k ∷ ks) kind flag = cond (is_of k kind flag) (Some k) (kind_among ks kind flag)
 
-abbrev pub kinded : ℕ → ℕ → Kinded
+abbrev pub kinded : ℕ → ℕ → Option Kind
 kinded kind flag = kind_among all_kinds kind flag
 
-abbrev pub flagged : ℕ → ℕ → ℕ → Kind → Kinded
-flagged flag low high kind = cond (leb low flag && leb flag high) (As kind) Unknown
+abbrev pub flagged : ℕ → ℕ → ℕ → Kind → Option Kind
+flagged flag low high kind = cond (leb low flag && leb flag high) (Some kind) None
 
-abbrev pub yes_or_no : ℕ → Kinded
-yes_or_no flag = cond (leb 1 flag && leb flag 1) (As Yes) (flagged flag 2 2 No)
+abbrev pub yes_or_no : ℕ → Option Kind
+yes_or_no flag = cond (leb 1 flag && leb flag 1) (Some Yes) (flagged flag 2 2 No)

@@ -3,10 +3,10 @@
 --     txid_if_listed        a TxId padded with zero bytes where it is listed, else zero bytes
 --     blank_unless_listed   anything where it is listed, else zero bytes
 --     well_formed          each field as its kind's form has it
---     shape_of             refusal 7: the kind, or Malformed
+--     shape_of             refusal 7: the kind, or None where the ticket is malformed
 --     account_of           refusal 8: Named, or Wrong
 -- Assumes nothing.
-use Rattle.std.specs.Prelude.{ℕ, Bool, false, ◌&&◌, ◌||◌, not, cond, List, eqb, length}
+use Rattle.std.specs.Prelude.{ℕ, Bool, false, ◌&&◌, ◌||◌, not, cond, List, eqb, length, None, Option, Some}
 use Rattle.codes.specs.Bic.{is_bic}
 use Rattle.iban.specs.Iban.{is_iban}
 use Rattle.codes.specs.Txid.{is_txid}
@@ -15,12 +15,9 @@ use Rattle.ticket.specs.TicketLayout as layout
 use Rattle.ticket.specs.Kind.{kinded}
 use Rattle.ticket.specs.Form.{form_of}
 use Rattle.ticket.specs.declared.forms.Form.{Form}
-use Rattle.ticket.specs.declared.kinds.Kinded.{Kinded}
-use Rattle.ticket.specs.declared.kinds.Kinded.TheVariants.{As, Unknown}
-use Rattle.ticket.specs.declared.shapes.Shape.{Shape}
-use Rattle.ticket.specs.declared.shapes.Shape.TheVariants.{Formed, Malformed}
 use Rattle.ticket.specs.declared.shapes.Account.{Account}
 use Rattle.ticket.specs.declared.shapes.Account.TheVariants.{Named, Wrong}
+use Rattle.ticket.specs.declared.kinds.Kind.{Kind}
 
 abbrev pub bic_if_listed : Bool → List ℕ → Bool
 bic_if_listed listed s = cond listed (is_bic s) (blank s)
@@ -42,13 +39,13 @@ well_formed form t =
     && blank_unless_listed form.iban (layout.iban_field t)
     && blank_unless_listed false (layout.last_field t)
 
-abbrev pub shape_as : Kinded → List ℕ → Shape
-shape_as (As kind) t = cond (well_formed (form_of kind) t) (Formed kind) Malformed
-shape_as Unknown t = Malformed
+abbrev pub shape_as : Option Kind → List ℕ → Option Kind
+shape_as (Some kind) t = cond (well_formed (form_of kind) t) (Some kind) None
+shape_as None t = None
 
 -- 7. Ticket not 108 bytes, or kind, flag, BIC, TxId or unused field wrong (XT33). 02, slip 6: the payer's BIC too
-abbrev pub shape_of : List ℕ → Shape
-shape_of t = cond (eqb (length t) layout.ticket_length) (shape_as (kinded (layout.kind_byte t) (layout.flag_byte t)) t) Malformed
+abbrev pub shape_of : List ℕ → Option Kind
+shape_of t = cond (eqb (length t) layout.ticket_length) (shape_as (kinded (layout.kind_byte t) (layout.flag_byte t)) t) None
 
 -- 8. IBAN wrong (XD19)
 abbrev pub account_of : Form → List ℕ → Account

@@ -1,10 +1,4 @@
-// Answers of refusals 9 and 10: whether a ticket's amount is one that its kind takes.
-#[derive(Clone, Copy)]
-pub enum Stated {
-    Amount(u64),
-    Zero,
-}
-
+// Answer of refusal 10: whether an amount is within its kind's limit. Refusal 9 answers the amount, or nothing where it is zero.
 #[derive(Clone, Copy)]
 pub enum Limit {
     Within,

@@ -18,33 +18,27 @@ pub enum Kind {
     Tick,
 }
 
-#[derive(Clone, Copy)]
-pub enum Kinded {
-    As(Kind),
-    Unknown,
-}
-
-fn flagged(flag: u8, low: u8, high: u8, kind: Kind) -> Kinded
+fn flagged(flag: u8, low: u8, high: u8, kind: Kind) -> Option<Kind>
     ensures { result ≡ flagged flag low high kind }
 {
     if (low <= flag) & (flag <= high) {
-        Kinded::As(kind)
+        Some(kind)
     } else {
-        Kinded::Unknown
+        None
     }
 }
 
-fn answer(flag: u8) -> Kinded
+fn answer(flag: u8) -> Option<Kind>
     ensures { result ≡ yes_or_no flag }
 {
     match flag {
-        1 => Kinded::As(Kind::Yes),
-        2 => Kinded::As(Kind::No),
-        _ => Kinded::Unknown,
+        1 => Some(Kind::Yes),
+        2 => Some(Kind::No),
+        _ => None,
     }
 }
 
-pub fn kind_of(kind: u8, flag: u8) -> Kinded
+pub fn kind_of(kind: u8, flag: u8) -> Option<Kind>
     ensures { result ≡ kinded kind flag }
 {
     match kind {
@@ -59,6 +53,6 @@ pub fn kind_of(kind: u8, flag: u8) -> Kinded
         9 => flagged(flag, 0, 0, Kind::Cut),
         10 => flagged(flag, 0, 0, Kind::Confirm),
         11 => flagged(flag, 0, 0, Kind::Tick),
-        _ => Kinded::Unknown,
+        _ => None,
     }
 }

@@ -22,13 +22,6 @@ pub struct Fields {
     pub amount: u64,
 }
 
-// Of a ticket by itself: its fields, or a refusal from 7 to 10.
-#[derive(Clone, Copy)]
-pub enum Reading {
-    Read(Fields),
-    Refused(u8),
-}
-
 // The TxId without its padding, as the ticket's own bytes; the empty part where it is malformed or the ticket isn't 108 bytes.
 pub fn txid(t: &[u8]) -> &[u8]
     ensures { result.now ≡ txid_part t.now }

@@ -1,12 +1,4 @@
-// Answers of refusals 7 and 8: whether a ticket has the shape that its kind gives, and whether an order's IBAN is one.
-use super::kinds::Kind;
-
-#[derive(Clone, Copy)]
-pub enum Shape {
-    Formed(Kind),
-    Malformed,
-}
-
+// Answer of refusal 8: whether an order's IBAN is one. Refusal 7 answers the kind, or nothing where the ticket is malformed.
 #[derive(Clone, Copy)]
 pub enum Account {
     Named,

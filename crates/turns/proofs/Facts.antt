@@ -24,7 +24,6 @@ use Rattle.dayfile.specs.FileLimits.{most_participants}
 use Rattle.dayfile.specs.Roster.{participant_of}
 use Rattle.dayfile.specs.Route.{reached, followed_from}
 use Rattle.dayfile.specs.declared.roster.Roster.{Roster}
-use Rattle.dayfile.specs.declared.route.Followed.{Followed}
 use Rattle.rules.specs.Book.{most_orders, order_of, key_of, cover_of, is_bank}
 use Rattle.rules.specs.Cover.{most_total}
 use Rattle.rules.specs.Find.{sender_in, order_in, route_in, is_open}
@@ -45,6 +44,7 @@ use Rattle.verdict.specs.Judgement.{verdict_of}
 use Rattle.verdict.specs.Meaning.{about_of, facts_of}
 use Rattle.verdict.proofs.VerdictLaws.{opens-sent}
 use Rattle.turns.proofs.Turn.{Expired, after-sound, after-count, after-roster, after-key, after-all}
+use Rattle.dayfile.specs.declared.route.Way.{Way}
 
 -- the row of a payee BIC, where the kind asks for it
 abbrev pub sought_route : Book → Entry → List ℕ → Option ℕ
@@ -125,7 +125,7 @@ module _ {b : Book} {t : List ℕ} {e : Entry} {n₀ : ℕ} {text₀ : List ℕ}
     pub payee-in : (order_of c.orders i).payee < most_participants
     payee-in = any-payee c (after-sound w) i order-in
 
-    module _ {r : Roster} (roster : r ≡ b.roster) {way : Followed} (follows : way ≡ followed_from r route) where
+    module _ {r : Roster} (roster : r ≡ b.roster) {way : Option Way} (follows : way ≡ followed_from r route) where
       ours : r ≡ c.roster
       ours = roster ∙ sym (after-roster w)
 

@@ -5,6 +5,7 @@
 --     Expired         the expiries of such a ticket are done, all of them
 --     expiries-done   the loop over orders has ended: at the last order, or at one that is young
 --     turn            its step, for any verdict that is the one on what is sought
+use Rattle.std.specs.Prelude.{Err, Ok, Result, ℕ}
 use mathlib.Core.Path.{◌≡◌, sym, ◌∙◌, ap, subst}
 use mathlib.Core.Bool.{false}
 use mathlib.Core.List.{List, ◌++◌}
@@ -17,8 +18,6 @@ use lib.ListN.{length}
 use lib.Seq.{sets, length-sets}
 use Rattle.ticket.specs.TicketReading.{reading}
 use Rattle.ticket.specs.declared.Fields.{Fields}
-use Rattle.ticket.specs.declared.Reading.{Reading}
-use Rattle.ticket.specs.declared.Reading.TheVariants.{Read, Refused}
 use Rattle.report.specs.ReportLayout.{reports_bytes}
 use Rattle.rules.specs.Book.{order_of, key_of}
 use Rattle.rules.specs.Cover.{most_total}
@@ -61,9 +60,9 @@ refused-turn b t n refusal refused = from-reading (reading t) refusal
     from-timing f InTime e = absurd (eqb-false n 0 refused (sym e))
     from-timing f Early e = ap (untouched b) e
 
-    from-reading : (r : Reading) → (read_entry b.clock r).refusal ≡ n → step_read b t r ≡ untouched b n
-    from-reading (Read f) e = from-timing f (timing_of b.clock f.time) e
-    from-reading (Refused m) e = ap (untouched b) e
+    from-reading : (r : Result Fields ℕ) → (read_entry b.clock r).refusal ≡ n → step_read b t r ≡ untouched b n
+    from-reading (Ok f) e = from-timing f (timing_of b.clock f.time) e
+    from-reading (Err m) e = ap (untouched b) e
 
 -- a ticket that is not refused by 7 to 11, entered as e
 pub record TakenUp (b : Book) (t : List ℕ) (e : Entry) : Type 0 where

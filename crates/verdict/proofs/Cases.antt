@@ -6,7 +6,7 @@ use mathlib.Core.Path.{refl}
 use mathlib.Core.Bool.{true, false}
 use mathlib.Core.List.{List, [], ◌∷◌}
 use Rattle.fields.proofs.CaseRows.{Row, AllMet, all-met}
-use Rattle.dayfile.specs.declared.route.Followed.TheVariants as way
+use Rattle.dayfile.specs.Route.{way_to}
 use Rattle.rules.specs.Status.{settled_at}
 use Rattle.rules.specs.declared.Recall.TheVariants as mark
 use Rattle.rules.specs.declared.Status.{Status}
@@ -71,11 +71,11 @@ cases =
     ∷ refuses "a cover out of all that is available" (cover_out_verdict (Some 0) 1000 1000) 0
     ∷ refuses "one cent more" (cover_out_verdict (Some 0) 1000 1001) 20
     ∷ refuses "the same by no participant" (cover_out_verdict None 1000 1001) 12
-    ∷ answers "an order of all that is available" (order_verdict (Some 0) None (Some 3) (way.At 1 2) 255 1000 1000) (0 ∷ 1 ∷ 1 ∷ 0 ∷ 0 ∷ [])
-    ∷ refuses "one cent more" (order_verdict (Some 0) None (Some 3) (way.At 1 2) 255 1000 1001) 20
-    ∷ refuses "the 257th order" (order_verdict (Some 0) None (Some 3) (way.At 1 2) 256 1000 1001) 15
-    ∷ refuses "no route, and 256 held" (order_verdict (Some 0) None None way.Nowhere 256 1000 1001) 14
-    ∷ refuses "a TxId that is held, and no route" (order_verdict (Some 0) (Some 7) None way.Nowhere 256 1000 1001) 13
+    ∷ answers "an order of all that is available" (order_verdict (Some 0) None (Some 3) (way_to 1 2) 255 1000 1000) (0 ∷ 1 ∷ 1 ∷ 0 ∷ 0 ∷ [])
+    ∷ refuses "one cent more" (order_verdict (Some 0) None (Some 3) (way_to 1 2) 255 1000 1001) 20
+    ∷ refuses "the 257th order" (order_verdict (Some 0) None (Some 3) (way_to 1 2) 256 1000 1001) 15
+    ∷ refuses "no route, and 256 held" (order_verdict (Some 0) None None None 256 1000 1001) 14
+    ∷ refuses "a TxId that is held, and no route" (order_verdict (Some 0) (Some 7) None None 256 1000 1001) 13
     ∷ answers "a yes, the payee a bank" (yes_verdict (Some 1) (Some 7) (of status.Waiting) true 24) (0 ∷ 0 ∷ 2 ∷ 1 ∷ 2 ∷ [])
     ∷ answers "a yes, the payee a linked system" (yes_verdict (Some 1) (Some 7) (of status.Waiting) false 24) (0 ∷ 0 ∷ 2 ∷ 0 ∷ 0 ∷ [])
     ∷ remembers "its time is the settlement's" (yes_verdict (Some 1) (Some 7) (of status.Waiting) true 24) 24

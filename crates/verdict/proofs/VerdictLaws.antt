@@ -15,7 +15,6 @@ use Rattle.fields.specs.Search.{number_of}
 use Rattle.ticket.specs.declared.kinds.Kind.{Kind}
 use Rattle.ticket.specs.declared.kinds.Kind.TheVariants as kind
 use Rattle.dayfile.specs.Route.{reached}
-use Rattle.dayfile.specs.declared.route.Followed.{Followed}
 use Rattle.rules.specs.Checks.{
   sender_check,
   sending,
@@ -67,6 +66,7 @@ use Rattle.verdict.specs.Judgement.{
   verdict_for,
   verdict_of,
 }
+use Rattle.dayfile.specs.declared.route.Way.{Way}
 
 -- the step of each kind
 abbrev pub step_for : Kind → Facts → Verdict
@@ -174,7 +174,7 @@ names : (f : Option ℕ) (n : ℕ) → number_of f < n → named (held_check f) 
 names (Some i) n h = h
 names None n h = h
 
-receives : (f : Option ℕ) (w : Followed) (n : ℕ) → reached w < n → receiving (payee_check f w) < n
+receives : (f : Option ℕ) (w : Option Way) (n : ℕ) → reached w < n → receiving (payee_check f w) < n
 receives (Some row) w n h = h
 receives None w n h = omega arith
 

@@ -7,7 +7,6 @@
 use Rattle.std.specs.Prelude.{ℕ, Bool, Option}
 use Rattle.ticket.specs.declared.kinds.Kind.{Kind}
 use Rattle.ticket.specs.declared.kinds.Kind.TheVariants as kind
-use Rattle.dayfile.specs.declared.route.Followed.{Followed}
 use Rattle.rules.specs.Refusal.{first_of}
 use Rattle.rules.specs.Checks.{
   sender_check,
@@ -60,6 +59,7 @@ use Rattle.verdict.specs.OwnStep.{
   answered,
   cut_verdict,
 }
+use Rattle.dayfile.specs.declared.route.Way.{Way}
 
 -- Cover in: available rises
 abbrev pub cover_in_refusal : Option ℕ → ℕ → ℕ → ℕ
@@ -80,7 +80,7 @@ abbrev pub cover_out_verdict : Option ℕ → ℕ → ℕ → Verdict
 cover_out_verdict sender available n = unless (cover_out_refusal sender available n) (cover_moved (sending (sender_check sender)) Draw n)
 
 -- Order
-abbrev pub order_refusal : Option ℕ → Option ℕ → Option ℕ → Followed → ℕ → ℕ → ℕ → ℕ
+abbrev pub order_refusal : Option ℕ → Option ℕ → Option ℕ → Option Way → ℕ → ℕ → ℕ → ℕ
 order_refusal sender order route way count available n =
     first_of (sender_refusal (sender_check sender))
     (first_of (new_refusal (new_check order))
@@ -88,7 +88,7 @@ order_refusal sender order route way count available n =
     (first_of (space_refusal (space_check count))
     (funds_refusal (funds_check available n)))))
 
-abbrev pub order_verdict : Option ℕ → Option ℕ → Option ℕ → Followed → ℕ → ℕ → ℕ → Verdict
+abbrev pub order_verdict : Option ℕ → Option ℕ → Option ℕ → Option Way → ℕ → ℕ → ℕ → Verdict
 order_verdict sender order route way count available n =
     unless (order_refusal sender order route way count available n)
     (opened count (sending (sender_check sender)) (receiving (payee_check route way)) n)

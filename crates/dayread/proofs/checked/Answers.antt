@@ -1,5 +1,6 @@
 -- `dayread::checked` meets its contract: each check passed on the way, and the one that did not, is a step of `day_file`.
 -- Assumes nothing.
+use Rattle.std.specs.Prelude.{Some}
 use mathlib.Core.Path.{◌≡◌, sym, ◌∙◌, ap}
 use mathlib.Core.List.{List}
 use Prim.Native.Nat.{ℕ}
@@ -10,7 +11,6 @@ use Rattle.dayfile.specs.Check.{ranged, placed, enrolled, routed}
 use Rattle.dayfile.specs.Roster.{RowsWithin}
 use Rattle.dayfile.specs.DayFile.{day_file, refused_file, file_headed, file_ranged, file_placed, file_enrolled, file_routed}
 use Rattle.dayfile.specs.declared.header.Header.{Header}
-use Rattle.dayfile.specs.declared.header.Headed.TheVariants.{As}
 use Rattle.dayfile.specs.declared.check.Ranged.TheVariants.{Within}
 use Rattle.dayfile.specs.declared.check.Placed.TheVariants.{Right}
 use Rattle.dayfile.specs.declared.check.Enrolled.{Enrolled}
@@ -27,7 +27,7 @@ both : (f : List ℕ) (n : ℕ) (c : Outcome) → c ≡ refused_header n → ref
 both f n c e is = rw e (is, record { few = omega arith; participants = omega arith; short = omega arith; routes = omega arith })
 
 -- what was handed in and its header, of which 1 to 3 passed
-module _ (f : List ℕ) (h : Header) (head : As h ≡ headed f) (range : Within ≡ ranged h) (place : Right ≡ placed h (length f)) where
+module _ (f : List ℕ) (h : Header) (head : Some h ≡ headed f) (range : Within ≡ ranged h) (place : Right ≡ placed h (length f)) where
   -- where the rows lie
   within : RowsWithin h (length f)
   within =
@@ -51,42 +51,42 @@ returns-in_default c = both c.args.f.now _ _ c.refused.ensures (sym (ap (file_he
 pub returns-in_default-check_counts : goal.returns-in_default-check_counts
 returns-in_default-check_counts c =
     let f = c.args.f.now in
-    let h = c.in-As.h in
+    let h = c.in-Some.h in
     both _ _ _ c.refused-in_default-check_counts.ensures
     (sym
-    (file-headed f h (sym c.in-As.ensures)
+    (file-headed f h (sym c.in-Some.ensures)
     ∙ ap (file_ranged h f) (sym c.check_counts.ensures ∙ c.in_default-check_counts.is)))
 
 pub returns-in_default-check_places : goal.returns-in_default-check_places
 returns-in_default-check_places c =
     let f = c.args.f.now in
-    let h = c.in-As.h in
+    let h = c.in-Some.h in
     both _ _ _ c.refused-in_default-check_places.ensures
     (sym
-    (file-ranged f h (sym c.in-As.ensures) (sym c.in-Within.ensures)
+    (file-ranged f h (sym c.in-Some.ensures) (sym c.in-Within.ensures)
     ∙ ap (file_placed h f) (sym c.check_places.ensures ∙ c.in_default-check_places.is)))
 
 pub returns-in_default-check_participants : goal.returns-in_default-check_participants
 returns-in_default-check_participants c =
     let f = c.args.f.now in
-    let h = c.in-As.h in
+    let h = c.in-Some.h in
     both _ _ _ c.refused-in_default-check_participants.ensures
     (ap (file_enrolled h f) (sym c.in_default-check_participants.is)
-    ∙ from-participants f h c.in-As.ensures c.in-Within.ensures c.in-Right.ensures _ c.check_participants.ensures)
+    ∙ from-participants f h c.in-Some.ensures c.in-Within.ensures c.in-Right.ensures _ c.check_participants.ensures)
 
 pub returns-in_default-check_routes : goal.returns-in_default-check_routes
 returns-in_default-check_routes c =
     let f = c.args.f.now in
-    let h = c.in-As.h in
+    let h = c.in-Some.h in
     both _ _ _ c.refused-in_default-check_routes.ensures
     (ap (file_routed h f) (sym c.in_default-check_routes.is)
-    ∙ from-routes f h c.in-As.ensures c.in-Within.ensures c.in-Right.ensures c.in-Right-check_participants.ensures _ c.check_routes.ensures)
+    ∙ from-routes f h c.in-Some.ensures c.in-Within.ensures c.in-Right.ensures c.in-Right-check_participants.ensures _ c.check_routes.ensures)
 
 pub returns : goal.returns
 returns c =
     let f = c.args.f.now in
-    let h = c.in-As.h in (
-      from-routes f h c.in-As.ensures c.in-Within.ensures c.in-Right.ensures c.in-Right-check_participants.ensures _
+    let h = c.in-Some.h in (
+      from-routes f h c.in-Some.ensures c.in-Within.ensures c.in-Right.ensures c.in-Right-check_participants.ensures _
           c.in-Right-check_routes.ensures,
-      within f h c.in-As.ensures c.in-Within.ensures c.in-Right.ensures,
+      within f h c.in-Some.ensures c.in-Within.ensures c.in-Right.ensures,
     )

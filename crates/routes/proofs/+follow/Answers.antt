@@ -1,19 +1,19 @@
 -- `routes::follow` meets its contract: each way through it is one row of the definition. Assumes nothing.
+use Rattle.std.specs.Prelude.{Some, None, Option}
 use mathlib.Core.Path.{◌≡◌, sym, ◌∙◌, ap}
 use mathlib.Core.List.{List}
 use Prim.Native.Nat.{ℕ, ◌<◌}
 use native.Mathlib.Omega.{arith}
 use lib.ListN.{get_or}
 use Rattle.dayfile.specs.Route.{one_more, followed}
-use Rattle.dayfile.specs.declared.route.Followed.{Followed}
-use Rattle.dayfile.specs.declared.route.Followed.TheVariants.{At, Nowhere}
 use Rattle.dayfile.proofs.Following.{followed-out, followed-rows, follows_to, follows-row, follows-none}
 use Rattle.routes.specs.Ways.{target_by}
 use Rattle.routes.proofs.Leading.{by-participant, by_row}
 use Rattle.routes.proofs.+follow.Goals as goal
+use Rattle.dayfile.specs.declared.route.Way.{Way}
 
 -- the row goes on from an earlier one, and what was found from there
-on : (kinds numbers : List ℕ) (row : ℕ) (f : Followed)
+on : (kinds numbers : List ℕ) (row : ℕ) (f : Option Way)
     → row < 64
     → get_or kinds row 0 ≡ 1
     → get_or numbers row 0 < row
@@ -44,15 +44,15 @@ returns-then-row-k t c =
 pub overflow_add-result : goal.overflow_add-result
 overflow_add-result t c =
     let a = c.args in
-    let r = followed-rows (target_by a.kinds.now a.numbers.now) (get_or a.numbers.now a.row 0) c.in-At.p c.in-At.n (sym c.in-At.ensures) in
+    let r = followed-rows (target_by a.kinds.now a.numbers.now) (get_or a.numbers.now a.row 0) c.in-Some.w (sym c.in-Some.ensures) in
     omega arith
 
-pub returns-in-At : goal.returns-in-At
-returns-in-At t c =
+pub returns-in-Some : goal.returns-in-Some
+returns-in-Some t c =
     let a = c.args in
-    on a.kinds.now a.numbers.now a.row (At c.in-At.p c.in-At.n) c.if-row-ge64.false c.if-kinds-row-ne1.false c.if-row-k.false c.in-At.ensures
+    on a.kinds.now a.numbers.now a.row (Some c.in-Some.w) c.if-row-ge64.false c.if-kinds-row-ne1.false c.if-row-k.false c.in-Some.ensures
 
-pub returns-in-Nowhere : goal.returns-in-Nowhere
-returns-in-Nowhere t c =
+pub returns-in-None : goal.returns-in-None
+returns-in-None t c =
     let a = c.args in
-    on a.kinds.now a.numbers.now a.row Nowhere c.if-row-ge64.false c.if-kinds-row-ne1.false c.if-row-k.false c.in-Nowhere.ensures
+    on a.kinds.now a.numbers.now a.row None c.if-row-ge64.false c.if-kinds-row-ne1.false c.if-row-k.false c.in-None.ensures

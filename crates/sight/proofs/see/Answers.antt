@@ -9,7 +9,7 @@ use Rattle.sight.proofs.see.Goals as goal
 
 -- what is seen by what was formed
 abbrev seen : After-formed_of-formed → Formed → Sight
-seen c f = formed_sight c.args.clock c.args.t.now c.in-As.kind f
+seen c f = formed_sight c.args.clock c.args.t.now c.in-Some.kind f
 
 pub returns-in_default : goal.returns-in_default
 returns-in_default c =
@@ -19,7 +19,7 @@ returns-in_default c =
 pub formed_of-formed-requires : goal.formed_of-formed-requires
 formed_of-formed-requires c =
     let p = c.requires in
-    (p.0, sym c.kind_of.ensures ∙ c.in-As.is, p.1, p.2, p.3)
+    (p.0, sym c.kind_of.ensures ∙ c.in-Some.is, p.1, p.2, p.3)
 
 pub returns-in-With : goal.returns-in-With
 returns-in-With c =

@@ -4,13 +4,13 @@ use Rattle.moves.proofs.cut.cut_cover.Goals as goal
 
 pub returns-then-k-c : goal.returns-then-k-c
 returns-then-k-c c =
-    rw (c.in-Cover.is, lt-ltb _ _ c.if-k-c.true)
+    rw (c.in-Some.is, lt-ltb _ _ c.if-k-c.true)
     c.with_held.ensures
 
 pub returns-then-c-k : goal.returns-then-c-k
 returns-then-c-k c =
     rw (
-      c.in-Cover.is,
+      c.in-Some.is,
       le-ltb _ _ c.if-k-c.false,
       lt-ltb _ _ c.if-c-k.true,
     ) c.with_debit.ensures
@@ -18,7 +18,7 @@ returns-then-c-k c =
 pub returns : goal.returns
 returns c =
     rw (
-      c.in-Cover.is,
+      c.in-Some.is,
       le-ltb _ _ c.if-k-c.false,
       le-ltb _ _ c.if-c-k.false,
     )

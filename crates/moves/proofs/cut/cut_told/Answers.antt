@@ -4,12 +4,12 @@ use Rattle.moves.proofs.cut.cut_told.Goals as goal
 
 pub returns-then-k-c : goal.returns-then-k-c
 returns-then-k-c c =
-    rw (c.in-Cover.is, lt-ltb _ _ c.if-k-c.true, c.tell_cut.ensures)
+    rw (c.in-Some.is, lt-ltb _ _ c.if-k-c.true, c.tell_cut.ensures)
 
 pub returns-then-c-k : goal.returns-then-c-k
 returns-then-c-k c =
     rw (
-      c.in-Cover.is,
+      c.in-Some.is,
       le-ltb _ _ c.if-k-c.false,
       lt-ltb _ _ c.if-c-k.true,
       c.tell_cut-then-c-k.ensures,
@@ -18,7 +18,7 @@ returns-then-c-k c =
 pub returns : goal.returns
 returns c =
     rw (
-      c.in-Cover.is,
+      c.in-Some.is,
       le-ltb _ _ c.if-k-c.false,
       le-ltb _ _ c.if-c-k.false,
     )

@@ -13,4 +13,4 @@ pub returns : goal.returns
 returns c clock route =
     let a = c.args in
     sym (sight-formed clock a.t.now a.sender a.order route HeldOrder a.kind c.requires.0 refl _
-    (sym c.about.ensures ∙ c.in-Formed.is))
+    (sym c.about.ensures ∙ c.in-Some.is))

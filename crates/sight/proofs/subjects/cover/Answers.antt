@@ -13,4 +13,4 @@ pub returns : goal.returns
 returns c clock order route =
     let a = c.args in
     sym (sight-formed clock a.t.now a.sender order route Sender a.kind c.requires.0 refl _
-    (sym c.cover.ensures ∙ c.in-Formed.is))
+    (sym c.cover.ensures ∙ c.in-Some.is))

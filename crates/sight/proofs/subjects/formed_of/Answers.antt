@@ -1,6 +1,6 @@
 -- `sight::subjects::formed_of` meets its contract: each class finds what the ticket shows, and what was found is well formed.
 -- Assumes nothing.
-use Rattle.std.specs.Prelude.{Option}
+use Rattle.std.specs.Prelude.{Option, Some}
 use mathlib.Core.Path.{◌≡◌, refl, sym, ◌∙◌, ap}
 use mathlib.Core.List.{List}
 use Prim.Native.Nat.{ℕ}
@@ -11,7 +11,6 @@ use Rattle.fields.specs.Rows.{first_row}
 use Rattle.ticket.specs.TicketLayout.{ticket_length, sender_of, payee_of, payer_of, txid_field}
 use Rattle.ticket.specs.declared.kinds.Kind.{Kind}
 use Rattle.ticket.specs.declared.kinds.Kind.TheVariants.{Order}
-use Rattle.ticket.specs.declared.kinds.Kinded.TheVariants.{As}
 use Rattle.rules.specs.declared.terms.Subject.{Subject}
 use Rattle.rules.specs.declared.terms.Subject.TheVariants.{Sender, NewOrder, HeldOrder}
 use Rattle.shapes.specs.Subject.{TicketNaming}
@@ -56,7 +55,7 @@ module _ (c : After-subject_of-subject) where
   is-order e = only-order kind (naming NewOrder e).names
 
   naming-order : c.subject_of-subject.result ≡ NewOrder → TicketNaming NewOrder Order t
-  naming-order e = record { whole = whole; kinds = (naming NewOrder e).kinds ∙ ap As (is-order e); names = refl }
+  naming-order e = record { whole = whole; kinds = (naming NewOrder e).kinds ∙ ap Some (is-order e); names = refl }
 
   -- the order, by the payer that the kind names
   by-payer : {payer : List ℕ} {f : Option ℕ} → payer_of t ≡ payer

@@ -13,4 +13,4 @@ pub returns : goal.returns
 returns c clock sender order route =
     let a = c.args in
     sym (sight-formed clock a.t.now sender order route Nothing a.kind c.requires refl _
-    (sym c.nothing.ensures ∙ c.in-Formed.is))
+    (sym c.nothing.ensures ∙ c.in-Some.is))

@@ -10,7 +10,7 @@ returns-in_default-limit c =
     simp (
       c.in_default-limit.is,
       ← c.limit.ensures,
-      c.in-Amount.is,
+      c.in-Some.is,
       ← c.stated.ensures,
       ← c.amounts_of-amounts.ensures,
     )
@@ -23,7 +23,7 @@ returns-in_default-timing c =
       ← c.u32_at-time.ensures,
       c.in-Within.is,
       ← c.limit.ensures,
-      c.in-Amount.is,
+      c.in-Some.is,
       ← c.stated.ensures,
       ← c.amounts_of-amounts.ensures,
     )
@@ -36,7 +36,7 @@ returns c =
       ← c.u32_at-time.ensures,
       c.in-Within.is,
       ← c.limit.ensures,
-      c.in-Amount.is,
+      c.in-Some.is,
       ← c.stated.ensures,
       ← c.amounts_of-amounts.ensures,
     )
