@@ -1,3 +1,5 @@
+pub mod RowsInUse
+pub mod AlongChain
 pub mod RowChains
 pub mod Coded
 pub mod Comparing

@@ -1,3 +1,4 @@
 pub mod RowChains
 pub mod LentRows
 pub mod Words
+pub mod Table

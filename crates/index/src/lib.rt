@@ -9,6 +9,7 @@
 
 pub mod chains;
 pub mod row;
+mod table;
 pub mod words;
 
 ghost use Rattle.std.specs.Prelude.{◌≡◌, ℕ, ◌+◌, ◌*◌, ◌<◌, ◌≤◌, length, slice_index, slice_set};
@@ -22,6 +23,7 @@ ghost use Rattle.index.specs.Words.{bic_words, key_words};
 
 use dayfile::roster::{Participant, Route};
 use rules::Order;
+pub use table::Index;
 
 pub fn bics_of(participants: [Participant; 32], size: usize) -> [u64; 64]
     requires { (size ≤ 32) × ((p : ℕ) → p < size → length (participant_in participants p).bic ≡ 11) }
