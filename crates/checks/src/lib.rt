@@ -74,10 +74,7 @@ pub fn space_check(count: usize) -> Space
     ensures { result ≡ space_check count }
 {
     let full = MOST_ORDERS <= count;
-    if full {
-        return Space::Full;
-    }
-    Space::Left
+    if full { Space::Full } else { Space::Left }
 }
 
 // 16. Kinds 4 to 8: payer and TxId not held.
@@ -95,19 +92,17 @@ pub fn party_check(sender: usize, answers: usize) -> Party
     ensures { result ≡ party_check sender answers }
 {
     let right = sender == answers;
-    if right {
-        return Party::Right;
-    }
-    Party::Wrong
+    if right { Party::Right } else { Party::Wrong }
 }
 
 fn standing(met: bool) -> Standing
     ensures { result ≡ standing met }
 {
     if met {
-        return Standing::AsNeeded;
+        Standing::AsNeeded
+    } else {
+        Standing::NotAsNeeded
     }
-    Standing::NotAsNeeded
 }
 
 // 18. Kinds 4 to 7: status or mark not as the step needs. Yes and no to Waiting.
@@ -131,25 +126,16 @@ pub fn asked_check(s: Status) -> Standing
     standing(status::is_asked(s))
 }
 
-// The seconds from one time to another, 0 where that is no later.
-fn seconds_since(earlier: u32, later: u32) -> u32
-    ensures { result ≡ later - earlier }
-{
-    if later < earlier {
-        return 0;
-    }
-    later - earlier
-}
-
 // 26. Recall: 864,000 seconds or more after the settlement.
 pub fn recall_check(clock: u32, s: Status) -> Recalling
     ensures { result ≡ recall_check clock s }
 {
-    let late = RECALL_LIMIT <= seconds_since(status::settled_at(s), clock);
+    let late = RECALL_LIMIT <= clock.saturating_sub(status::settled_at(s));
     if late {
-        return Recalling::TooLate;
+        Recalling::TooLate
+    } else {
+        Recalling::InTime
     }
-    Recalling::InTime
 }
 
 // 19. Return: amount above the order's.
@@ -158,9 +144,10 @@ pub fn sum_check(n: u64, amount: u64) -> Sum
 {
     let above = amount < n;
     if above {
-        return Sum::AboveOrder;
+        Sum::AboveOrder
+    } else {
+        Sum::UpToOrder
     }
-    Sum::UpToOrder
 }
 
 // 20. Kinds 2, 3, 6: available of payer or drawer (for 6 the payee) below the amount.
@@ -169,9 +156,10 @@ pub fn funds_check(available: u64, n: u64) -> Funds
 {
     let short = available < n;
     if short {
-        return Funds::TooLittle;
+        Funds::TooLittle
+    } else {
+        Funds::Enough
     }
-    Funds::Enough
 }
 
 // 21. Cut with held or open debit anywhere.
@@ -179,9 +167,10 @@ pub fn cut_check(unconfirmed: bool) -> Cutting
     ensures { result ≡ cut_check unconfirmed }
 {
     if unconfirmed {
-        return Cutting::Unconfirmed;
+        Cutting::Unconfirmed
+    } else {
+        Cutting::AllConfirmed
     }
-    Cutting::AllConfirmed
 }
 
 // 21. Confirm with neither, or an amount its rule excludes.
@@ -193,29 +182,21 @@ pub fn confirm_check(held: u64, debit: u64, n: u64) -> Confirming
     let all_held = n == held;
     if nothing_held {
         if within_debit {
-            return Confirming::By(Move::Debit);
+            Confirming::By(Move::Debit)
+        } else {
+            Confirming::Excluded
         }
-        return Confirming::Excluded;
+    } else if all_held {
+        Confirming::By(Move::Credit)
+    } else {
+        Confirming::Excluded
     }
-    if all_held {
-        return Confirming::By(Move::Credit);
-    }
-    Confirming::Excluded
 }
 
 fn brings(how: Move) -> bool
     ensures { result ≡ brings how }
 {
-    match how {
-        Move::Stay => false,
-        Move::Give => true,
-        Move::Draw => false,
-        Move::Reserve => false,
-        Move::Release => false,
-        Move::Spend => false,
-        Move::Credit => false,
-        Move::Debit => true,
-    }
+    matches!(how, Move::Give | Move::Debit)
 }
 
 // 22. Cover in or confirmed debit taking available + reserved + held of all above 10^18.
@@ -224,8 +205,5 @@ pub fn limit_check(how: Move, total: u64, n: u64) -> Limit
     ensures { result ≡ limit_check how total n }
 {
     let above = brings(how) & (MOST_TOTAL - total < n);
-    if above {
-        return Limit::Above;
-    }
-    Limit::Within
+    if above { Limit::Above } else { Limit::Within }
 }
