@@ -4,6 +4,7 @@
 
 ghost use Rattle.std.specs.Prelude.{◌≡◌, cond};
 ghost use Rattle.verdict.specs.OwnStep.{
+  mover,
   notice,
   no_notice,
   refused_verdict,
@@ -17,7 +18,6 @@ ghost use Rattle.verdict.specs.OwnStep.{
   declined,
   returned,
   answer_told,
-  mark_told,
   answer_also,
   answer_amount,
   answered,
@@ -29,25 +29,38 @@ use rules::decision::Move;
 use rules::verdict::{About, Does, Mover, Notice, Verdict};
 use rules::{Recall, Status};
 
+fn mover(who: usize, how: Move) -> Mover
+    ensures { result ≡ mover who how }
+{
+    Mover { who, how }
+}
+
+fn notice(to: usize, code: u8) -> Notice
+    ensures { result ≡ notice to code }
+{
+    Notice { to, code }
+}
+
+fn no_notice() -> Notice
+    ensures { result ≡ no_notice }
+{
+    notice(0, 0)
+}
+
 // All but the refusal is nothing.
 pub fn refused(n: u8) -> Verdict
     ensures { result ≡ refused_verdict n }
 {
+    let nobody = mover(0, Move::Stay);
     Verdict {
         refusal: n,
         does: Does::Nothing,
         number: 0,
-        first: Mover {
-            who: 0,
-            how: Move::Stay,
-        },
-        second: Mover {
-            who: 0,
-            how: Move::Stay,
-        },
+        first: nobody,
+        second: nobody,
         amount: 0,
-        told: Notice { to: 0, code: 0 },
-        also: Notice { to: 0, code: 0 },
+        told: no_notice(),
+        also: no_notice(),
     }
 }
 
@@ -62,17 +75,9 @@ pub fn cover_moved(who: usize, how: Move, n: u64) -> Verdict
     ensures { result ≡ cover_moved who how n }
 {
     Verdict {
-        refusal: 0,
-        does: Does::Nothing,
-        number: 0,
-        first: Mover { who: who, how: how },
-        second: Mover {
-            who: 0,
-            how: Move::Stay,
-        },
+        first: mover(who, how),
         amount: n,
-        told: Notice { to: 0, code: 0 },
-        also: Notice { to: 0, code: 0 },
+        ..nothing()
     }
 }
 
@@ -81,20 +86,12 @@ pub fn opened(i: usize, payer: usize, payee: usize, n: u64) -> Verdict
     ensures { result ≡ opened i payer payee n }
 {
     Verdict {
-        refusal: 0,
         does: Does::Opens,
         number: i,
-        first: Mover {
-            who: payer,
-            how: Move::Reserve,
-        },
-        second: Mover {
-            who: 0,
-            how: Move::Stay,
-        },
+        first: mover(payer, Move::Reserve),
         amount: n,
-        told: Notice { to: payee, code: 1 },
-        also: Notice { to: 0, code: 0 },
+        told: notice(payee, 1),
+        ..nothing()
     }
 }
 
@@ -102,12 +99,10 @@ fn payee_told(a: About, bank: bool) -> Notice
     ensures { result ≡ cond bank (notice a.payee 2) no_notice }
 {
     if bank {
-        return Notice {
-            to: a.payee,
-            code: 2,
-        };
+        notice(a.payee, 2)
+    } else {
+        no_notice()
     }
-    Notice { to: 0, code: 0 }
 }
 
 // Yes to Waiting: payer's reserved falls, payee's available rises; Settled, mark none; report 2 to payer, then to payee if a bank. The
@@ -116,23 +111,14 @@ pub fn settled(i: usize, a: About, bank: bool, clock: u32) -> Verdict
     ensures { result ≡ settled i a bank clock }
 {
     Verdict {
-        refusal: 0,
         does: Does::Becomes(Status::Settled(Recall::None, clock)),
         number: i,
-        first: Mover {
-            who: a.payer,
-            how: Move::Spend,
-        },
-        second: Mover {
-            who: a.payee,
-            how: Move::Give,
-        },
+        first: mover(a.payer, Move::Spend),
+        second: mover(a.payee, Move::Give),
         amount: a.amount,
-        told: Notice {
-            to: a.payer,
-            code: 2,
-        },
+        told: notice(a.payer, 2),
         also: payee_told(a, bank),
+        ..nothing()
     }
 }
 
@@ -141,23 +127,12 @@ pub fn turned_down(i: usize, a: About) -> Verdict
     ensures { result ≡ turned_down i a }
 {
     Verdict {
-        refusal: 0,
         does: Does::Becomes(Status::Refused),
         number: i,
-        first: Mover {
-            who: a.payer,
-            how: Move::Release,
-        },
-        second: Mover {
-            who: 0,
-            how: Move::Stay,
-        },
+        first: mover(a.payer, Move::Release),
         amount: a.amount,
-        told: Notice {
-            to: a.payer,
-            code: 3,
-        },
-        also: Notice { to: 0, code: 0 },
+        told: notice(a.payer, 3),
+        ..nothing()
     }
 }
 
@@ -167,20 +142,11 @@ fn marked(mark: Recall, at: u32, i: usize, n: u64, told: Notice) -> Verdict
     ensures { result ≡ marked mark at i n told }
 {
     Verdict {
-        refusal: 0,
         does: Does::Becomes(Status::Settled(mark, at)),
         number: i,
-        first: Mover {
-            who: 0,
-            how: Move::Stay,
-        },
-        second: Mover {
-            who: 0,
-            how: Move::Stay,
-        },
         amount: n,
         told,
-        also: Notice { to: 0, code: 0 },
+        ..nothing()
     }
 }
 
@@ -188,55 +154,31 @@ fn marked(mark: Recall, at: u32, i: usize, n: u64, told: Notice) -> Verdict
 pub fn recalled(i: usize, a: About) -> Verdict
     ensures { result ≡ recalled i a }
 {
-    let told = Notice {
-        to: a.payee,
-        code: 5,
-    };
-    let status = a.status;
-    marked(Recall::Asked, status::settled_at(status), i, a.amount, told)
+    let at = status::settled_at(a.status);
+    marked(Recall::Asked, at, i, a.amount, notice(a.payee, 5))
 }
 
 // Decline of Settled, asked: declined; report 7 to payer.
 pub fn declined(i: usize, a: About) -> Verdict
     ensures { result ≡ declined i a }
 {
-    let told = Notice {
-        to: a.payer,
-        code: 7,
-    };
-    let status = a.status;
-    marked(
-        Recall::Declined,
-        status::settled_at(status),
-        i,
-        a.amount,
-        told,
-    )
+    let at = status::settled_at(a.status);
+    marked(Recall::Declined, at, i, a.amount, notice(a.payer, 7))
 }
 
 // Return: payee's available falls, payer's rises; Returned; report 6 to payer. All by the ticket's amount, n.
 pub fn returned(i: usize, a: About, n: u64) -> Verdict
     ensures { result ≡ returned i a n }
 {
-    let status = a.status;
+    let at = status::settled_at(a.status);
     Verdict {
-        refusal: 0,
-        does: Does::Becomes(Status::Returned(status::settled_at(status), n)),
+        does: Does::Becomes(Status::Returned(at, n)),
         number: i,
-        first: Mover {
-            who: a.payee,
-            how: Move::Draw,
-        },
-        second: Mover {
-            who: a.payer,
-            how: Move::Give,
-        },
+        first: mover(a.payee, Move::Draw),
+        second: mover(a.payer, Move::Give),
         amount: n,
-        told: Notice {
-            to: a.payer,
-            code: 6,
-        },
-        also: Notice { to: 0, code: 0 },
+        told: notice(a.payer, 6),
+        ..nothing()
     }
 }
 
@@ -245,14 +187,9 @@ fn waiting_told(a: About, bank: bool) -> Notice
     ensures { result ≡ cond bank (notice a.payer 9) (notice a.payee 8) }
 {
     if bank {
-        return Notice {
-            to: a.payer,
-            code: 9,
-        };
-    }
-    Notice {
-        to: a.payee,
-        code: 8,
+        notice(a.payer, 9)
+    } else {
+        notice(a.payee, 8)
     }
 }
 
@@ -261,51 +198,21 @@ fn answer_told(a: About, bank: bool, s: Status) -> Notice
 {
     match s {
         Status::Waiting => waiting_told(a, bank),
-        Status::Refused => Notice {
-            to: a.payer,
-            code: 3,
-        },
-        Status::Expired => Notice {
-            to: a.payer,
-            code: 4,
-        },
-        Status::Returned(_, _) => Notice {
-            to: a.payer,
-            code: 6,
-        },
-        Status::Settled(_, _) => Notice {
-            to: a.payer,
-            code: 2,
-        },
+        Status::Refused => notice(a.payer, 3),
+        Status::Expired => notice(a.payer, 4),
+        Status::Returned(_, _) => notice(a.payer, 6),
+        Status::Settled(_, _) => notice(a.payer, 2),
     }
 }
 
-// 8 to payee if asked, or 7 to payer if declined.
-fn mark_told(a: About, mark: Recall) -> Notice
-    ensures { result ≡ mark_told a mark }
-{
-    match mark {
-        Recall::None => Notice { to: 0, code: 0 },
-        Recall::Asked => Notice {
-            to: a.payee,
-            code: 8,
-        },
-        Recall::Declined => Notice {
-            to: a.payer,
-            code: 7,
-        },
-    }
-}
-
+// Where it is settled, 8 to payee if asked, or 7 to payer if declined.
 fn answer_also(a: About, s: Status) -> Notice
     ensures { result ≡ answer_also a s }
 {
     match s {
-        Status::Waiting => Notice { to: 0, code: 0 },
-        Status::Refused => Notice { to: 0, code: 0 },
-        Status::Expired => Notice { to: 0, code: 0 },
-        Status::Returned(_, _) => Notice { to: 0, code: 0 },
-        Status::Settled(mark, _) => mark_told(a, mark),
+        Status::Settled(Recall::Asked, _) => notice(a.payee, 8),
+        Status::Settled(Recall::Declined, _) => notice(a.payer, 7),
+        _ => no_notice(),
     }
 }
 
@@ -314,11 +221,8 @@ fn answer_amount(a: About, s: Status) -> u64
     ensures { result ≡ answer_amount a s }
 {
     match s {
-        Status::Waiting => a.amount,
-        Status::Refused => a.amount,
-        Status::Expired => a.amount,
         Status::Returned(_, n) => n,
-        Status::Settled(_, _) => a.amount,
+        _ => a.amount,
     }
 }
 
@@ -328,20 +232,11 @@ pub fn answered(i: usize, a: About, bank: bool) -> Verdict
 {
     let status = a.status;
     Verdict {
-        refusal: 0,
-        does: Does::Nothing,
         number: i,
-        first: Mover {
-            who: 0,
-            how: Move::Stay,
-        },
-        second: Mover {
-            who: 0,
-            how: Move::Stay,
-        },
         amount: answer_amount(a, status),
         told: answer_told(a, bank, status),
         also: answer_also(a, status),
+        ..nothing()
     }
 }
 
@@ -350,19 +245,7 @@ pub fn cuts() -> Verdict
     ensures { result ≡ cut_verdict }
 {
     Verdict {
-        refusal: 0,
         does: Does::Cuts,
-        number: 0,
-        first: Mover {
-            who: 0,
-            how: Move::Stay,
-        },
-        second: Mover {
-            who: 0,
-            how: Move::Stay,
-        },
-        amount: 0,
-        told: Notice { to: 0, code: 0 },
-        also: Notice { to: 0, code: 0 },
+        ..nothing()
     }
 }

@@ -17,7 +17,7 @@ use Rattle.rules.specs.declared.verdict.Notice.{Notice}
 use Rattle.rules.specs.declared.verdict.Verdict.{Verdict}
 
 -- who moves, and how
-abbrev mover : ℕ → Move → Mover
+abbrev pub mover : ℕ → Move → Mover
 mover who how = record { who = who; how = how }
 
 abbrev no_mover : Mover

@@ -1,6 +1,0 @@
--- `granting::recalled` meets its contract. Assumes nothing.
-use Rattle.granting.proofs.recalled.Goals as goal
-
-pub returns : goal.returns
-returns c =
-    rw (← c.settled_at.ensures) c.marked.ensures
