@@ -6,9 +6,10 @@ use Prim.Native.Nat.{ℕ, zero, suc, ◌+◌, ◌-◌, ◌≤◌, ◌<◌}
 use native.Mathlib.Nat.{le_of_eq}
 use native.Mathlib.Numerals.{add-one}
 use native.Mathlib.Omega.{arith}
+use borrow.Author.Tests.{eq-eqb}
 use lib.Dec.{eqb}
 use lib.ListN.{length, get_or, take, replicate, length-append, length-replicate}
-use lib.Seq.{take-suc, take_all, take-length, take-append-le, length-take-le}
+use lib.Seq.{take-suc, take_all, take-length, take-append-le, length-take-le, take-take}
 use Rattle.fields.specs.Text.{blank, value_length, unpadded, padded}
 use Rattle.fields.proofs.Zeros.{blank-append}
 
@@ -60,6 +61,17 @@ length-value (x ∷ s) = go (eqb x 0 && blank s) (length-value s)
     go : (b : Bool) → value_length s ≤ length s → cond b 0 (suc (value_length s)) ≤ suc (length s)
     go true h = omega arith
     go false h = omega arith
+
+-- a field whose last byte is zero has the value of the field before it
+pub unpadded-back : (s : List ℕ) → 0 < length s → get_or s (length s - 1) 0 ≡ 0 → unpadded s ≡ unpadded (take (length s - 1) s)
+unpadded-back s p e =
+    let n = length s - 1 in
+    let as_long : value_length s ≡ value_length (take n s) =
+    ap value_length (sym (take-length s))
+    ∙ length_back s (length s) p (le_of_eq refl)
+    ∙ ap (λ (b : Bool). cond b (value_length (take n s)) (length s)) (eq-eqb (get_or s n 0) 0 e) in
+    ap (λ (k : ℕ). take k s) as_long
+    ∙ sym (take-take (value_length (take n s)) n s (omega (arith, length-value (take n s), length-take-le n s (omega arith))))
 
 -- zero bytes behind a field
 blank-zeros : (n : ℕ) → blank (replicate n 0) ≡ true

@@ -7,34 +7,21 @@ pub fn blank(s: &[u8]) -> bool
     ensures { result ≡ blank s.now }
 {
     let mut zeros = true;
-    let mut i = 0;
-    while i < s.len() {
-        zeros = zeros & (s[i] == 0);
-        i += 1;
+    for &b in s {
+        zeros &= b == 0;
     }
     zeros
-}
-
-// How many bytes of s stand before its trailing zeros: 0 where all are zero.
-fn used(s: &[u8]) -> usize
-    ensures { (result ≡ value_length s.now) × (result ≤ length s.now) }
-{
-    let mut n = s.len();
-    while 0 < n {
-        if s[n - 1] != 0 {
-            return n;
-        }
-        n -= 1;
-    }
-    n
 }
 
 // The value of a padded field: the part of s before its trailing zeros.
 pub fn unpadded(s: &[u8]) -> &[u8]
     ensures { result.now ≡ unpadded s.now }
 {
-    let n = used(s);
-    &s[0..n]
+    let mut value = s;
+    while let [rest @ .., 0] = value {
+        value = rest;
+    }
+    value
 }
 
 // All bytes are looked at: fields differ late as often as early.
@@ -45,10 +32,8 @@ pub fn same_bytes(a: &[u8], b: &[u8]) -> bool
         return false;
     }
     let mut equal = true;
-    let mut i = 0;
-    while i < a.len() {
-        equal = equal & (a[i] == b[i]);
-        i += 1;
+    for (x, y) in a.iter().zip(b) {
+        equal &= x == y;
     }
     equal
 }
@@ -58,9 +43,5 @@ pub fn copy(src: &[u8], dst: &mut [u8])
     requires { length src.now ≡ length dst.old }
     ensures { dst.new ≡ src.now }
 {
-    let mut i = 0;
-    while i < src.len() {
-        dst[i] = src[i];
-        i += 1;
-    }
+    dst.copy_from_slice(src);
 }
