@@ -30,8 +30,8 @@ use Rattle.xml.specs.Scanning.{
 }
 use Rattle.xml.proofs.FirstAttribute.{none-begins, one-broken, one-read, not-read, of-in}
 use Rattle.scan.specs.AttributeParts.{attribute_from, AttributeRead}
-use Rattle.scan.specs.declared.attributes.AttributeAt.{AttributeAt}
-use Rattle.scan.specs.declared.attributes.AttributeAt.TheVariants.{Read, Nothing}
+use Rattle.std.specs.Prelude.{Option, Some, None}
+use Rattle.scan.specs.declared.attributes.AttributePlaces.{AttributePlaces}
 use Rattle.scan.proofs.Runs.{run_end}
 use Rattle.scan.proofs.AttributeParts.{begins-at, not_there, there}
 use Rattle.pacs.specs.Judged.{is_euro}
@@ -92,9 +92,9 @@ any-read t more space z e = go (begins t) refl (is_attribute (past is_space t)) 
         (sym (one-read t p q) ∙ e)
 
 -- by the attribute that is read first
-module _ (s : List ℕ) (at : ℕ) {r : AttributeAt} (first : AttributeRead s at r) (n : ℕ) (more : List Attribute) (space z : List ℕ)
+module _ (s : List ℕ) (at : ℕ) {r : Option AttributePlaces} (first : AttributeRead s at r) (n : ℕ) (more : List Attribute) (space z : List ℕ)
     (read : attributes_in n (drop at s) ≡ attributed more space z) where
-  pub none-there : r ≡ Nothing → false ≡ is_euro more
+  pub none-there : r ≡ None → false ≡ is_euro more
   none-there e = go more (of-in n (drop at s) read)
     where
       go : (m : List Attribute) → attributes_of (drop at s) ≡ attributed m space z → false ≡ is_euro m
@@ -103,16 +103,16 @@ module _ (s : List ℕ) (at : ℕ) {r : AttributeAt} (first : AttributeRead s at
       go (a ∷ b ∷ m) h = refl
 
   -- it has to be that one, and none begins behind it
-  pub one-there : {name end value close : ℕ} → r ≡ Read name end value close → {next : ℕ} → next ≡ run_end is_space s (close + 1)
-      → {v w d : Bool} → v ≡ same (take (end - name) (drop name s)) (text "Ccy")
-      → w ≡ same (take (close - value) (drop value s)) (text "EUR") → d ≡ (ltb (close + 1) next && is_first (get_or s next 0))
+  pub one-there : {p : AttributePlaces} → r ≡ Some p → {next : ℕ} → next ≡ run_end is_space s (p.close + 1)
+      → {v w d : Bool} → v ≡ same (take (p.end - p.name) (drop p.name s)) (text "Ccy")
+      → w ≡ same (take (p.close - p.value) (drop p.value s)) (text "EUR") → d ≡ (ltb (p.close + 1) next && is_first (get_or s next 0))
       → (v && w && not d) ≡ is_euro more
-  one-there {name} {end} {value} {close} e next-is p q d-is =
+  one-there {p} e next-is n-is v-is d-is =
       let h = there s at first e in
-      let rest = drop (close + 1) s in
-      let named = p ∙ ap (λ (t : List ℕ). same t (text "Ccy")) h.name-is in
-      let valued = q ∙ ap (λ (t : List ℕ). same t (text "EUR")) h.value-is in
-      ap₂ ◌&&◌ (ap₂ ◌&&◌ named valued) (ap not (d-is ∙ sym (begins-at s (close + 1) next-is)))
+      let rest = drop (p.close + 1) s in
+      let named = n-is ∙ ap (λ (t : List ℕ). same t (text "Ccy")) h.name-is in
+      let valued = v-is ∙ ap (λ (t : List ℕ). same t (text "EUR")) h.value-is in
+      ap₂ ◌&&◌ (ap₂ ◌&&◌ named valued) (ap not (d-is ∙ sym (begins-at s (p.close + 1) next-is)))
       ∙ sym
-      (euro-added (attribute_from s at name) (attributes_of rest) (sym h.read ∙ of-in n (drop at s) read) (not (begins rest))
+      (euro-added (attribute_from s at p.name) (attributes_of rest) (sym h.read ∙ of-in n (drop at s) read) (not (begins rest))
       (any-read rest))

@@ -5,7 +5,7 @@ ghost use Rattle.xml.specs.Tree.{Attribute};
 ghost use Rattle.xml.specs.Scanning.{attributes_in, attributed};
 ghost use Rattle.pacs.specs.Judged.{is_euro};
 
-use scan::AttributeAt;
+use scan::{AttributePlaces, Space};
 
 // Whether three bytes stand between two places.
 fn three(text: &[u8], at: usize, end: usize, a: u8, b: u8, c: u8) -> bool
@@ -23,17 +23,19 @@ pub fn only_euro(text: &[u8], at: usize) -> bool
     ensures { (fuel : ℕ) (more : List Attribute) (space z : List ℕ) → attributes_in fuel (drop at text.now) ≡ attributed more space z
         → result ≡ is_euro more }
 {
-    let AttributeAt::Read {
-        name,
-        end,
-        value,
-        close,
-    } = scan::attribute_at(text, at)
+    let Some(
+        AttributePlaces {
+            name,
+            end,
+            value,
+            close,
+        },
+    ) = scan::attribute_at(text, at)
     else {
         return false;
     };
     let rest = close + 1;
     let named = three(text, name, end, b'C', b'c', b'y');
     let valued = three(text, value, close, b'E', b'U', b'R');
-    named & valued & !scan::begins(text, rest, scan::space_end(text, rest))
+    named & valued & !scan::begins(text, rest, scan::run_end(text, rest, &Space))
 }

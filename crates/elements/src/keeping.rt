@@ -26,7 +26,7 @@ fn end_of(text: &[u8], at: usize, reads: bool) -> usize
         × (result ≤ length text.now) }
 {
     if reads {
-        return scan::text_end(text, at);
+        return scan::run_end(text, at, &scan::Text);
     }
     at
 }

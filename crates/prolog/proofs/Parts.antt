@@ -13,22 +13,22 @@ use Rattle.xml.specs.Tree.{Attribute}
 use Rattle.xml.specs.Scanning.{attributes_of}
 use Rattle.xml.proofs.FirstAttribute.{first-is}
 use Rattle.scan.specs.AttributeParts.{attribute_from, AttributeThere, AttributeRead}
-use Rattle.scan.specs.declared.attributes.AttributeAt.{AttributeAt}
-use Rattle.scan.specs.declared.attributes.AttributeAt.TheVariants.{Nothing}
+use Rattle.std.specs.Prelude.{Option, None}
+use Rattle.scan.specs.declared.attributes.AttributePlaces.{AttributePlaces}
 use Rattle.scan.proofs.AttributeParts.{not_there}
 use Rattle.prolog.specs.Ends.{Passed, past, stays}
 
 module _ (s : List ℕ) (at : ℕ) (test : Attribute → Bool) where
-  pub none-there : {r : AttributeAt} → AttributeRead s at r → r ≡ Nothing → Passed test s at at
+  pub none-there : {r : Option AttributePlaces} → AttributeRead s at r → r ≡ None → Passed test s at at
   none-there read e = stays (not_there s at read test e)
 
-  module _ {name end value close : ℕ} (h : AttributeThere s at name end value close) {b : Bool}
-      (b-is : b ≡ test (attribute_from s at name)) where
-    pub one-passed : b ≡ true → Passed test s at (close + 1)
-    one-passed e = past {r = close + 1} (attribute_from s at name) h.read (sym b-is ∙ e) (omega arith) (omega arith)
+  module _ {p : AttributePlaces} (h : AttributeThere s at p) {b : Bool}
+      (b-is : b ≡ test (attribute_from s at p.name)) where
+    pub one-passed : b ≡ true → Passed test s at (p.close + 1)
+    one-passed e = past {r = p.close + 1} (attribute_from s at p.name) h.read (sym b-is ∙ e) (omega arith) (omega arith)
 
     pub one-failed : b ≡ false → Passed test s at at
     one-failed e =
         stays
         (λ a more space z read.
-        ap test (sym (first-is (attribute_from s at name) a (attributes_of (drop (close + 1) s)) (sym h.read ∙ read))) ∙ sym b-is ∙ e)
+        ap test (sym (first-is (attribute_from s at p.name) a (attributes_of (drop (p.close + 1) s)) (sym h.read ∙ read))) ∙ sym b-is ∙ e)

@@ -8,7 +8,7 @@ ghost use Rattle.xml.specs.Bytes.{is_letter, is_encoding_byte};
 ghost use Rattle.xml.specs.WellFormed.{is_encoding};
 ghost use Rattle.prolog.specs.Ends.{is_due, due_test, Passed, Closed, PrologRead};
 
-use scan::AttributeAt;
+use scan::{AttributePlaces, Space};
 
 // Where the prolog ends: 0 where a text has none; or where its declaration isn't one.
 #[derive(Clone, Copy)]
@@ -89,12 +89,14 @@ fn is_due(due: Due, name: &[u8], value: &[u8]) -> bool
 fn due_end(text: &[u8], at: usize, due: Due) -> usize
     ensures { Passed (due_test due) text.now at result }
 {
-    let AttributeAt::Read {
-        name,
-        end,
-        value,
-        close,
-    } = scan::attribute_at(text, at)
+    let Some(
+        AttributePlaces {
+            name,
+            end,
+            value,
+            close,
+        },
+    ) = scan::attribute_at(text, at)
     else {
         return at;
     };
@@ -108,7 +110,7 @@ fn due_end(text: &[u8], at: usize, due: Due) -> usize
 fn closed_at(text: &[u8], at: usize) -> PrologEnd
     ensures { Closed text.now at result }
 {
-    let end = scan::space_end(text, at);
+    let end = scan::run_end(text, at, &Space);
     if scan::byte(text, end) != b'?' {
         return PrologEnd::Broken(end);
     }
@@ -137,7 +139,7 @@ pub fn prolog_end(text: &[u8]) -> PrologEnd
     }
     let version = due_end(text, 5, Due::Version);
     if version == 5 {
-        return PrologEnd::Broken(scan::space_end(text, 5));
+        return PrologEnd::Broken(scan::run_end(text, 5, &Space));
     }
     let encoding = due_end(text, version, Due::Encoding);
     closed_at(text, due_end(text, encoding, Due::Standalone))

@@ -25,7 +25,7 @@ pub fn end_tag(text: &[u8], at: usize, from: usize, to: usize) -> EndTag
     if !names::same_name(&text[at..stop], &text[from..to]) {
         return EndTag::Other;
     }
-    let end = scan::space_end(text, stop);
+    let end = scan::run_end(text, stop, &scan::Space);
     if scan::byte(text, end) != b'>' {
         return EndTag::Other;
     }

@@ -14,6 +14,7 @@ ghost use Rattle.pacs.specs.Answering.{refusal_of, left_in, verdict_of, Ordered}
 
 use draft::Answer;
 use prolog::PrologEnd;
+use scan::Space;
 use walking::WalkEnd;
 
 const LONGEST: usize = 65_520;
@@ -42,13 +43,13 @@ pub fn read(text: &[u8], time: u32, ticket: &mut [u8]) -> Answer
         PrologEnd::At(p) => p,
         PrologEnd::Broken(p) => return not_formed(2, p),
     };
-    let start = scan::space_end(text, place);
+    let start = scan::run_end(text, place, &Space);
     let mut kept = [0usize; 40];
     let end = match walking::walk(text, start, &mut kept) {
         WalkEnd::Arrived(p) => p,
         WalkEnd::Astray(what, p) => return not_formed(what, p),
     };
-    let behind = scan::space_end(text, end);
+    let behind = scan::run_end(text, end, &Space);
     if behind != text.len() {
         return not_formed(10, behind);
     }

@@ -1,12 +1,12 @@
 // The walk through a text's elements, a tag at a time.
 ghost use Rattle.std.specs.Prelude.{◌≡◌, [], ◌<◌, length};
-ghost use Rattle.scan.specs.Names.{NameTable};
 ghost use Rattle.pacs.specs.Kept.{Kept};
 ghost use Rattle.reader.specs.Walks.{RootOpened, WalkedTo};
 
 use crate::endings::EndTag;
 use crate::{endings, meeting};
-use tags::TagEnd;
+use scan::{Names, Text};
+use tags::{TagEnd, TagFault};
 
 // Where the walk ends: behind the root; or what is wrong and where.
 #[derive(Clone, Copy)]
@@ -27,10 +27,10 @@ fn within(
     start: usize,
     behind: usize,
     next: usize,
-    names: &[u8; 256],
+    names: &Names,
     kept: &mut [usize; 40],
 ) -> WalkEnd
-    requires { RootOpened text.now start behind next × Kept text.now [] kept.old × (length kept.old ≡ 40) × NameTable names.now }
+    requires { RootOpened text.now start behind next × Kept text.now [] kept.old × (length kept.old ≡ 40) }
     ensures { WalkedTo text.now start kept.new result }
 {
     let root = start + 1;
@@ -43,7 +43,7 @@ fn within(
     let mut depth: usize = 1;
     let mut at = next;
     while 0 < depth {
-        let tag = scan::text_end(text, at);
+        let tag = scan::run_end(text, at, &Text);
         if scan::byte(text, tag) != b'<' {
             return WalkEnd::Astray(4, tag);
         }
@@ -64,8 +64,13 @@ fn within(
         if depth == DEEPEST {
             return WalkEnd::Astray(9, tag);
         }
-        let end = scan::name_end_by(text, name, names);
-        match tags::tag_end(text, end) {
+        let end = scan::run_end(text, name, names);
+        let tag_end = match tags::tag_end(text, end) {
+            Ok(e) => e,
+            Err(TagFault::Broken(p)) => return WalkEnd::Astray(6, p),
+            Err(TagFault::Repeated(p)) => return WalkEnd::Astray(7, p),
+        };
+        match tag_end {
             TagEnd::Opens(p) => {
                 let row = meeting::meet(text, rows[top], name, end, p, true, tag, kept);
                 starts[depth] = name;
@@ -78,8 +83,6 @@ fn within(
                 meeting::meet(text, rows[top], name, end, p, false, tag, kept);
                 at = p;
             }
-            TagEnd::Broken(p) => return WalkEnd::Astray(6, p),
-            TagEnd::Repeated(p) => return WalkEnd::Astray(7, p),
         }
     }
     WalkEnd::Arrived(at)
@@ -97,15 +100,15 @@ pub fn walk(text: &[u8], start: usize, kept: &mut [usize; 40]) -> WalkEnd
     if !scan::is_first(scan::byte(text, name)) {
         return WalkEnd::Astray(5, start);
     }
-    let names = scan::names();
-    let end = scan::name_end_by(text, name, &names);
+    let names = Names::new();
+    let end = scan::run_end(text, name, &names);
     match tags::long_tag_end(text, end) {
-        TagEnd::Opens(p) => within(text, start, end, p, &names, kept),
-        TagEnd::Closes(p) => {
+        Ok(TagEnd::Opens(p)) => within(text, start, end, p, &names, kept),
+        Ok(TagEnd::Closes(p)) => {
             meeting::meet(text, OUTSIDE, name, end, p, false, start, kept);
             WalkEnd::Arrived(p)
         }
-        TagEnd::Broken(p) => WalkEnd::Astray(6, p),
-        TagEnd::Repeated(p) => WalkEnd::Astray(7, p),
+        Err(TagFault::Broken(p)) => WalkEnd::Astray(6, p),
+        Err(TagFault::Repeated(p)) => WalkEnd::Astray(7, p),
     }
 }

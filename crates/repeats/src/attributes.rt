@@ -2,6 +2,8 @@
 ghost use Rattle.std.specs.Prelude.{◌≡◌, drop};
 ghost use Rattle.repeats.specs.Repeats.{name_in, behind};
 
+use scan::{Name, Space, Value};
+
 // The place behind a byte, the same place where the text has ended.
 fn past_byte(text: &[u8], at: usize) -> usize
     ensures { drop result text.now ≡ drop 1 (drop at text.now) }
@@ -16,8 +18,8 @@ fn past_byte(text: &[u8], at: usize) -> usize
 pub fn name_at(text: &[u8], at: usize) -> &[u8]
     ensures { result.now ≡ name_in (drop at text.now) }
 {
-    let from = scan::space_end(text, at);
-    let end = scan::name_end(text, from);
+    let from = scan::run_end(text, at, &Space);
+    let end = scan::run_end(text, from, &Name);
     if end <= text.len() {
         return &text[from..end];
     }
@@ -28,12 +30,12 @@ pub fn name_at(text: &[u8], at: usize) -> &[u8]
 pub fn end_at(text: &[u8], at: usize) -> usize
     ensures { drop result text.now ≡ behind (drop at text.now) }
 {
-    let from = scan::space_end(text, at);
-    let end = scan::name_end(text, from);
-    let equals = scan::space_end(text, end);
+    let from = scan::run_end(text, at, &Space);
+    let end = scan::run_end(text, from, &Name);
+    let equals = scan::run_end(text, end, &Space);
     let spaced = past_byte(text, equals);
-    let quote = scan::space_end(text, spaced);
+    let quote = scan::run_end(text, spaced, &Space);
     let value = past_byte(text, quote);
-    let close = scan::value_end(text, value);
+    let close = scan::run_end(text, value, &Value);
     past_byte(text, close)
 }

@@ -16,16 +16,15 @@ use native.Mathlib.Omega.{arith}
 use borrow.Author.Tests.{eq-eqb, ne_eqb, lt-ltb, le-ltb, not-true, not-false}
 use lib.Dec.{eqb, ltb}
 use lib.ListN.{length, get_or, take, drop}
+use Rattle.fields.proofs.Tests.{never}
 use Rattle.xml.specs.Bytes.{is_space, is_first, is_name, is_value, run_length, run, past}
 use Rattle.xml.specs.Tree.{Attribute}
 use Rattle.xml.specs.Scanning.{first_byte, from_equals, from_quote, from_close, is_attribute, begins, attribute_of, with_attribute, attributes_of}
 use Rattle.xml.proofs.Places.{first-at, byte-within, one-behind, tested_at}
 use Rattle.xml.proofs.FirstAttribute.{none-begins, one-broken, one-read, not-misread, not_none}
 use Rattle.scan.specs.AttributeParts.{has_quote, ValueBegun, attribute_from, FirstFails, AttributeThere, AttributeRead}
-use Rattle.scan.specs.declared.attributes.AttributeEnd.{AttributeEnd}
-use Rattle.scan.specs.declared.attributes.AttributeEnd.TheVariants.{At, Broken}
-use Rattle.scan.specs.declared.attributes.AttributeAt.{AttributeAt}
-use Rattle.scan.specs.declared.attributes.AttributeAt.TheVariants.{Read, Nothing}
+use Rattle.std.specs.Prelude.{Option, Some, None, Result, Ok, Err, is_ok}
+use Rattle.scan.specs.declared.attributes.AttributePlaces.{AttributePlaces}
 use Rattle.scan.proofs.Runs.{run_end, past_to, run-between, end-within}
 
 -- white space stands where its run is longer than nothing
@@ -53,7 +52,7 @@ module _ (s : List ℕ) where
       pub no-quote : {d : ℕ} → d ≡ get_or s q 0 → (d ≡ 34 → ⊥) → has_quote (drop at s) ≡ false
       no-quote {d} d-is other = simp (tested_at s q quote-at d-is 34 ∙ ne_eqb d 34 other, and-false)
 
-      pub value-begins : {d : ℕ} → d ≡ get_or s q 0 → d ≡ 34 → ValueBegun s at (At (q + 1))
+      pub value-begins : {d : ℕ} → d ≡ get_or s q 0 → d ≡ 34 → ValueBegun s at (Ok (q + 1))
       value-begins {d} d-is d-quote = (
         simp (tested_at s e equals-at b-is 61 ∙ eq-eqb b 61 b-equals, tested_at s q quote-at d-is 34 ∙ eq-eqb d 34 d-quote),
         one-behind s q quote-at,
@@ -67,13 +66,14 @@ module _ (s : List ℕ) where
       ∙ ap (λ (v : Bool). v && is_first (get_or s j 0)) (spaced (drop i s) i ∙ ap (ltb i) (sym e))
 
   -- an attribute whose name begins at a place
-  module _ (name : ℕ) {v : AttributeEnd} (begun : ValueBegun s name v) where
-    pub not-valued : {p : ℕ} → v ≡ Broken p → is_attribute (drop name s) ≡ false
-    not-valued e = ap (λ (w : Bool). w && eqb (first_byte (from_close (drop name s))) 34) (subst (ValueBegun s name) e begun)
+  pub not-valued : (name : ℕ) (v : Result ℕ ℕ) → ValueBegun s name v → is_ok v ≡ false → is_attribute (drop name s) ≡ false
+  not-valued name (Ok p) begun e = never e
+  not-valued name (Err p) begun e = ap (λ (w : Bool). w && eqb (first_byte (from_close (drop name s))) 34) begun
 
-    module _ {value : ℕ} (v-is : v ≡ At value) {close : ℕ} (close-is : close ≡ run_end is_value s value) {f : ℕ}
+  module _ (name : ℕ) {v : Result ℕ ℕ} (begun : ValueBegun s name v) where
+    module _ {value : ℕ} (v-is : v ≡ Ok value) {close : ℕ} (close-is : close ≡ run_end is_value s value) {f : ℕ}
         (f-is : f ≡ get_or s close 0) where
-      pub value_there : ValueBegun s name (At value)
+      pub value_there : ValueBegun s name (Ok value)
       value_there = subst (ValueBegun s name) v-is begun
 
       pub close_at : from_close (drop name s) ≡ drop close s
@@ -102,16 +102,16 @@ module _ (s : List ℕ) where
       no-attribute e test a more space z read =
           not-misread read (one-broken (drop at s) (as-begins ∙ not-false b begun) (ap is_attribute here ∙ e))
 
-      module _ {v : AttributeEnd} (value-begun : ValueBegun s name v) where
-        pub no_value : {p : ℕ} → v ≡ Broken p → (test : Attribute → Bool) → FirstFails test s at
-        no_value e = no-attribute (not-valued name value-begun e)
+      pub no_value : (v : Result ℕ ℕ) → ValueBegun s name v → is_ok v ≡ false → (test : Attribute → Bool) → FirstFails test s at
+      no_value v value-begun e = no-attribute (not-valued name v value-begun e)
 
-        module _ {value : ℕ} (v-is : v ≡ At value) {close : ℕ} (close-is : close ≡ run_end is_value s value) {f : ℕ}
+      module _ {v : Result ℕ ℕ} (value-begun : ValueBegun s name v) where
+        module _ {value : ℕ} (v-is : v ≡ Ok value) {close : ℕ} (close-is : close ≡ run_end is_value s value) {f : ℕ}
             (f-is : f ≡ get_or s close 0) where
           pub no-close : (f ≡ 34 → ⊥) → (test : Attribute → Bool) → FirstFails test s at
           no-close other = no-attribute (not-closed name value-begun v-is close-is f-is other)
 
-          pub is_one : f ≡ 34 → {end : ℕ} → end ≡ run_end is_name s name → AttributeRead s at (Read name end value close)
+          pub is_one : f ≡ 34 → {end : ℕ} → end ≡ run_end is_name s name → AttributeThere s at (record { name = name; end = end; value = value; close = close })
           is_one e {end} end_is =
               let valued = value_there name value-begun v-is close-is f-is in
               let closed = close_at name value-begun v-is close-is f-is in
@@ -135,16 +135,16 @@ module _ (s : List ℕ) where
               }
 
   -- an attribute that was read
-  module _ (at : ℕ) {r : AttributeAt} (read : AttributeRead s at r) where
-    pub not_there : (test : Attribute → Bool) → r ≡ Nothing → FirstFails test s at
+  module _ (at : ℕ) {r : Option AttributePlaces} (read : AttributeRead s at r) where
+    pub not_there : (test : Attribute → Bool) → r ≡ None → FirstFails test s at
     not_there test e = subst (AttributeRead s at) e read test
 
-    module _ {name end value close : ℕ} (r-is : r ≡ Read name end value close) where
-      pub there : AttributeThere s at name end value close
+    module _ {a : AttributePlaces} (r-is : r ≡ Some a) where
+      pub there : AttributeThere s at a
       there = subst (AttributeRead s at) r-is read
 
       -- a test of the name and of the value
       pub tested : (test : List ℕ → List ℕ → Bool) {b : Bool}
-          → b ≡ test (take (end - name) (drop name s)) (take (close - value) (drop value s))
-          → b ≡ test (attribute_from s at name).name (attribute_from s at name).value
+          → b ≡ test (take (a.end - a.name) (drop a.name s)) (take (a.close - a.value) (drop a.value s))
+          → b ≡ test (attribute_from s at a.name).name (attribute_from s at a.name).value
       tested test e = e ∙ ap₂ test there.name-is there.value-is

@@ -1,3 +1,3 @@
 pub mod Runs
-pub mod Classes
+pub mod ByteTests
 pub mod AttributeParts

@@ -13,6 +13,8 @@ use Prim.Native.Nat.{ℕ, zero, suc, ◌+◌, ◌-◌, ◌≤◌, ◌<◌}
 use native.Mathlib.Omega.{arith}
 use lib.Dec.{ltb}
 use lib.ListN.{length, get_or, drop, length-append, length-drop}
+use Rattle.std.specs.Prelude.{Result, Ok, Err, is_ok, IsErr}
+use Rattle.fields.proofs.Tests.{never}
 use Rattle.xml.specs.Bytes.{is_space, is_first, is_value, run, past}
 use Rattle.xml.specs.Tree.{Attribute}
 use Rattle.xml.specs.Scanning.{
@@ -38,23 +40,26 @@ use Rattle.xml.proofs.FirstAttribute.{
   to-one-more,
 }
 use Rattle.scan.specs.AttributeParts.{ValueBegun}
-use Rattle.scan.specs.declared.attributes.AttributeEnd.{AttributeEnd}
-use Rattle.scan.specs.declared.attributes.AttributeEnd.TheVariants.{At, Broken}
 use Rattle.scan.proofs.Runs.{run_end, past_to}
 use Rattle.scan.proofs.AttributeParts.{begins-at, value_there, close_at, is-closed}
 use Rattle.tags.specs.Tagged.{AttributeEnded}
 
 -- what the two answers tell
-module _ (s : List ℕ) (at : ℕ) {r : AttributeEnd} {p : ℕ} where
-  pub broken-there : AttributeEnded s at r → r ≡ Broken p → is_attribute (drop at s) ≡ false
-  broken-there h e = subst (AttributeEnded s at) e h
+pub broken-there : (s : List ℕ) (at : ℕ) (r : Result ℕ ℕ) → AttributeEnded s at r → is_ok r ≡ false → is_attribute (drop at s) ≡ false
+broken-there s at (Ok p) h e = never e
+broken-there s at (Err p) h e = h
 
-  pub ended-there : AttributeEnded s at r → r ≡ At p → AttributeEnded s at (At p)
-  ended-there h e = subst (AttributeEnded s at) e h
+pub ended-there : (s : List ℕ) (at : ℕ) {r : Result ℕ ℕ} {p : ℕ} → AttributeEnded s at r → r ≡ Ok p → AttributeEnded s at (Ok p)
+ended-there s at h e = subst (AttributeEnded s at) e h
+
+-- no attribute
+pub not_ended : (s : List ℕ) (at : ℕ) (r : Result ℕ ℕ) → IsErr r → is_attribute (drop at s) ≡ false → AttributeEnded s at r
+not_ended s at (Ok p) h e = never (sym h)
+not_ended s at (Err p) h e = e
 
 -- an attribute ends behind its closing quote
-pub ends-behind : (s : List ℕ) (at : ℕ) {r : AttributeEnd} {v : ℕ} → ValueBegun s at r → r ≡ At v → {c : ℕ} → c ≡ run_end is_value s v
-    → {f : ℕ} → f ≡ get_or s c 0 → f ≡ 34 → AttributeEnded s at (At (c + 1))
+pub ends-behind : (s : List ℕ) (at : ℕ) {r : Result ℕ ℕ} {v : ℕ} → ValueBegun s at r → r ≡ Ok v → {c : ℕ} → c ≡ run_end is_value s v
+    → {f : ℕ} → f ≡ get_or s c 0 → f ≡ 34 → AttributeEnded s at (Ok (c + 1))
 ends-behind s at begun r-is {c} c-is f-is e = (
   is-closed s at begun r-is c-is f-is e,
   one-behind s c (close_at s at begun r-is c-is f-is),

@@ -27,7 +27,10 @@ use Rattle.xml.proofs.FirstAttribute.{as-in}
 use Rattle.scan.proofs.Runs.{run-stops}
 use Rattle.tags.specs.Tagged.{RepeatsTold, Tagged}
 use Rattle.tags.specs.declared.TagEnd.{TagEnd}
-use Rattle.tags.specs.declared.TagEnd.TheVariants.{Opens, Closes, Broken, Repeated}
+use Rattle.tags.specs.declared.TagEnd.TheVariants.{Opens, Closes}
+use Rattle.tags.specs.declared.TagFault.{TagFault}
+use Rattle.std.specs.Prelude.{Result, Ok, Err, IsErr}
+use Rattle.fields.proofs.Tests.{never}
 use Rattle.tags.proofs.Attributes.{all_read, starts}
 
 -- fewer than two attributes have no name twice
@@ -37,13 +40,14 @@ few-distinct (a ∷ []) e h = refl
 few-distinct (a ∷ b ∷ more) e h = absurd (omega arith)
 
 module _ (s : List ℕ) (at : ℕ) where
-  tag_is : (p : TagEnd) {r r' : TagRead} → r ≡ r' → Tagged s at r' p → Tagged s at r p
+  tag_is : (p : Result TagEnd TagFault) {r r' : TagRead} → r ≡ r' → Tagged s at r' p → Tagged s at r p
   tag_is p e = subst (λ (x : TagRead). Tagged s at x p) (sym e)
 
   -- attributes that can't be read
-  pub misread-tag : (name : List ℕ) (p : ℕ) → attributes_of (drop at s) ≡ misread
-      → Tagged s at (tag_behind name (attributes_of (drop at s))) (Broken p)
-  misread-tag name p e = tag_is (Broken p) (ap (tag_behind name) e) tt
+  pub misread-tag : (name : List ℕ) (r : Result TagEnd TagFault) → IsErr r → attributes_of (drop at s) ≡ misread
+      → Tagged s at (tag_behind name (attributes_of (drop at s))) r
+  misread-tag name (Ok p) h e = never (sym h)
+  misread-tag name (Err f) h e = tag_is (Err f) (ap (tag_behind name) e) tt
 
   module _ (end : ℕ) {count : ℕ} {r : Bool} (told : RepeatsTold s at count r) (name : List ℕ) (more : List Attribute) (space : List ℕ)
       (behind : at ≤ end) (read : attributes_of (drop at s) ≡ attributed more space (drop end s)) (counted : count ≡ length more) where
@@ -56,8 +60,8 @@ module _ (s : List ℕ) (at : ℕ) where
     told_here : r ≡ not (distinct more)
     told_here = told (suc (length (drop at s))) more space (drop end s) (sym (as-in (drop at s)) ∙ read) counted
 
-    pub repeated-tag : (p : ℕ) → r ≡ true → Tagged s at (tag_behind name (attributes_of (drop at s))) (Repeated p)
-    repeated-tag p e = tag_is (Repeated p) (whether (not-true (distinct more) (sym told_here ∙ e))) tt
+    pub repeated-tag : (p : TagFault) → r ≡ true → Tagged s at (tag_behind name (attributes_of (drop at s))) (Err p)
+    repeated-tag p e = tag_is (Err p) (whether (not-true (distinct more) (sym told_here ∙ e))) tt
 
     module _ (once : r ≡ false) {b : ℕ} (b-is : b ≡ get_or s end 0) where
       single : tag_behind name (attributes_of (drop at s)) ≡ tag_ending tag (drop end s)
@@ -72,13 +76,13 @@ module _ (s : List ℕ) (at : ℕ) where
       neither-there : (b ≡ 62 → ⊥) → (b ≡ 47 → ⊥) → tag_behind name (attributes_of (drop at s)) ≡ no_tag
       neither-there e f = single ∙ rw (first-tested 62 ∙ ne_eqb b 62 e, first-tested 47 ∙ ne_eqb b 47 f)
 
-      pub opening : b ≡ 62 → Tagged s at (tag_behind name (attributes_of (drop at s))) (Opens (end + 1))
+      pub opening : b ≡ 62 → Tagged s at (tag_behind name (attributes_of (drop at s))) (Ok (Opens (end + 1)))
       opening e =
-          tag_is (Opens (end + 1)) (opens-there e)
+          tag_is (Ok (Opens (end + 1))) (opens-there e)
           (one-behind s end refl, omega arith, omega (arith, byte-within s end 62 (sym b-is ∙ e) (omega arith)))
 
-      pub neither : (p : ℕ) → (b ≡ 62 → ⊥) → (b ≡ 47 → ⊥) → Tagged s at (tag_behind name (attributes_of (drop at s))) (Broken p)
-      neither p e f = tag_is (Broken p) (neither-there e f) tt
+      pub neither : (p : TagFault) → (b ≡ 62 → ⊥) → (b ≡ 47 → ⊥) → Tagged s at (tag_behind name (attributes_of (drop at s))) (Err p)
+      neither p e f = tag_is (Err p) (neither-there e f) tt
 
       module _ (slash : b ≡ 47) {d : ℕ} (d-is : d ≡ get_or s (end + 1) 0) where
         second-tested : (w : ℕ) → eqb (get_or (drop 1 (drop end s)) 0 0) w ≡ eqb d w
@@ -96,17 +100,17 @@ module _ (s : List ℕ) (at : ℕ) where
         slashed-there : (d ≡ 62 → ⊥) → tag_behind name (attributes_of (drop at s)) ≡ no_tag
         slashed-there e = single ∙ rw (other, same, second-tested 62 ∙ ne_eqb d 62 e)
 
-        pub closing : d ≡ 62 → Tagged s at (tag_behind name (attributes_of (drop at s))) (Closes (end + 2))
+        pub closing : d ≡ 62 → Tagged s at (tag_behind name (attributes_of (drop at s))) (Ok (Closes (end + 2)))
         closing e =
-            tag_is (Closes (end + 2)) (closes-there e)
+            tag_is (Ok (Closes (end + 2))) (closes-there e)
             (drop-drop 2 end s, omega arith, omega (arith, byte-within s (end + 1) 62 (sym d-is ∙ e) (omega arith)))
 
-        pub slashed : (p : ℕ) → (d ≡ 62 → ⊥) → Tagged s at (tag_behind name (attributes_of (drop at s))) (Broken p)
-        slashed p e = tag_is (Broken p) (slashed-there e) tt
+        pub slashed : (p : TagFault) → (d ≡ 62 → ⊥) → Tagged s at (tag_behind name (attributes_of (drop at s))) (Err p)
+        slashed p e = tag_is (Err p) (slashed-there e) tt
 
   -- a tag that ends right behind its name
   pub short-tag : (name : List ℕ) {b : ℕ} → b ≡ get_or s at 0 → b ≡ 62
-      → Tagged s at (tag_behind name (attributes_of (drop at s))) (Opens (at + 1))
+      → Tagged s at (tag_behind name (attributes_of (drop at s))) (Ok (Opens (at + 1)))
   unfolding is_space
   short-tag name b-is e =
       let l = byte-within s at 62 (sym b-is ∙ e) (omega arith) in

@@ -3,7 +3,7 @@
 --     RepeatsTold       whether a name stands twice among attributes
 --     Tagged            the end of a tag, beside what is read of it behind its name
 -- Assumes nothing.
-use Rattle.std.specs.Prelude.{ℕ, ◌≤◌, ◌<◌, ◌≡◌, Bool, true, false, not, List, length, drop}
+use Rattle.std.specs.Prelude.{ℕ, ◌≤◌, ◌<◌, ◌≡◌, Bool, true, false, not, List, length, drop, Result, Ok, Err}
 use Rattle.xml.specs.Tree.{Attribute}
 use Rattle.xml.specs.WellFormed.{distinct}
 use Rattle.xml.specs.Scanning.{
@@ -16,15 +16,14 @@ use Rattle.xml.specs.Scanning.{
   opens,
   closes,
 }
-use Rattle.scan.specs.declared.attributes.AttributeEnd.{AttributeEnd}
-use Rattle.scan.specs.declared.attributes.AttributeEnd.TheVariants.{At, Broken as NotOne}
 use Rattle.tags.specs.declared.TagEnd.{TagEnd}
-use Rattle.tags.specs.declared.TagEnd.TheVariants.{Opens, Closes, Broken, Repeated}
+use Rattle.tags.specs.declared.TagEnd.TheVariants.{Opens, Closes}
+use Rattle.tags.specs.declared.TagFault.{TagFault}
 
-abbrev pub AttributeEnded : List ℕ → ℕ → AttributeEnd → Type 0
-AttributeEnded text at (At p) =
+abbrev pub AttributeEnded : List ℕ → ℕ → Result ℕ ℕ → Type 0
+AttributeEnded text at (Ok p) =
     (is_attribute (drop at text) ≡ true) × (drop 1 (from_close (drop at text)) ≡ drop p text) × (at < p) × (p ≤ length text)
-AttributeEnded text at (NotOne p) = is_attribute (drop at text) ≡ false
+AttributeEnded text at (Err p) = is_attribute (drop at text) ≡ false
 
 -- for attributes that are read from a place on, count of them
 abbrev pub RepeatsTold : List ℕ → ℕ → ℕ → Bool → Type 0
@@ -36,16 +35,12 @@ RepeatsTold text at count r =
 abbrev Behind : List ℕ → ℕ → List ℕ → ℕ → Type 0
 Behind text at z p = (z ≡ drop p text) × (at < p) × (p ≤ length text)
 
-abbrev pub Tagged : List ℕ → ℕ → TagRead → TagEnd → Type 0
-Tagged text at (opens t z) (Opens p) = Behind text at z p
-Tagged text at (opens t z) (Closes p) = ⊥
-Tagged text at (opens t z) (Broken p) = ⊥
-Tagged text at (opens t z) (Repeated p) = ⊥
-Tagged text at (closes t z) (Opens p) = ⊥
-Tagged text at (closes t z) (Closes p) = Behind text at z p
-Tagged text at (closes t z) (Broken p) = ⊥
-Tagged text at (closes t z) (Repeated p) = ⊥
-Tagged text at no_tag (Opens p) = ⊥
-Tagged text at no_tag (Closes p) = ⊥
-Tagged text at no_tag (Broken p) = Unit
-Tagged text at no_tag (Repeated p) = Unit
+abbrev pub Tagged : List ℕ → ℕ → TagRead → Result TagEnd TagFault → Type 0
+Tagged text at (opens t z) (Ok (Opens p)) = Behind text at z p
+Tagged text at (opens t z) (Ok (Closes p)) = ⊥
+Tagged text at (opens t z) (Err f) = ⊥
+Tagged text at (closes t z) (Ok (Opens p)) = ⊥
+Tagged text at (closes t z) (Ok (Closes p)) = Behind text at z p
+Tagged text at (closes t z) (Err f) = ⊥
+Tagged text at no_tag (Ok e) = ⊥
+Tagged text at no_tag (Err f) = Unit

@@ -7,30 +7,32 @@ ghost use Rattle.xml.specs.Tree.{Attribute};
 ghost use Rattle.xml.specs.Scanning.{attributes_of, attributed, tag_behind};
 ghost use Rattle.tags.specs.Tagged.{AttributeEnded, RepeatsTold, Tagged};
 
-use scan::AttributeEnd;
+use scan::{Space, Value};
 
-// Where a tag ends: the place behind > or />; or the place where it isn't a tag, or where it would end if no name stood twice.
+// Where a tag ends: the place behind > or />.
 #[derive(Clone, Copy)]
 pub enum TagEnd {
     Opens(usize),
     Closes(usize),
+}
+
+// What is wrong with a tag: the place where it isn't one, or where it would end if no name stood twice.
+#[derive(Clone, Copy)]
+pub enum TagFault {
     Broken(usize),
     Repeated(usize),
 }
 
-// Where the attribute ends whose name begins at a place.
-fn attribute_end(text: &[u8], at: usize) -> AttributeEnd
+// Where the attribute ends whose name begins at a place; or the place where it isn't one.
+fn attribute_end(text: &[u8], at: usize) -> Result<usize, usize>
     ensures { AttributeEnded text.now at result }
 {
-    let value = match scan::value_at(text, at) {
-        AttributeEnd::At(p) => p,
-        AttributeEnd::Broken(p) => return AttributeEnd::Broken(p),
-    };
-    let close = scan::value_end(text, value);
+    let value = scan::value_at(text, at)?;
+    let close = scan::run_end(text, value, &Value);
     if scan::byte(text, close) != b'"' {
-        return AttributeEnd::Broken(close);
+        return Err(close);
     }
-    AttributeEnd::At(close + 1)
+    Ok(close + 1)
 }
 
 // Whether a name stands twice among the attributes, of which there are count. Fewer than two have no name twice.
@@ -45,53 +47,49 @@ fn repeated(text: &[u8], at: usize, count: usize) -> bool
 }
 
 // The end of a tag whose attributes, count of them from a place on, and the white space behind them were read.
-fn ending(text: &[u8], at: usize, end: usize, count: usize) -> TagEnd
+fn ending(text: &[u8], at: usize, end: usize, count: usize) -> Result<TagEnd, TagFault>
     ensures { (name : List ℕ) (more : List Attribute) (space : List ℕ) → at ≤ end
         → attributes_of (drop at text.now) ≡ attributed more space (drop end text.now) → count ≡ length more
         → Tagged text.now at (tag_behind name (attributes_of (drop at text.now))) result }
 {
     if repeated(text, at, count) {
-        return TagEnd::Repeated(end);
+        return Err(TagFault::Repeated(end));
     }
     let b = scan::byte(text, end);
     if b == b'>' {
-        return TagEnd::Opens(end + 1);
+        return Ok(TagEnd::Opens(end + 1));
     }
     if b != b'/' {
-        return TagEnd::Broken(end);
+        return Err(TagFault::Broken(end));
     }
     if scan::byte(text, end + 1) != b'>' {
-        return TagEnd::Broken(end);
+        return Err(TagFault::Broken(end));
     }
-    TagEnd::Closes(end + 2)
+    Ok(TagEnd::Closes(end + 2))
 }
 
 // The end of a tag that may have more behind its name than >. The root's is read by it: called at two places it stays a function of its own
 // for the compiler, and `tag_end` is short enough to be put into its caller.
-pub fn long_tag_end(text: &[u8], at: usize) -> TagEnd
+pub fn long_tag_end(text: &[u8], at: usize) -> Result<TagEnd, TagFault>
     ensures { (name : List ℕ) → Tagged text.now at (tag_behind name (attributes_of (drop at text.now))) result }
 {
     let mut from = at;
-    let mut next = scan::space_end(text, at);
+    let mut next = scan::run_end(text, at, &Space);
     let mut count: usize = 0;
     while scan::begins(text, from, next) {
-        let end = match attribute_end(text, next) {
-            AttributeEnd::At(p) => p,
-            AttributeEnd::Broken(p) => return TagEnd::Broken(p),
-        };
-        from = end;
-        next = scan::space_end(text, end);
+        from = attribute_end(text, next).map_err(TagFault::Broken)?;
+        next = scan::run_end(text, from, &Space);
         count += 1;
     }
     ending(text, at, next, count)
 }
 
 // What stands behind a tag's name, from a place on: attributes, white space, and > or />.
-pub fn tag_end(text: &[u8], at: usize) -> TagEnd
+pub fn tag_end(text: &[u8], at: usize) -> Result<TagEnd, TagFault>
     ensures { (name : List ℕ) → Tagged text.now at (tag_behind name (attributes_of (drop at text.now))) result }
 {
     if scan::byte(text, at) == b'>' {
-        return TagEnd::Opens(at + 1);
+        return Ok(TagEnd::Opens(at + 1));
     }
     long_tag_end(text, at)
 }

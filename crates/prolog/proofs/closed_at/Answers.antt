@@ -9,12 +9,12 @@ use Rattle.prolog.proofs.closed_at.Goals as goal
 pub returns-then-byte-ne63 : goal.returns-then-byte-ne63
 returns-then-byte-ne63 c =
     let a = c.args in
-    no-question a.text.now a.at c.space_end-end.ensures c.byte.ensures c.if-byte-ne63.true
+    no-question a.text.now a.at c.run_end-end.ensures c.byte.ensures c.if-byte-ne63.true
 
 pub overflow_add-end : goal.overflow_add-end
 overflow_add-end c =
     let a = c.args in
-    omega (arith, byte-within a.text.now c.space_end-end.result 63 (sym c.byte.ensures ∙ c.if-byte-ne63.false) (omega arith))
+    omega (arith, byte-within a.text.now c.run_end-end.result 63 (sym c.byte.ensures ∙ c.if-byte-ne63.false) (omega arith))
 
 pub returns-then-byte-ne62 : goal.returns-then-byte-ne62
 returns-then-byte-ne62 c =
@@ -22,7 +22,7 @@ returns-then-byte-ne62 c =
     no-greater
     a.text.now
     a.at
-    c.space_end-end.ensures
+    c.run_end-end.ensures
     c.byte.ensures
     c.if-byte-ne63.false
     c.byte-2.ensures
@@ -31,7 +31,7 @@ returns-then-byte-ne62 c =
 pub overflow_add-result : goal.overflow_add-result
 overflow_add-result c =
     let a = c.args in
-    omega (arith, byte-within a.text.now (c.space_end-end.result + 1) 62 (sym c.byte-2.ensures ∙ c.if-byte-ne62.false) (omega arith))
+    omega (arith, byte-within a.text.now (c.run_end-end.result + 1) 62 (sym c.byte-2.ensures ∙ c.if-byte-ne62.false) (omega arith))
 
 pub returns : goal.returns
 returns c =
@@ -39,7 +39,7 @@ returns c =
     closes
     a.text.now
     a.at
-    c.space_end-end.ensures
+    c.run_end-end.ensures
     c.byte.ensures
     c.if-byte-ne63.false
     c.byte-2.ensures

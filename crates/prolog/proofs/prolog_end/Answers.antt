@@ -16,7 +16,7 @@ returns-then-version-eq5 c =
     (ap not c.if-not-is_declared.false)
     c.due_end-version.ensures
     c.if-version-eq5.true
-    c.space_end.ensures
+    c.run_end.ensures
 
 pub returns : goal.returns
 returns c =

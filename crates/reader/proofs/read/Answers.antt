@@ -29,7 +29,7 @@ returns-in-Astray c =
     let fits : length t ≤ longest = c.if-text-gt-LONGEST.false in
     let prolog = prolog-at t c.in-At.is c.prolog_end.ensures in
     let place = c.in-At.p in
-    let spaced = c.space_end-start.ensures in
+    let spaced = c.run_end-start.ensures in
     refused-so
     t
     _
@@ -50,7 +50,7 @@ returns-then-behind-text c =
     let fits : length t ≤ longest = c.if-text-gt-LONGEST.false in
     let prolog = prolog-at t c.in-At.is c.prolog_end.ensures in
     let place = c.in-At.p in
-    let spaced = c.space_end-start.ensures in
+    let spaced = c.run_end-start.ensures in
     let w = walk-arrived t _ _ c.in-Arrived.is c.walk.ensures in
     refused-so
     t
@@ -69,7 +69,7 @@ returns-then-behind-text c =
     _
     w.arrives
     w.within
-    c.space_end-behind.ensures
+    c.run_end-behind.ensures
     c.if-behind-text.true)
 
 pub returns : goal.returns
@@ -78,7 +78,7 @@ returns c =
     let fits : length t ≤ longest = c.if-text-gt-LONGEST.false in
     let prolog = prolog-at t c.in-At.is c.prolog_end.ensures in
     let place = c.in-At.p in
-    let spaced = c.space_end-start.ensures in
+    let spaced = c.run_end-start.ensures in
     let w = walk-arrived t _ _ c.in-Arrived.is c.walk.ensures in
     judged-so
     t
@@ -99,6 +99,6 @@ returns c =
     _
     w.arrives
     w.within
-    c.space_end-behind.ensures
+    c.run_end-behind.ensures
     c.if-behind-text.false)
     (c.judge.ensures w.seen w.keeps)

@@ -1,3 +1,4 @@
+use Rattle.std.proofs.Common.{rules, ◌≡◌, Ok, is_ok, false}
 use native.Mathlib.Omega.{arith}
 use lib.ListN.{drop}
 use Rattle.xml.specs.Bytes.{is_space, run}
@@ -7,33 +8,37 @@ use Rattle.tags.proofs.long_tag_end.Goals as goal
 
 pub loop-from-init : goal.loop-from-init
 loop-from-init c =
-    let a = c.args in starts a.text.now a.at c.space_end-next.ensures
+    let a = c.args in starts a.text.now a.at c.run_end-next.ensures
 
-pub returns-in-Broken : goal.returns-in-Broken
-returns-in-Broken c =
+pub returns-in_err-from : goal.returns-in_err-from
+returns-in_err-from c =
     λ name.
     let a = c.args in
     let s = a.text.now in
-    let none = broken-there s c.loop-from.next c.attribute_end.ensures c.in-Broken.is in
-    misread-tag s a.at name c.in-Broken.p (misread-at s a.at c.loop-from.invariant c.begins.ensures c.loop-from-test.true none)
+    let failed : is_ok c.attribute_end.result ≡ false = search rules in
+    let none = broken-there s c.loop-from.next c.attribute_end.result c.attribute_end.ensures failed in
+    misread-tag s a.at name _ c.from_residual.ensures.0 (misread-at s a.at c.loop-from.invariant c.begins.ensures c.loop-from-test.true none)
 
 pub overflow_add-count : goal.overflow_add-count
 overflow_add-count c =
     let s = c.args.text.now in
-    let one = ended-there s c.loop-from.next c.attribute_end.ensures c.in-At.is in
+    let ended : c.attribute_end.result ≡ Ok c.in_ok-from.from = search rules in
+    let one = ended-there s c.loop-from.next c.attribute_end.ensures ended in
     omega (arith, one.2, one.3, c.loop-from.invariant.few, c.loop-from.invariant.next-is)
 
 pub loop-from-smaller : goal.loop-from-smaller
 loop-from-smaller c =
     let s = c.args.text.now in
-    let one = ended-there s c.loop-from.next c.attribute_end.ensures c.in-At.is in
+    let ended : c.attribute_end.result ≡ Ok c.in_ok-from.from = search rules in
+    let one = ended-there s c.loop-from.next c.attribute_end.ensures ended in
     omega (arith, one.2, one.3, c.loop-from.invariant.next-is)
 
 pub loop-from-preserved : goal.loop-from-preserved
 loop-from-preserved c =
     let a = c.args in
     let s = a.text.now in
-    let one = ended-there s c.loop-from.next c.attribute_end.ensures c.in-At.is in
+    let ended : c.attribute_end.result ≡ Ok c.in_ok-from.from = search rules in
+    let one = ended-there s c.loop-from.next c.attribute_end.ensures ended in
     goes_on
     s
     a.at
@@ -44,7 +49,7 @@ loop-from-preserved c =
     one.1
     one.2
     one.3
-    c.space_end-next-in-loop-from.ensures
+    c.run_end-next-in-loop-from.ensures
 
 pub returns : goal.returns
 returns c =

@@ -11,19 +11,19 @@ returns-in_default c = λ fuel more space z read.
 pub overflow_add-rest : goal.overflow_add-rest
 overflow_add-rest c =
     let a = c.args in
-    let h = there a.text.now a.at c.attribute_at.ensures c.in-Read.is in
+    let h = there a.text.now a.at c.attribute_at.ensures c.in-Some.is in
     omega (arith, h.within)
 
 pub three-named-requires : goal.three-named-requires
 three-named-requires c =
     let a = c.args in
-    let h = there a.text.now a.at c.attribute_at.ensures c.in-Read.is in
+    let h = there a.text.now a.at c.attribute_at.ensures c.in-Some.is in
     (h.name-ends, h.name-within)
 
 pub three-valued-requires : goal.three-valued-requires
 three-valued-requires c =
     let a = c.args in
-    let h = there a.text.now a.at c.attribute_at.ensures c.in-Read.is in
+    let h = there a.text.now a.at c.attribute_at.ensures c.in-Some.is in
     (h.value-ends, omega (arith, h.within))
 
 pub returns : goal.returns
@@ -37,8 +37,8 @@ returns c = λ fuel more space z read.
     space
     z
     read
-    c.in-Read.is
-    c.space_end.ensures
+    c.in-Some.is
+    c.run_end.ensures
     c.three-named.ensures
     c.three-valued.ensures
     c.begins.ensures

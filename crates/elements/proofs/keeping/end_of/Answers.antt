@@ -6,7 +6,7 @@ use Rattle.elements.proofs.keeping.end_of.Goals as goal
 
 pub returns-then-reads : goal.returns-then-reads
 returns-then-reads c = (
-  simp (c.if-reads.true, c.text_end.ensures),
+  simp (c.if-reads.true, c.run_end.ensures),
   omega arith,
-  omega (arith, c.text_end.ensures, end-within is_text c.args.text.now c.args.at c.requires),
+  omega (arith, c.run_end.ensures, end-within is_text c.args.text.now c.args.at c.requires),
 )

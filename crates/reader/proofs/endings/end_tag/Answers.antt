@@ -19,13 +19,13 @@ returns-then-not-same_name c =
 pub returns-then-byte-ne62 : goal.returns-then-byte-ne62
 returns-then-byte-ne62 c =
     let a = c.args in
-    let closing = c.space_end-end.ensures in
+    let closing = c.run_end-end.ensures in
     end-open a.text.now a.at a.from a.to (search rules) (search rules) closing c.byte.ensures c.if-byte-ne62.true
 
 pub overflow_add-result : goal.overflow_add-result
 overflow_add-result c =
     let a = c.args in
-    let closing = c.space_end-end.ensures in
+    let closing = c.run_end-end.ensures in
     let byte = c.byte.ensures in
     let fits = end_fits a.text.now a.at a.from a.to (search rules) (search rules) closing byte c.if-byte-ne62.false in
     search rules
@@ -33,7 +33,7 @@ overflow_add-result c =
 pub returns : goal.returns
 returns c =
     let a = c.args in
-    let closing = c.space_end-end.ensures in
+    let closing = c.run_end-end.ensures in
     let byte = c.byte.ensures in
     let e = c.same_name.ensures in
     let h = ap not c.if-not-same_name.false in

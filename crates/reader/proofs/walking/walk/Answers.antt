@@ -1,11 +1,12 @@
 -- `reader::walking::walk` meets its contract: the root by its tag, and what it holds. Assumes nothing.
-use Rattle.std.proofs.Common.{ℕ, ◌+◌, List, [], drop, sym, ◌∙◌, ap, arith}
+use Rattle.std.proofs.Common.{◌≡◌, Ok, ℕ, ◌+◌, List, [], drop, sym, ◌∙◌, ap, arith, rules}
 use mathlib.Core.Bool.{not}
 use Rattle.xml.specs.Bytes.{is_name, run}
 use Rattle.xml.specs.Scanning.{attributes_of, TagRead, tag_behind}
 use Rattle.pacs.proofs.Going.{root-no-name, root-not-tag, closes-of}
 use Rattle.reader.proofs.Turns.{first, no-first, closed-root}
-use Rattle.reader.proofs.TagsRead.{opened, closed, broken, repeated}
+use Rattle.tags.specs.declared.TagEnd.TheVariants.{Opens, Closes}
+use Rattle.reader.proofs.TagsRead.{opened, closed, no-tag-there}
 use Rattle.reader.proofs.walking.walk.Goals as goal
 
 -- the name behind a place, and the tag that is read behind it
@@ -24,12 +25,13 @@ returns-then-not-is_first c =
 pub within-requires : goal.within-requires
 within-requires c =
     let t = c.args.text.now in
-    let behind = c.name_end_by-end.result in
-    let read = opened t behind (read_at t c.args.start behind) c.in-Opens.is (c.long_tag_end.ensures (word_at t c.args.start)) in (
+    let behind = c.run_end-end.result in
+    let ended : c.long_tag_end.result ≡ Ok (Opens c.in-Ok-Opens.p) = search rules in
+    let read = opened t behind (read_at t c.args.start behind) ended (c.long_tag_end.ensures (word_at t c.args.start)) in (
       record {
         less = sym c.byte.ensures ∙ c.if-byte-ne60.false;
         first = first t _ c.is_first.ensures c.byte-2.ensures (ap not c.if-not-is_first.false);
-        name = c.name_end_by-end.ensures;
+        name = c.run_end-end.ensures;
         within = read.within;
         later = read.later;
         tag = read.tag;
@@ -37,51 +39,52 @@ within-requires c =
       },
       c.requires.0,
       c.requires.1,
-      c.names-names.ensures,
     )
 
 pub meet-requires : goal.meet-requires
 meet-requires c =
     let t = c.args.text.now in
-    let behind = c.name_end_by-end.result in
-    let name = c.name_end_by-end.ensures in
-    let read = closed t behind (read_at t c.args.start behind) c.in-Closes.is (c.long_tag_end.ensures (word_at t c.args.start)) in
+    let behind = c.run_end-end.result in
+    let name = c.run_end-end.ensures in
+    let ended : c.long_tag_end.result ≡ Ok (Closes c.in-Ok-Closes.p) = search rules in
+    let read = closed t behind (read_at t c.args.start behind) ended (c.long_tag_end.ensures (word_at t c.args.start)) in
     let later = read.later in
     let within = read.within in
     (omega arith, omega arith, omega arith, c.requires.1)
 
-pub returns-in-Closes : goal.returns-in-Closes
-returns-in-Closes c =
+pub returns-in-Ok-Closes : goal.returns-in-Ok-Closes
+returns-in-Ok-Closes c =
     let t = c.args.text.now in
-    let behind = c.name_end_by-end.result in
-    let read = closed t behind (read_at t c.args.start behind) c.in-Closes.is (c.long_tag_end.ensures (word_at t c.args.start)) in
+    let behind = c.run_end-end.result in
+    let ended : c.long_tag_end.result ≡ Ok (Closes c.in-Ok-Closes.p) = search rules in
+    let read = closed t behind (read_at t c.args.start behind) ended (c.long_tag_end.ensures (word_at t c.args.start)) in
     let of = closes-of (word_at t c.args.start) (attributes_of (drop behind t)) read.tag _ read.read in
     closed-root
     t
     c.args.start
     (sym c.byte.ensures ∙ c.if-byte-ne60.false)
     (first t _ c.is_first.ensures c.byte-2.ensures (ap not c.if-not-is_first.false))
-    c.name_end_by-end.ensures
+    c.run_end-end.ensures
     read.tag
     read.read
     read.within
     c.meet.ensures.is
     (c.meet.ensures.keeps [] read.tag of.space of.rest of.attributes c.requires.0)
 
-pub returns-in-Broken : goal.returns-in-Broken
-returns-in-Broken c =
+pub returns-in-Err-Broken : goal.returns-in-Err-Broken
+returns-in-Err-Broken c =
     let t = c.args.text.now in
-    let behind = c.name_end_by-end.result in
+    let behind = c.run_end-end.result in
     root-not-tag t c.args.start (sym c.byte.ensures ∙ c.if-byte-ne60.false)
     (first t _ c.is_first.ensures c.byte-2.ensures (ap not c.if-not-is_first.false))
-    c.name_end_by-end.ensures
-    (broken t behind (read_at t c.args.start behind) c.in-Broken.is (c.long_tag_end.ensures (word_at t c.args.start)))
+    c.run_end-end.ensures
+    (no-tag-there t behind (read_at t c.args.start behind) c.in-Err-Broken.is (c.long_tag_end.ensures (word_at t c.args.start)))
 
-pub returns-in-Repeated : goal.returns-in-Repeated
-returns-in-Repeated c =
+pub returns-in-Err-Repeated : goal.returns-in-Err-Repeated
+returns-in-Err-Repeated c =
     let t = c.args.text.now in
-    let behind = c.name_end_by-end.result in
+    let behind = c.run_end-end.result in
     root-not-tag t c.args.start (sym c.byte.ensures ∙ c.if-byte-ne60.false)
     (first t _ c.is_first.ensures c.byte-2.ensures (ap not c.if-not-is_first.false))
-    c.name_end_by-end.ensures
-    (repeated t behind (read_at t c.args.start behind) c.in-Repeated.is (c.long_tag_end.ensures (word_at t c.args.start)))
+    c.run_end-end.ensures
+    (no-tag-there t behind (read_at t c.args.start behind) c.in-Err-Repeated.is (c.long_tag_end.ensures (word_at t c.args.start)))

@@ -1,5 +1,5 @@
 -- `reader::walking::within` meets its contract: each turn of the loop is a law of pacs' Going.antt. Assumes nothing.
-use Rattle.std.proofs.Common.{ℕ, ◌+◌, ◌-◌, ◌<◌, List, [], get_or, drop, replicate, refl, sym, ◌∙◌, ap, arith, rules}
+use Rattle.std.proofs.Common.{◌≡◌, Ok, ℕ, ◌+◌, ◌-◌, ◌<◌, List, [], get_or, drop, replicate, refl, sym, ◌∙◌, ap, arith, rules}
 use mathlib.Core.Bool.{not}
 use Rattle.xml.specs.Bytes.{is_name, run}
 use Rattle.xml.specs.Scanning.{attributes_of, TagRead, tag_behind}
@@ -7,7 +7,8 @@ use Rattle.xml.proofs.Places.{byte-within}
 use Rattle.pacs.specs.Kept.{placed_text}
 use Rattle.pacs.proofs.Going.{no-tag, no_end, going-ends, no_name, too-deep, not-tag, going-opens, going-closes, root-opens, opens_of, closes-of}
 use Rattle.reader.proofs.Turns.{stacked-top, other-end, behind-end, first, no-first, no_slash}
-use Rattle.reader.proofs.TagsRead.{opened, closed, broken, repeated}
+use Rattle.tags.specs.declared.TagEnd.TheVariants.{Opens, Closes}
+use Rattle.reader.proofs.TagsRead.{opened, closed, no-tag-there}
 use Rattle.reader.proofs.walking.within.Goals as goal
 
 -- the name behind a place, and the tag that is read behind it
@@ -61,7 +62,7 @@ returns-then-byte-ne60 c =
     no-tag
     c.loop-depth.invariant.going
     c.loop-depth-test.true
-    c.text_end-tag.ensures
+    c.run_end-tag.ensures
     (λ e. c.if-byte-ne60.true (c.byte.ensures ∙ e))
 
 pub end_tag-requires : goal.end_tag-requires
@@ -75,12 +76,12 @@ returns-in_default c =
     no_end
     c.loop-depth.invariant.going
     c.loop-depth-test.true
-    c.text_end-tag.ensures
+    c.run_end-tag.ensures
     (sym c.byte.ensures ∙ c.if-byte-ne60.false)
     (sym c.byte-b.ensures ∙ c.if-b-eq47.true)
     _
     refl
-    (other-end c.args.text.now (c.text_end-tag.result + 1 + 1)
+    (other-end c.args.text.now (c.run_end-tag.result + 1 + 1)
     (placed_text c.args.text.now (get_or c.loop-depth.starts (c.loop-depth.depth - 1) 0) (get_or c.loop-depth.ends (c.loop-depth.depth - 1) 0))
     c.in_default.is c.end_tag.ensures)
 
@@ -92,7 +93,7 @@ loop-depth-preserved-then-b-eq47 c =
     let later = read.2 in
     record {
       going =
-          going-ends c.loop-depth.invariant.going c.loop-depth-test.true c.text_end-tag.ensures less slash _ refl _ read.0 read.1
+          going-ends c.loop-depth.invariant.going c.loop-depth-test.true c.run_end-tag.ensures less slash _ refl _ read.0 read.1
           (omega arith);
       within = read.3;
       starts = c.loop-depth.invariant.starts;
@@ -107,7 +108,7 @@ returns-then-not-is_first c =
     no_name
     c.loop-depth.invariant.going
     c.loop-depth-test.true
-    c.text_end-tag.ensures
+    c.run_end-tag.ensures
     (sym c.byte.ensures ∙ c.if-byte-ne60.false)
     (no_slash t _ c.byte-b.ensures c.if-b-eq47.false)
     (no-first t _ c.is_first.ensures c.byte-b.ensures (ap not c.if-not-is_first.true))
@@ -118,7 +119,7 @@ returns-then-depth-eq-DEEPEST c =
     too-deep
     c.loop-depth.invariant.going
     c.loop-depth-test.true
-    c.text_end-tag.ensures
+    c.run_end-tag.ensures
     (sym c.byte.ensures ∙ c.if-byte-ne60.false)
     (no_slash t _ c.byte-b.ensures c.if-b-eq47.false)
     (first t _ c.is_first.ensures c.byte-b.ensures (ap not c.if-not-is_first.false))
@@ -128,10 +129,11 @@ returns-then-depth-eq-DEEPEST c =
 pub meet-row-requires : goal.meet-row-requires
 meet-row-requires c =
     let t = c.args.text.now in
-    let place = c.text_end-tag.result in
-    let behind = c.name_end_by-end.result in
-    let name = c.name_end_by-end.ensures in
-    let read = opened t behind (read_at t place behind) c.in-Opens.is (c.tag_end.ensures (word_at t place)) in
+    let place = c.run_end-tag.result in
+    let behind = c.run_end-end.result in
+    let name = c.run_end-end.ensures in
+    let ended : c.tag_end.result ≡ Ok (Opens c.in-Opens.p) = c.in-Ok.is ∙ ap Ok c.in-Opens.is in
+    let read = opened t behind (read_at t place behind) ended (c.tag_end.ensures (word_at t place)) in
     let later = read.later in
     let within = read.within in
     (omega arith, omega arith, omega arith, c.loop-depth.invariant.kept)
@@ -139,11 +141,12 @@ meet-row-requires c =
 pub loop-depth-smaller-in-Opens : goal.loop-depth-smaller-in-Opens
 loop-depth-smaller-in-Opens c =
     let t = c.args.text.now in
-    let place = c.text_end-tag.result in
-    let behind = c.name_end_by-end.result in
-    let tag = c.text_end-tag.ensures in
-    let name = c.name_end_by-end.ensures in
-    let read = opened t behind (read_at t place behind) c.in-Opens.is (c.tag_end.ensures (word_at t place)) in
+    let place = c.run_end-tag.result in
+    let behind = c.run_end-end.result in
+    let tag = c.run_end-tag.ensures in
+    let name = c.run_end-end.ensures in
+    let ended : c.tag_end.result ≡ Ok (Opens c.in-Opens.p) = c.in-Ok.is ∙ ap Ok c.in-Opens.is in
+    let read = opened t behind (read_at t place behind) ended (c.tag_end.ensures (word_at t place)) in
     let later = read.later in
     let within = read.within in
     omega arith
@@ -151,11 +154,12 @@ loop-depth-smaller-in-Opens c =
 pub loop-depth-preserved-in-Opens : goal.loop-depth-preserved-in-Opens
 loop-depth-preserved-in-Opens c =
     let t = c.args.text.now in
-    let place = c.text_end-tag.result in
-    let behind = c.name_end_by-end.result in
-    let tag = c.text_end-tag.ensures in
-    let name = c.name_end_by-end.ensures in
-    let read = opened t behind (read_at t place behind) c.in-Opens.is (c.tag_end.ensures (word_at t place)) in
+    let place = c.run_end-tag.result in
+    let behind = c.run_end-end.result in
+    let tag = c.run_end-tag.ensures in
+    let name = c.run_end-end.ensures in
+    let ended : c.tag_end.result ≡ Ok (Opens c.in-Opens.p) = c.in-Ok.is ∙ ap Ok c.in-Opens.is in
+    let read = opened t behind (read_at t place behind) ended (c.tag_end.ensures (word_at t place)) in
     let later = read.later in
     let within = read.within in
     let g = c.loop-depth.invariant.going in
@@ -194,10 +198,11 @@ loop-depth-preserved-in-Opens c =
 pub meet-requires-in-Closes : goal.meet-requires-in-Closes
 meet-requires-in-Closes c =
     let t = c.args.text.now in
-    let place = c.text_end-tag.result in
-    let behind = c.name_end_by-end.result in
-    let name = c.name_end_by-end.ensures in
-    let read = closed t behind (read_at t place behind) c.in-Closes.is (c.tag_end.ensures (word_at t place)) in
+    let place = c.run_end-tag.result in
+    let behind = c.run_end-end.result in
+    let name = c.run_end-end.ensures in
+    let ended : c.tag_end.result ≡ Ok (Closes c.in-Closes.p) = c.in-Ok.is ∙ ap Ok c.in-Closes.is in
+    let read = closed t behind (read_at t place behind) ended (c.tag_end.ensures (word_at t place)) in
     let later = read.later in
     let within = read.within in
     (omega arith, omega arith, omega arith, c.loop-depth.invariant.kept)
@@ -205,11 +210,12 @@ meet-requires-in-Closes c =
 pub loop-depth-smaller : goal.loop-depth-smaller
 loop-depth-smaller c =
     let t = c.args.text.now in
-    let place = c.text_end-tag.result in
-    let behind = c.name_end_by-end.result in
-    let tag = c.text_end-tag.ensures in
-    let name = c.name_end_by-end.ensures in
-    let read = closed t behind (read_at t place behind) c.in-Closes.is (c.tag_end.ensures (word_at t place)) in
+    let place = c.run_end-tag.result in
+    let behind = c.run_end-end.result in
+    let tag = c.run_end-tag.ensures in
+    let name = c.run_end-end.ensures in
+    let ended : c.tag_end.result ≡ Ok (Closes c.in-Closes.p) = c.in-Ok.is ∙ ap Ok c.in-Closes.is in
+    let read = closed t behind (read_at t place behind) ended (c.tag_end.ensures (word_at t place)) in
     let later = read.later in
     let within = read.within in
     omega arith
@@ -217,11 +223,12 @@ loop-depth-smaller c =
 pub loop-depth-preserved : goal.loop-depth-preserved
 loop-depth-preserved c =
     let t = c.args.text.now in
-    let place = c.text_end-tag.result in
-    let behind = c.name_end_by-end.result in
-    let tag = c.text_end-tag.ensures in
-    let name = c.name_end_by-end.ensures in
-    let read = closed t behind (read_at t place behind) c.in-Closes.is (c.tag_end.ensures (word_at t place)) in
+    let place = c.run_end-tag.result in
+    let behind = c.run_end-end.result in
+    let tag = c.run_end-tag.ensures in
+    let name = c.run_end-end.ensures in
+    let ended : c.tag_end.result ≡ Ok (Closes c.in-Closes.p) = c.in-Ok.is ∙ ap Ok c.in-Closes.is in
+    let read = closed t behind (read_at t place behind) ended (c.tag_end.ensures (word_at t place)) in
     let later = read.later in
     let within = read.within in
     let g = c.loop-depth.invariant.going in
@@ -253,32 +260,32 @@ loop-depth-preserved c =
       kept = met.sized;
     }
 
-pub returns-in-Broken : goal.returns-in-Broken
-returns-in-Broken c =
+pub returns-in-Err-Broken : goal.returns-in-Err-Broken
+returns-in-Err-Broken c =
     let t = c.args.text.now in
-    let place = c.text_end-tag.result in
-    let behind = c.name_end_by-end.result in
+    let place = c.run_end-tag.result in
+    let behind = c.run_end-end.result in
     not-tag
     c.loop-depth.invariant.going
     c.loop-depth-test.true
-    c.text_end-tag.ensures
+    c.run_end-tag.ensures
     (sym c.byte.ensures ∙ c.if-byte-ne60.false)
     (no_slash t _ c.byte-b.ensures c.if-b-eq47.false)
     (first t _ c.is_first.ensures c.byte-b.ensures (ap not c.if-not-is_first.false))
-    c.name_end_by-end.ensures
-    (broken t behind (read_at t place behind) c.in-Broken.is (c.tag_end.ensures (word_at t place)))
+    c.run_end-end.ensures
+    (no-tag-there t behind (read_at t place behind) c.in-Err-Broken.is (c.tag_end.ensures (word_at t place)))
 
-pub returns-in-Repeated : goal.returns-in-Repeated
-returns-in-Repeated c =
+pub returns-in-Err-Repeated : goal.returns-in-Err-Repeated
+returns-in-Err-Repeated c =
     let t = c.args.text.now in
-    let place = c.text_end-tag.result in
-    let behind = c.name_end_by-end.result in
+    let place = c.run_end-tag.result in
+    let behind = c.run_end-end.result in
     not-tag
     c.loop-depth.invariant.going
     c.loop-depth-test.true
-    c.text_end-tag.ensures
+    c.run_end-tag.ensures
     (sym c.byte.ensures ∙ c.if-byte-ne60.false)
     (no_slash t _ c.byte-b.ensures c.if-b-eq47.false)
     (first t _ c.is_first.ensures c.byte-b.ensures (ap not c.if-not-is_first.false))
-    c.name_end_by-end.ensures
-    (repeated t behind (read_at t place behind) c.in-Repeated.is (c.tag_end.ensures (word_at t place)))
+    c.run_end-end.ensures
+    (no-tag-there t behind (read_at t place behind) c.in-Err-Repeated.is (c.tag_end.ensures (word_at t place)))

@@ -10,17 +10,17 @@ returns c =
     a.at
     _
     _
-    c.space_end-from.ensures
-    c.name_end-end.ensures
+    c.run_end-from.ensures
+    c.run_end-end.ensures
     _
     c.past_byte-spaced.result
     _
     c.past_byte-value.result
     _
     c.past_byte.result
-    c.space_end-equals.ensures
+    c.run_end-equals.ensures
     c.past_byte-spaced.ensures
-    c.space_end-quote.ensures
+    c.run_end-quote.ensures
     c.past_byte-value.ensures
-    c.value_end-close.ensures
+    c.run_end-close.ensures
     c.past_byte.ensures

@@ -9,12 +9,12 @@ use Rattle.scan.proofs.attributes.value_at.Goals as goal
 pub returns-then-byte-ne61 : goal.returns-then-byte-ne61
 returns-then-byte-ne61 c =
     let a = c.args in
-    no-equals a.text.now a.at c.name_end.ensures c.space_end-equals.ensures c.byte.ensures c.if-byte-ne61.true
+    no-equals a.text.now a.at c.run_end.ensures c.run_end-equals.ensures c.byte.ensures c.if-byte-ne61.true
 
 pub overflow_add-equals : goal.overflow_add-equals
 overflow_add-equals c =
     let a = c.args in
-    omega (arith, byte-within a.text.now c.space_end-equals.result 61 (sym c.byte.ensures ∙ c.if-byte-ne61.false) (omega arith))
+    omega (arith, byte-within a.text.now c.run_end-equals.result 61 (sym c.byte.ensures ∙ c.if-byte-ne61.false) (omega arith))
 
 pub returns-then-byte-ne34 : goal.returns-then-byte-ne34
 returns-then-byte-ne34 c =
@@ -22,18 +22,18 @@ returns-then-byte-ne34 c =
     no-quote
     a.text.now
     a.at
-    c.name_end.ensures
-    c.space_end-equals.ensures
+    c.run_end.ensures
+    c.run_end-equals.ensures
     c.byte.ensures
     c.if-byte-ne61.false
-    c.space_end-quote.ensures
+    c.run_end-quote.ensures
     c.byte-2.ensures
     c.if-byte-ne34.true
 
 pub overflow_add-result : goal.overflow_add-result
 overflow_add-result c =
     let a = c.args in
-    omega (arith, byte-within a.text.now c.space_end-quote.result 34 (sym c.byte-2.ensures ∙ c.if-byte-ne34.false) (omega arith))
+    omega (arith, byte-within a.text.now c.run_end-quote.result 34 (sym c.byte-2.ensures ∙ c.if-byte-ne34.false) (omega arith))
 
 pub returns : goal.returns
 returns c =
@@ -41,10 +41,10 @@ returns c =
     value-begins
     a.text.now
     a.at
-    c.name_end.ensures
-    c.space_end-equals.ensures
+    c.run_end.ensures
+    c.run_end-equals.ensures
     c.byte.ensures
     c.if-byte-ne61.false
-    c.space_end-quote.ensures
+    c.run_end-quote.ensures
     c.byte-2.ensures
     c.if-byte-ne34.false
