@@ -7,47 +7,40 @@ ghost use Rattle.verdict.specs.Meaning.{Gains};
 use rules::Cover;
 use rules::decision::Move;
 
-fn cover(available: u64, reserved: u64, held: u64, debit: u64) -> Cover
-    ensures { result ≡ record { available = available; reserved = reserved; held = held; debit = debit } }
-{
-    Cover {
-        available,
-        reserved,
-        held,
-        debit,
-    }
-}
-
 pub fn moved(how: Move, n: u64, c: Cover) -> Cover
     requires { Room how n c }
     ensures { result ≡ moved how n c }
 {
     match how {
         Move::Stay => c,
-        Move::Give => cover(c.available + n, c.reserved, c.held, c.debit),
-        Move::Draw => cover(c.available - n, c.reserved, c.held, c.debit),
-        Move::Reserve => cover(c.available - n, c.reserved + n, c.held, c.debit),
-        Move::Release => cover(c.available + n, c.reserved - n, c.held, c.debit),
-        Move::Spend => cover(c.available, c.reserved - n, c.held, c.debit),
-        Move::Credit => cover(c.available, c.reserved, 0, c.debit),
-        Move::Debit => cover(c.available + n, c.reserved, c.held, 0),
-    }
-}
-
-// Available where a cover stays, or is given.
-fn available_of(how: Move, n: u64, c: Cover) -> u64
-    requires { Gains how × Room how n c }
-    ensures { result ≡ (moved how n c).available }
-{
-    match how {
-        Move::Stay => c.available,
-        Move::Give => c.available + n,
-        Move::Draw => c.available,
-        Move::Reserve => c.available,
-        Move::Release => c.available,
-        Move::Spend => c.available,
-        Move::Credit => c.available,
-        Move::Debit => c.available,
+        Move::Give => Cover {
+            available: c.available + n,
+            ..c
+        },
+        Move::Draw => Cover {
+            available: c.available - n,
+            ..c
+        },
+        Move::Reserve => Cover {
+            available: c.available - n,
+            reserved: c.reserved + n,
+            ..c
+        },
+        Move::Release => Cover {
+            available: c.available + n,
+            reserved: c.reserved - n,
+            ..c
+        },
+        Move::Spend => Cover {
+            reserved: c.reserved - n,
+            ..c
+        },
+        Move::Credit => Cover { held: 0, ..c },
+        Move::Debit => Cover {
+            available: c.available + n,
+            debit: 0,
+            ..c
+        },
     }
 }
 
@@ -56,7 +49,13 @@ pub fn gained(how: Move, n: u64, c: Cover) -> Cover
     requires { Gains how × Room how n c }
     ensures { result ≡ moved how n c }
 {
-    cover(available_of(how, n, c), c.reserved, c.held, c.debit)
+    match how {
+        Move::Give => Cover {
+            available: c.available + n,
+            ..c
+        },
+        _ => c,
+    }
 }
 
 // Available, reserved and held.

@@ -20,9 +20,8 @@ fn with_held(n: u64, c: Cover) -> Cover
 {
     Cover {
         available: c.available - n,
-        reserved: c.reserved,
         held: c.held + n,
-        debit: c.debit,
+        ..c
     }
 }
 
@@ -30,12 +29,7 @@ fn with_held(n: u64, c: Cover) -> Cover
 fn with_debit(n: u64, c: Cover) -> Cover
     ensures { result ≡ with_debit n c }
 {
-    Cover {
-        available: c.available,
-        reserved: c.reserved,
-        held: c.held,
-        debit: n,
-    }
+    Cover { debit: n, ..c }
 }
 
 pub fn cut_cover(opening: Option<u64>, c: Cover) -> Cover
@@ -46,12 +40,12 @@ pub fn cut_cover(opening: Option<u64>, c: Cover) -> Cover
         return c;
     };
     if k < c.available {
-        return with_held(c.available - k, c);
+        with_held(c.available - k, c)
+    } else if c.available < k {
+        with_debit(k - c.available, c)
+    } else {
+        c
     }
-    if c.available < k {
-        return with_debit(k - c.available, c);
-    }
-    c
 }
 
 // At most one report.
@@ -63,26 +57,22 @@ pub fn cut_told(p: usize, opening: Option<u64>, c: Cover) -> Told
         return Told::Nobody;
     };
     if k < c.available {
-        return Told::One(tell::tell_cut(p, 11, c.available - k));
+        Told::One(tell::tell_cut(p, 11, c.available - k))
+    } else if c.available < k {
+        Told::One(tell::tell_cut(p, 10, k - c.available))
+    } else {
+        Told::Nobody
     }
-    if c.available < k {
-        return Told::One(tell::tell_cut(p, 10, k - c.available));
-    }
-    Told::Nobody
 }
 
 pub fn cut_covers(roster: Roster, covers: [Cover; 32]) -> [Cover; 32]
     requires { (roster.size ≤ 32) × ((p : ℕ) → p < roster.size → whole (cover_of covers p) ≤ most_total) }
     ensures { result ≡ cut_to roster covers roster.size }
 {
-    let size = roster.size;
     let mut after = covers;
-    let mut p = 0;
-    while p < size {
+    for p in 0..roster.size {
         let participant = roster.participants[p];
-        let opening = participant.opening;
-        after[p] = cut_cover(opening, covers[p]);
-        p += 1;
+        after[p] = cut_cover(participant.opening, covers[p]);
     }
     after
 }
@@ -94,14 +84,10 @@ pub fn put_cut(buffer: &mut [u8], n: usize, roster: Roster, covers: [Cover; 32])
         ≡ sets buffer.old (report_length * n) (reports_bytes (cut_reports_to roster covers roster.size)))
         × (result ≡ n + length (cut_reports_to roster covers roster.size)) }
 {
-    let size = roster.size;
     let mut m = n;
-    let mut p = 0;
-    while p < size {
+    for p in 0..roster.size {
         let participant = roster.participants[p];
-        let opening = participant.opening;
-        m = told::put_told(buffer, m, cut_told(p, opening, covers[p]));
-        p += 1;
+        m = told::put_told(buffer, m, cut_told(p, participant.opening, covers[p]));
     }
     m
 }

@@ -15,10 +15,8 @@ pub fn total_of(covers: [Cover; 32], size: usize) -> u64
     ensures { result ≡ total_of size covers }
 {
     let mut total = 0;
-    let mut p = 0;
-    while p < size {
-        total += cover::whole(covers[p]);
-        p += 1;
+    for &c in &covers[..size] {
+        total += cover::whole(c);
     }
     total
 }
@@ -29,10 +27,8 @@ pub fn any_open(covers: [Cover; 32], size: usize) -> bool
     ensures { result ≡ any_to (λ p. is_open (cover_of covers p)) size }
 {
     let mut open = false;
-    let mut p = 0;
-    while p < size {
-        open = open | find::is_open(covers[p]);
-        p += 1;
+    for &c in &covers[..size] {
+        open |= find::is_open(c);
     }
     open
 }
@@ -43,13 +39,9 @@ pub fn total_moved(how: Move, n: u64, c: Cover, total: u64) -> u64
     ensures { result ≡ total - whole c + whole (moved how n c) }
 {
     match how {
-        Move::Stay => total,
-        Move::Give => total + n,
-        Move::Draw => total - n,
-        Move::Reserve => total,
-        Move::Release => total,
-        Move::Spend => total - n,
+        Move::Stay | Move::Reserve | Move::Release => total,
+        Move::Give | Move::Debit => total + n,
+        Move::Draw | Move::Spend => total - n,
         Move::Credit => total - c.held,
-        Move::Debit => total + n,
     }
 }

@@ -1,15 +1,13 @@
-use mathlib.Core.Path.{◌≡◌, ◌∙◌, ap}
+use mathlib.Core.Path.{◌∙◌, ap}
 use mathlib.Core.List.{List}
-use Prim.Native.Nat.{ℕ, ◌+◌, ◌*◌, ◌≤◌}
+use Prim.Native.Nat.{◌+◌, ◌*◌, ◌≤◌}
 use native.Mathlib.Omega.{arith}
 use lib.ListN.{length}
 use lib.Seq.{sets}
 use Rattle.report.specs.ReportLayout.{reports_bytes}
 use Rattle.report.specs.declared.Report.{Report}
-use Rattle.rules.specs.Cut.{cut_reports_to}
 use Rattle.rules.specs.Tell.{listed}
 use Rattle.moves.proofs.CutReports.{own-at-most-one, each-at-most-one, count-on, reports-on}
-use borrow.Author.Rules.{rules}
 use Rattle.moves.proofs.cut.put_cut.Goals as goal
 
 pub put_told-m-requires : goal.put_told-m-requires
@@ -23,21 +21,11 @@ pub loop-p-preserved : goal.loop-p-preserved
 loop-p-preserved c =
     let a = c.args in
     let is = c.cut_told.ensures in (
-      search rules,
-      c.put_told-m.auto.buffer ∙ c.loop-p.invariant.1,
       c.put_told-m.ensures.1
           ∙ ap (λ (rs : List Report). c.loop-p.m + length rs) is
-          ∙ count-on a.roster a.covers c.loop-p.p a.n c.loop-p.m c.loop-p.invariant.2,
+          ∙ count-on a.roster a.covers c.loop-p.p a.n c.loop-p.m c.loop-p.invariant.0,
       c.put_told-m.ensures.0
           ∙ ap (λ (rs : List Report). sets c.loop-p.buffer (12 * c.loop-p.m) (reports_bytes rs)) is
           ∙ reports-on a.roster a.covers c.loop-p.p a.n c.loop-p.m a.buffer.now c.loop-p.buffer
-          c.loop-p.invariant.2 c.loop-p.invariant.3,
-    )
-
-pub returns : goal.returns
-returns c =
-    let a = c.args in
-    let end : c.loop-p.p ≡ a.roster.size = omega arith in (
-      c.loop-p.invariant.3 ∙ ap (λ (k : ℕ). sets a.buffer.now (12 * a.n) (reports_bytes (cut_reports_to a.roster a.covers k))) end,
-      c.loop-p.invariant.2 ∙ ap (λ (k : ℕ). a.n + length (cut_reports_to a.roster a.covers k)) end,
+          c.loop-p.invariant.0 c.loop-p.invariant.1,
     )

@@ -1,5 +1,5 @@
 -- `moves::told::put_notices` meets its contract. Assumes nothing.
-use mathlib.Core.Path.{◌≡◌, refl, ◌∙◌, ap}
+use mathlib.Core.Path.{◌≡◌, ◌∙◌, ap}
 use mathlib.Core.Bool.{Bool, true, false, cond}
 use mathlib.Core.List.{List, [], ◌∷◌}
 use Prim.Native.Nat.{ℕ, ◌+◌, ◌*◌, ◌≤◌}
@@ -14,7 +14,7 @@ use Rattle.rules.specs.Tell.{listed}
 use Rattle.rules.specs.declared.decision.Told.TheVariants.{One, Two}
 use Rattle.rules.specs.declared.verdict.Notice.{Notice}
 use Rattle.verdict.specs.Meaning.{report_by, notices_told}
-use Rattle.verdict.proofs.VerdictMoving.{told_none, told-one, told-two}
+use Rattle.verdict.proofs.VerdictMoving.{told-one, told-two}
 use borrow.Author.Rules.{rules}
 use Rattle.moves.proofs.told.put_notices.Goals.{After-report_by}
 use Rattle.moves.proofs.told.put_notices.Goals.{After-put_report}
@@ -45,26 +45,10 @@ first-text c =
     ∙ ap (λ (r : Report). sets a.buffer.now (12 * a.n) (report_bytes r)) c.report_by.ensures
     ∙ put_one a.buffer.now (12 * a.n) _
 
-pub returns-then-none : goal.returns-then-none
-returns-then-none c =
-    let a = c.args in
-    rw (told_none a.told a.also a.i a.amount c.if-none.true-raw) (refl, search rules)
-
-pub put_report-requires : goal.put_report-requires
-put_report-requires c =
-    let h = told-some c in let p = c.requires.3 in search rules
-
 pub returns-then-alone : goal.returns-then-alone
 returns-then-alone c =
     let a = c.args in
     rw (told-one a.told a.also a.i a.amount c.if-none.false-raw c.if-alone.true-raw) (first-text (goal.at.returns-then-alone c).After-put_report, search rules)
-
-pub put_report-requires-2 : goal.put_report-requires-2
-put_report-requires-2 c =
-    let a = c.args in
-    let two = ap length (told-two a.told a.also a.i a.amount c.if-none.false-raw c.if-alone.false-raw) in
-    let p = c.requires.3 in
-    search rules
 
 pub returns : goal.returns
 returns c =

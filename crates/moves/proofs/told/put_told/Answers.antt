@@ -1,5 +1,5 @@
 -- `moves::told::put_told` meets its contract. Assumes nothing.
-use mathlib.Core.Path.{refl, ◌∙◌, ap}
+use mathlib.Core.Path.{◌∙◌, ap}
 use mathlib.Core.List.{List}
 use Prim.Native.Nat.{ℕ, ◌+◌, ◌*◌}
 use lib.Seq.{sets}
@@ -7,23 +7,6 @@ use Rattle.report.specs.ReportLayout.{report_bytes}
 use Rattle.report.proofs.ReportLaws.{put_one, put_two}
 use borrow.Author.Rules.{rules}
 use Rattle.moves.proofs.told.put_told.Goals as goal
-
-pub put_report-requires : goal.put_report-requires
-put_report-requires c =
-    rw c.in-One.is at c.requires
-
-pub put_report-requires-in-Two : goal.put_report-requires-in-Two
-put_report-requires-in-Two c =
-    let h = rw c.in-Two.is at c.requires in search rules
-
-pub put_report-requires-in-Two-2 : goal.put_report-requires-in-Two-2
-put_report-requires-in-Two-2 c =
-    let h = rw c.in-Two.is at c.requires in
-    search rules
-
-pub returns-in-Nobody : goal.returns-in-Nobody
-returns-in-Nobody c =
-    rw c.in-Nobody.is (refl, search rules)
 
 pub returns-in-One : goal.returns-in-One
 returns-in-One c =
