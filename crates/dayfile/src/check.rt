@@ -1,4 +1,5 @@
-// What each of refusals 2 to 5 answers.
+// What each of refusals 2 to 5 answers. Each is an enum, though of two cases without a value: by 01 each check answers an enum, and
+// `FileRefusal.antt` gives the number for each case.
 
 // 2. Participants not 1 to 32, routes above 64 or tickets above 512.
 #[derive(Clone, Copy)]

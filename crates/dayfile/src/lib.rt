@@ -13,7 +13,8 @@ use roster::Roster;
 pub use roster::is_bank;
 pub use route::{reached, rows_followed};
 
-// What a day file gives: the refusal, 0 if none; the roster, empty if refused; how many tickets there are and where the first lies.
+// What a day file gives: the refusal, 0 if none; the roster, empty if refused; how many tickets there are and where the first lies. It is
+// no Result, since a refused file gives a roster too: `open` makes the empty book by it (`refused_file`), as by any other.
 #[derive(Clone, Copy)]
 pub struct DayFile {
     pub refusal: u8,

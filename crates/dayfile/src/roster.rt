@@ -4,7 +4,7 @@ ghost use Rattle.dayfile.specs.Roster.{bank_kind};
 
 use super::limits;
 
-#[derive(Clone, Copy)]
+#[derive(Clone, Copy, PartialEq, Eq)]
 pub enum PartyKind {
     Bank,
     Linked,
@@ -21,11 +21,7 @@ pub struct Participant {
 pub fn is_bank(p: Participant) -> bool
     ensures { result ≡ bank_kind p.kind }
 {
-    let kind = p.kind;
-    match kind {
-        PartyKind::Bank => true,
-        PartyKind::Linked => false,
-    }
+    p.kind == PartyKind::Bank
 }
 
 // Where a route row leads: to a participant, or on to an earlier row.

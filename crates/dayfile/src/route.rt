@@ -13,17 +13,11 @@ pub struct Way {
 pub fn reached(way: Option<Way>) -> usize
     ensures { result ≡ reached way }
 {
-    match way {
-        Some(w) => w.participant,
-        None => 0,
-    }
+    way.map_or(0, |w| w.participant)
 }
 
 pub fn rows_followed(way: Option<Way>) -> usize
     ensures { result ≡ rows_followed way }
 {
-    match way {
-        Some(w) => w.rows,
-        None => 0,
-    }
+    way.map_or(0, |w| w.rows)
 }

@@ -6,8 +6,6 @@
 --     is_of                 whether a kind byte and a flag byte are those of a kind
 --     kind_among            the first of some kinds that they are of
 --     kinded               the one of all kinds that they are of; None where kind or flag is wrong
---     flagged              a kind whose flag lies between two numbers
---     yes_or_no              kind 4: flag 1 yes, 2 no
 -- Assumes nothing.
 use Rattle.std.specs.Prelude.{ℕ, Bool, ◌&&◌, cond, List, [], ◌∷◌, leb, eqb, None, Option, Some}
 use Rattle.ticket.specs.declared.kinds.Kind.{Kind}
@@ -73,9 +71,3 @@ kind_among (k ∷ ks) kind flag = cond (is_of k kind flag) (Some k) (kind_among 
 
 abbrev pub kinded : ℕ → ℕ → Option Kind
 kinded kind flag = kind_among all_kinds kind flag
-
-abbrev pub flagged : ℕ → ℕ → ℕ → Kind → Option Kind
-flagged flag low high kind = cond (leb low flag && leb flag high) (Some kind) None
-
-abbrev pub yes_or_no : ℕ → Option Kind
-yes_or_no flag = cond (leb 1 flag && leb flag 1) (Some Yes) (flagged flag 2 2 No)

@@ -1,6 +1,6 @@
 // The kind of a ticket, from its kind and flag bytes. A yes and a no are kinds of their own here.
 ghost use Rattle.std.specs.Prelude.{◌≡◌};
-ghost use Rattle.ticket.specs.Kind.{flagged, yes_or_no, kinded};
+ghost use Rattle.ticket.specs.Kind.{kinded};
 
 #[derive(Clone, Copy)]
 pub enum Kind {
@@ -18,41 +18,22 @@ pub enum Kind {
     Tick,
 }
 
-fn flagged(flag: u8, low: u8, high: u8, kind: Kind) -> Option<Kind>
-    ensures { result ≡ flagged flag low high kind }
-{
-    if (low <= flag) & (flag <= high) {
-        Some(kind)
-    } else {
-        None
-    }
-}
-
-fn answer(flag: u8) -> Option<Kind>
-    ensures { result ≡ yes_or_no flag }
-{
-    match flag {
-        1 => Some(Kind::Yes),
-        2 => Some(Kind::No),
-        _ => None,
-    }
-}
-
 pub fn kind_of(kind: u8, flag: u8) -> Option<Kind>
     ensures { result ≡ kinded kind flag }
 {
-    match kind {
-        1 => flagged(flag, 0, 0, Kind::CoverIn),
-        2 => flagged(flag, 0, 0, Kind::CoverOut),
-        3 => flagged(flag, 0, 0, Kind::Order),
-        4 => answer(flag),
-        5 => flagged(flag, 1, 4, Kind::Recall),
-        6 => flagged(flag, 0, 0, Kind::Return),
-        7 => flagged(flag, 1, 7, Kind::Decline),
-        8 => flagged(flag, 0, 0, Kind::Inquiry),
-        9 => flagged(flag, 0, 0, Kind::Cut),
-        10 => flagged(flag, 0, 0, Kind::Confirm),
-        11 => flagged(flag, 0, 0, Kind::Tick),
+    match (kind, flag) {
+        (1, 0) => Some(Kind::CoverIn),
+        (2, 0) => Some(Kind::CoverOut),
+        (3, 0) => Some(Kind::Order),
+        (4, 1) => Some(Kind::Yes),
+        (4, 2) => Some(Kind::No),
+        (5, 1..=4) => Some(Kind::Recall),
+        (6, 0) => Some(Kind::Return),
+        (7, 1..=7) => Some(Kind::Decline),
+        (8, 0) => Some(Kind::Inquiry),
+        (9, 0) => Some(Kind::Cut),
+        (10, 0) => Some(Kind::Confirm),
+        (11, 0) => Some(Kind::Tick),
         _ => None,
     }
 }

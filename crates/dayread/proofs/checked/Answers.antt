@@ -9,7 +9,7 @@ use lib.ListN.{length}
 use Rattle.dayfile.specs.Header.{headed}
 use Rattle.dayfile.specs.Check.{ranged, placed, enrolled, routed}
 use Rattle.dayfile.specs.Roster.{RowsWithin}
-use Rattle.dayfile.specs.DayFile.{day_file, refused_file, file_headed, file_ranged, file_placed, file_enrolled, file_routed}
+use Rattle.dayfile.specs.DayFile.{day_file, file_headed, file_ranged, file_placed, file_enrolled, file_routed}
 use Rattle.dayfile.specs.declared.header.Header.{Header}
 use Rattle.dayfile.specs.declared.check.Ranged.TheVariants.{Within}
 use Rattle.dayfile.specs.declared.check.Placed.TheVariants.{Right}
@@ -17,14 +17,7 @@ use Rattle.dayfile.specs.declared.check.Enrolled.{Enrolled}
 use Rattle.dayfile.specs.declared.check.Enrolled.TheVariants as participants-are
 use Rattle.dayfile.specs.declared.check.Routed.{Routed}
 use Rattle.dayfile.proofs.Passing.{counts-in-range, in_place, file-headed, file-ranged, file-placed}
-use Rattle.dayread.specs.Outcome.{refused_header, file_of}
-use Rattle.dayread.specs.declared.Outcome.{Outcome}
 use Rattle.dayread.proofs.checked.Goals as goal
-
--- a refused file has the rows of a header of nothing
-both : (f : List ℕ) (n : ℕ) (c : Outcome) → c ≡ refused_header n → refused_file n ≡ day_file f
-    → (file_of f c ≡ day_file f) × RowsWithin c.header (length f)
-both f n c e is = rw e (is, record { few = omega arith; participants = omega arith; short = omega arith; routes = omega arith })
 
 -- what was handed in and its header, of which 1 to 3 passed
 module _ (f : List ℕ) (h : Header) (head : Some h ≡ headed f) (range : Within ≡ ranged h) (place : Right ≡ placed h (length f)) where
@@ -46,41 +39,37 @@ module _ (f : List ℕ) (h : Header) (head : Some h ≡ headed f) (range : Withi
 
 pub returns-in_default : goal.returns-in_default
 unfolding day_file
-returns-in_default c = both c.args.f.now _ _ c.refused.ensures (sym (ap (file_headed c.args.f.now) (sym c.read_header.ensures ∙ c.in_default.is)))
+returns-in_default c = (sym (ap (file_headed c.args.f.now) (sym c.read_header.ensures ∙ c.in_default.is)), tt)
 
 pub returns-in_default-check_counts : goal.returns-in_default-check_counts
 returns-in_default-check_counts c =
     let f = c.args.f.now in
     let h = c.in-Some.h in
-    both _ _ _ c.refused-in_default-check_counts.ensures
     (sym
     (file-headed f h (sym c.in-Some.ensures)
-    ∙ ap (file_ranged h f) (sym c.check_counts.ensures ∙ c.in_default-check_counts.is)))
+    ∙ ap (file_ranged h f) (sym c.check_counts.ensures ∙ c.in_default-check_counts.is)), tt)
 
 pub returns-in_default-check_places : goal.returns-in_default-check_places
 returns-in_default-check_places c =
     let f = c.args.f.now in
     let h = c.in-Some.h in
-    both _ _ _ c.refused-in_default-check_places.ensures
     (sym
     (file-ranged f h (sym c.in-Some.ensures) (sym c.in-Within.ensures)
-    ∙ ap (file_placed h f) (sym c.check_places.ensures ∙ c.in_default-check_places.is)))
+    ∙ ap (file_placed h f) (sym c.check_places.ensures ∙ c.in_default-check_places.is)), tt)
 
 pub returns-in_default-check_participants : goal.returns-in_default-check_participants
 returns-in_default-check_participants c =
     let f = c.args.f.now in
     let h = c.in-Some.h in
-    both _ _ _ c.refused-in_default-check_participants.ensures
     (ap (file_enrolled h f) (sym c.in_default-check_participants.is)
-    ∙ from-participants f h c.in-Some.ensures c.in-Within.ensures c.in-Right.ensures _ c.check_participants.ensures)
+    ∙ from-participants f h c.in-Some.ensures c.in-Within.ensures c.in-Right.ensures _ c.check_participants.ensures, tt)
 
 pub returns-in_default-check_routes : goal.returns-in_default-check_routes
 returns-in_default-check_routes c =
     let f = c.args.f.now in
     let h = c.in-Some.h in
-    both _ _ _ c.refused-in_default-check_routes.ensures
     (ap (file_routed h f) (sym c.in_default-check_routes.is)
-    ∙ from-routes f h c.in-Some.ensures c.in-Within.ensures c.in-Right.ensures c.in-Right-check_participants.ensures _ c.check_routes.ensures)
+    ∙ from-routes f h c.in-Some.ensures c.in-Within.ensures c.in-Right.ensures c.in-Right-check_participants.ensures _ c.check_routes.ensures, tt)
 
 pub returns : goal.returns
 returns c =
