@@ -43,11 +43,7 @@ fn kind_of(b: u8) -> PartyKind
 fn opening_of(wish: u8, n: u64) -> Option<u64>
     ensures { result ≡ opening_of wish n }
 {
-    if wish == 1 {
-        Some(n)
-    } else {
-        None
-    }
+    if wish == 1 { Some(n) } else { None }
 }
 
 fn target_of(kind: u8, k: usize) -> Target

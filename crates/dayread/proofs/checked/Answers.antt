@@ -44,32 +44,40 @@ returns-in_default c = (sym (ap (file_headed c.args.f.now) (sym c.read_header.en
 pub returns-in_default-check_counts : goal.returns-in_default-check_counts
 returns-in_default-check_counts c =
     let f = c.args.f.now in
-    let h = c.in-Some.h in
-    (sym
-    (file-headed f h (sym c.in-Some.ensures)
-    ∙ ap (file_ranged h f) (sym c.check_counts.ensures ∙ c.in_default-check_counts.is)), tt)
+    let h = c.in-Some.h in (
+      sym
+          (file-headed f h (sym c.in-Some.ensures)
+          ∙ ap (file_ranged h f) (sym c.check_counts.ensures ∙ c.in_default-check_counts.is)),
+      tt,
+    )
 
 pub returns-in_default-check_places : goal.returns-in_default-check_places
 returns-in_default-check_places c =
     let f = c.args.f.now in
-    let h = c.in-Some.h in
-    (sym
-    (file-ranged f h (sym c.in-Some.ensures) (sym c.in-Within.ensures)
-    ∙ ap (file_placed h f) (sym c.check_places.ensures ∙ c.in_default-check_places.is)), tt)
+    let h = c.in-Some.h in (
+      sym
+          (file-ranged f h (sym c.in-Some.ensures) (sym c.in-Within.ensures)
+          ∙ ap (file_placed h f) (sym c.check_places.ensures ∙ c.in_default-check_places.is)),
+      tt,
+    )
 
 pub returns-in_default-check_participants : goal.returns-in_default-check_participants
 returns-in_default-check_participants c =
     let f = c.args.f.now in
-    let h = c.in-Some.h in
-    (ap (file_enrolled h f) (sym c.in_default-check_participants.is)
-    ∙ from-participants f h c.in-Some.ensures c.in-Within.ensures c.in-Right.ensures _ c.check_participants.ensures, tt)
+    let h = c.in-Some.h in (
+      ap (file_enrolled h f) (sym c.in_default-check_participants.is)
+          ∙ from-participants f h c.in-Some.ensures c.in-Within.ensures c.in-Right.ensures _ c.check_participants.ensures,
+      tt,
+    )
 
 pub returns-in_default-check_routes : goal.returns-in_default-check_routes
 returns-in_default-check_routes c =
     let f = c.args.f.now in
-    let h = c.in-Some.h in
-    (ap (file_routed h f) (sym c.in_default-check_routes.is)
-    ∙ from-routes f h c.in-Some.ensures c.in-Within.ensures c.in-Right.ensures c.in-Right-check_participants.ensures _ c.check_routes.ensures, tt)
+    let h = c.in-Some.h in (
+      ap (file_routed h f) (sym c.in_default-check_routes.is)
+          ∙ from-routes f h c.in-Some.ensures c.in-Within.ensures c.in-Right.ensures c.in-Right-check_participants.ensures _ c.check_routes.ensures,
+      tt,
+    )
 
 pub returns : goal.returns
 returns c =

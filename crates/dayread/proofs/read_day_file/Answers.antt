@@ -24,9 +24,9 @@ pub returns : goal.returns
 returns c =
     both _ _
     (elim c.match-checked.branch [
-      in-Ok w ↦ rw (c.read_roster.ensures, w.refusal-is) (rw w.in-Ok.is at c.checked.ensures.0)
-    | in-Err w ↦
-      let e = w.default.ensures in
-      rw (c.read_roster.ensures, w.refusal-is)
-      (nothing c.args.f.now w.in-Err.refusal w.default.result e.0.0 e.0.1.0 e.0.1.1 e.1.1.1 ∙ (rw w.in-Err.is at c.checked.ensures.0))
+      | in-Ok w ↦ rw (c.read_roster.ensures, w.refusal-is) (rw w.in-Ok.is at c.checked.ensures.0)
+      | in-Err w ↦
+          let e = w.default.ensures in
+          rw (c.read_roster.ensures, w.refusal-is)
+          (nothing c.args.f.now w.in-Err.refusal w.default.result e.0.0 e.0.1.0 e.0.1.1 e.1.1.1 ∙ (rw w.in-Err.is at c.checked.ensures.0))
     ])
