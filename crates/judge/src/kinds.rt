@@ -1,6 +1,7 @@
 // Each kind's judgement: its checks, a line each, and then its step. A later check is looked at only when all before it pass. A function
 // takes only what its kind looks at. Its checks are a chain of `let .. else`, and the refusal in `verdict` is the same chain of
-// `first_of`: a request about one kind changes a line of each, and a new refusal is one check and one line.
+// `first_of`: a request about one kind changes a line of each, and a new refusal is one check and one line. So the checks that six kinds
+// begin with stand in each, and not in a function that the six call.
 ghost use Rattle.std.specs.Prelude.{◌≤◌, ◌≡◌};
 ghost use Rattle.rules.specs.Cover.{most_total};
 ghost use Rattle.verdict.specs.Judgement.{
@@ -86,7 +87,6 @@ pub fn order(
 pub fn yes(sender: Option<usize>, order: Option<usize>, a: About, bank: bool, clock: u32) -> Verdict
     ensures { result ≡ yes_verdict sender order a bank clock }
 {
-    let status = a.status;
     let Sender::Is(p) = checks::sender_check(sender) else {
         return granting::refused(12);
     };
@@ -96,7 +96,7 @@ pub fn yes(sender: Option<usize>, order: Option<usize>, a: About, bank: bool, cl
     let Party::Right = checks::party_check(p, a.payee) else {
         return granting::refused(17);
     };
-    let Standing::AsNeeded = checks::waiting_check(status) else {
+    let Standing::AsNeeded = checks::waiting_check(a.status) else {
         return granting::refused(18);
     };
     granting::settled(i, a, bank, clock)
@@ -106,7 +106,6 @@ pub fn yes(sender: Option<usize>, order: Option<usize>, a: About, bank: bool, cl
 pub fn no(sender: Option<usize>, order: Option<usize>, a: About) -> Verdict
     ensures { result ≡ no_verdict sender order a }
 {
-    let status = a.status;
     let Sender::Is(p) = checks::sender_check(sender) else {
         return granting::refused(12);
     };
@@ -116,7 +115,7 @@ pub fn no(sender: Option<usize>, order: Option<usize>, a: About) -> Verdict
     let Party::Right = checks::party_check(p, a.payee) else {
         return granting::refused(17);
     };
-    let Standing::AsNeeded = checks::waiting_check(status) else {
+    let Standing::AsNeeded = checks::waiting_check(a.status) else {
         return granting::refused(18);
     };
     granting::turned_down(i, a)
@@ -126,7 +125,6 @@ pub fn no(sender: Option<usize>, order: Option<usize>, a: About) -> Verdict
 pub fn recall(sender: Option<usize>, order: Option<usize>, a: About, clock: u32) -> Verdict
     ensures { result ≡ recall_verdict sender order a clock }
 {
-    let status = a.status;
     let Sender::Is(p) = checks::sender_check(sender) else {
         return granting::refused(12);
     };
@@ -136,20 +134,25 @@ pub fn recall(sender: Option<usize>, order: Option<usize>, a: About, clock: u32)
     let Party::Right = checks::party_check(p, a.payer) else {
         return granting::refused(17);
     };
-    let Standing::AsNeeded = checks::unmarked_check(status) else {
+    let Standing::AsNeeded = checks::unmarked_check(a.status) else {
         return granting::refused(18);
     };
-    let Recalling::InTime = checks::recall_check(clock, status) else {
+    let Recalling::InTime = checks::recall_check(clock, a.status) else {
         return granting::refused(26);
     };
     granting::recalled(i, a)
 }
 
 // Return of the payee, of Settled, asked, by an amount up to the order's.
-pub fn return_of(sender: Option<usize>, order: Option<usize>, a: About, available: u64, n: u64) -> Verdict
+pub fn return_of(
+    sender: Option<usize>,
+    order: Option<usize>,
+    a: About,
+    available: u64,
+    n: u64,
+) -> Verdict
     ensures { result ≡ return_verdict sender order a available n }
 {
-    let status = a.status;
     let Sender::Is(p) = checks::sender_check(sender) else {
         return granting::refused(12);
     };
@@ -159,7 +162,7 @@ pub fn return_of(sender: Option<usize>, order: Option<usize>, a: About, availabl
     let Party::Right = checks::party_check(p, a.payee) else {
         return granting::refused(17);
     };
-    let Standing::AsNeeded = checks::asked_check(status) else {
+    let Standing::AsNeeded = checks::asked_check(a.status) else {
         return granting::refused(18);
     };
     let Sum::UpToOrder = checks::sum_check(n, a.amount) else {
@@ -175,7 +178,6 @@ pub fn return_of(sender: Option<usize>, order: Option<usize>, a: About, availabl
 pub fn decline(sender: Option<usize>, order: Option<usize>, a: About) -> Verdict
     ensures { result ≡ decline_verdict sender order a }
 {
-    let status = a.status;
     let Sender::Is(p) = checks::sender_check(sender) else {
         return granting::refused(12);
     };
@@ -185,7 +187,7 @@ pub fn decline(sender: Option<usize>, order: Option<usize>, a: About) -> Verdict
     let Party::Right = checks::party_check(p, a.payee) else {
         return granting::refused(17);
     };
-    let Standing::AsNeeded = checks::asked_check(status) else {
+    let Standing::AsNeeded = checks::asked_check(a.status) else {
         return granting::refused(18);
     };
     granting::declined(i, a)

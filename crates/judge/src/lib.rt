@@ -15,33 +15,26 @@ pub fn judge(x: Facts) -> Verdict
     requires { x.total ≤ most_total }
     ensures { result ≡ verdict_of x }
 {
-    let kind = x.kind;
-    let sender = x.sender;
-    let cover = x.cover;
-    let order = x.order;
-    let about = x.about;
-    let route = x.route;
-    let way = x.way;
-    match kind {
-        Kind::CoverIn => kinds::cover_in(sender, x.total, x.amount),
-        Kind::CoverOut => kinds::cover_out(sender, cover.available, x.amount),
+    match x.kind {
+        Kind::CoverIn => kinds::cover_in(x.sender, x.total, x.amount),
+        Kind::CoverOut => kinds::cover_out(x.sender, x.cover.available, x.amount),
         Kind::Order => kinds::order(
-            sender,
-            order,
-            route,
-            way,
+            x.sender,
+            x.order,
+            x.route,
+            x.way,
             x.count,
-            cover.available,
+            x.cover.available,
             x.amount,
         ),
-        Kind::Yes => kinds::yes(sender, order, about, x.bank, x.clock),
-        Kind::No => kinds::no(sender, order, about),
-        Kind::Recall => kinds::recall(sender, order, about, x.clock),
-        Kind::Return => kinds::return_of(sender, order, about, cover.available, x.amount),
-        Kind::Decline => kinds::decline(sender, order, about),
-        Kind::Inquiry => kinds::inquiry(sender, order, about, x.bank),
+        Kind::Yes => kinds::yes(x.sender, x.order, x.about, x.bank, x.clock),
+        Kind::No => kinds::no(x.sender, x.order, x.about),
+        Kind::Recall => kinds::recall(x.sender, x.order, x.about, x.clock),
+        Kind::Return => kinds::return_of(x.sender, x.order, x.about, x.cover.available, x.amount),
+        Kind::Decline => kinds::decline(x.sender, x.order, x.about),
+        Kind::Inquiry => kinds::inquiry(x.sender, x.order, x.about, x.bank),
         Kind::Cut => kinds::cut(x.unconfirmed),
-        Kind::Confirm => kinds::confirm(sender, cover.held, cover.debit, x.total, x.amount),
+        Kind::Confirm => kinds::confirm(x.sender, x.cover.held, x.cover.debit, x.total, x.amount),
         Kind::Tick => granting::nothing(),
     }
 }
