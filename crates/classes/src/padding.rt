@@ -1,7 +1,7 @@
 // The bytes of a padded field: whether all before the padding are of a class. Where the padding begins is never asked: finding it is a
 // walk of another length for each ticket, which the machine guesses wrong. Each byte is of its class, or a zero with a zero behind it; no
 // class has the zero byte, so that is so exactly where all before the padding are of the class (`all-stand`).
-ghost use Rattle.std.specs.Prelude.{◌≡◌, ◌<◌, length};
+ghost use Rattle.std.specs.Prelude.{◌≡◌};
 ghost use Rattle.classes.specs.Class.{all_in};
 ghost use Rattle.fields.specs.Text.{unpadded};
 ghost use Rattle.classes.specs.PaddedBytes.{stands};
@@ -15,17 +15,15 @@ fn stands(class: Class, c: u8, next: u8) -> bool
     super::is_in(class, c) | ((c == 0) & (next == 0))
 }
 
-// No way out before the end: so the compiler takes many bytes at once.
+// From the end, so that the byte behind each is at hand. No way out before the end: so the compiler takes many bytes at once.
 pub fn all_padded(class: Class, s: &[u8]) -> bool
-    requires { 0 < length s.now }
     ensures { result ≡ all_in class (unpadded s.now) }
 {
-    let last = s.len() - 1;
     let mut all = true;
-    let mut i = 0;
-    while i < last {
-        all = all & stands(class, s[i], s[i + 1]);
-        i += 1;
+    let mut next = 0;
+    for &c in s.iter().rev() {
+        all &= stands(class, c, next);
+        next = c;
     }
-    all & stands(class, s[last], 0)
+    all
 }

@@ -1,34 +1,43 @@
-use Prim.Native.Nat.{ℕ, ◌+◌, ◌-◌}
-use mathlib.Core.Bool.{Bool, ◌&&◌, and_assoc}
-use mathlib.Core.Path.{◌≡◌, ◌∙◌, ap, sym}
+use mathlib.Core.Bool.{Bool, ◌&&◌, and_comm}
+use mathlib.Core.List.{List, [], ◌∷◌, ◌++◌, append-nil}
+use mathlib.Core.Path.{◌≡◌, refl, sym, ◌∙◌, ap, ap₂}
+use Prim.Native.Nat.{ℕ}
 use native.Mathlib.Omega.{arith}
 use borrow.Author.Rules.{rules}
-use lib.ListN.{length, get_or, drop}
+use lib.ListN.{length}
+use lib.Seq.{append_snoc}
 use Rattle.classes.specs.PaddedBytes.{stands}
-use Rattle.classes.proofs.Unpadding.{all_stand, all-stand, stand-from, stand-last}
+use Rattle.classes.specs.declared.Class.{Class}
+use Rattle.classes.proofs.Unpadding.{all_stand, all-stand}
+use Rattle.classes.proofs.padding.all_padded.Invariants.{Inv}
 use Rattle.classes.proofs.padding.all_padded.Goals as goal
 
-pub loop-i-preserved : goal.loop-i-preserved
-loop-i-preserved c =
-    let a = c.args in
-    let s = a.s.now in
-    let rest = all_stand a.class (drop (c.loop-i.i + 1) s) in (
-      search rules,
-      c.loop-i.invariant.1
-          ∙ ap (λ (b : Bool). c.loop-i.all && b) (stand-from a.class s c.loop-i.i (omega arith))
-          ∙ sym (and_assoc c.loop-i.all (stands a.class (get_or s c.loop-i.i 0) (get_or s (c.loop-i.i + 1) 0)) rest)
-          ∙ ap (λ (b : Bool). c.loop-i.all && b && rest) (sym c.stands-all.ensures),
-    )
+pub loop-c-init : goal.loop-c-init
+loop-c-init c = record {
+  behind = [];
+  whole = append-nil _ ∙ ap (λ i. i.iter.rest.now) c.into_iter-c-iterator.ensures.into_iter_gives ∙ search rules;
+  stood = refl;
+  first = refl;
+}
+
+-- one byte more, from the end
+more : {class : Class} {s left left' : List ℕ} {all now : Bool} {next : ℕ} (c : ℕ) → Inv class s left all next
+    → left ≡ left' ++ (c ∷ []) → now ≡ stands class c next → Inv class s left' (all && now) c
+more {class} {left' = left'} {all = all} c h e is = record {
+  behind = c ∷ h.behind;
+  whole = sym (append_snoc left' c h.behind) ∙ ap (λ t. t ++ h.behind) (sym e) ∙ h.whole;
+  stood = ap₂ ◌&&◌ h.stood (is ∙ ap (stands class c) h.first) ∙ and_comm (all_stand class h.behind) _;
+  first = refl;
+}
+
+pub loop-c-preserved : goal.loop-c-preserved
+loop-c-preserved c =
+    more _ c.loop-c.invariant c.in-Some.ensures.steps c.stands-all.ensures
+
+none_left : {class : Class} {s left : List ℕ} {all : Bool} {next : ℕ} → Inv class s left all next → length left ≡ 0 → all ≡ all_stand class s
+none_left {class} {left = []} h e = h.stood ∙ ap (all_stand class) h.whole
+none_left {left = x ∷ left} h e = absurd (omega arith)
 
 pub returns : goal.returns
 returns c =
-    let a = c.args in
-    let s = a.s.now in
-    let last : c.loop-i.i ≡ length s - 1 = omega arith in
-    let whole : length s - 1 + 1 ≡ length s = omega arith in
-    ap (λ (b : Bool). c.loop-i.all && b) c.stands.ensures
-    ∙ sym
-    (c.loop-i.invariant.1
-    ∙ ap (λ (k : ℕ). c.loop-i.all && all_stand a.class (drop k s)) last
-    ∙ ap (λ (b : Bool). c.loop-i.all && b) (stand-last a.class s (length s - 1) whole))
-    ∙ all-stand a.class s
+    none_left c.loop-c.invariant c.in-None.ensures.steps.0 ∙ all-stand c.args.class c.args.s.now
