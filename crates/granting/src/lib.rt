@@ -2,11 +2,10 @@
 // refused ticket all but the refusal is nothing (`refused-alone`), so it may be carried out or skipped.
 #![tactic(auto)]
 
-ghost use Rattle.std.specs.Prelude.{◌≡◌, cond};
+ghost use Rattle.std.specs.Prelude.{◌≡◌, cond, Some, None};
 ghost use Rattle.verdict.specs.OwnStep.{
   mover,
   notice,
-  no_notice,
   refused_verdict,
   nothing,
   cover_moved,
@@ -41,12 +40,6 @@ fn notice(to: usize, code: u8) -> Notice
     Notice { to, code }
 }
 
-fn no_notice() -> Notice
-    ensures { result ≡ no_notice }
-{
-    notice(0, 0)
-}
-
 // All but the refusal is nothing.
 pub fn refused(n: u8) -> Verdict
     ensures { result ≡ refused_verdict n }
@@ -59,8 +52,8 @@ pub fn refused(n: u8) -> Verdict
         first: nobody,
         second: nobody,
         amount: 0,
-        told: no_notice(),
-        also: no_notice(),
+        told: None,
+        also: None,
     }
 }
 
@@ -90,18 +83,8 @@ pub fn opened(i: usize, payer: usize, payee: usize, n: u64) -> Verdict
         number: i,
         first: mover(payer, Move::Reserve),
         amount: n,
-        told: notice(payee, 1),
+        told: Some(notice(payee, 1)),
         ..nothing()
-    }
-}
-
-fn payee_told(a: About, bank: bool) -> Notice
-    ensures { result ≡ cond bank (notice a.payee 2) no_notice }
-{
-    if bank {
-        notice(a.payee, 2)
-    } else {
-        no_notice()
     }
 }
 
@@ -116,8 +99,8 @@ pub fn settled(i: usize, a: About, bank: bool, clock: u32) -> Verdict
         first: mover(a.payer, Move::Spend),
         second: mover(a.payee, Move::Give),
         amount: a.amount,
-        told: notice(a.payer, 2),
-        also: payee_told(a, bank),
+        told: Some(notice(a.payer, 2)),
+        also: bank.then_some(notice(a.payee, 2)),
         ..nothing()
     }
 }
@@ -131,7 +114,7 @@ pub fn turned_down(i: usize, a: About) -> Verdict
         number: i,
         first: mover(a.payer, Move::Release),
         amount: a.amount,
-        told: notice(a.payer, 3),
+        told: Some(notice(a.payer, 3)),
         ..nothing()
     }
 }
@@ -145,7 +128,7 @@ fn marked(mark: Recall, at: u32, i: usize, n: u64, told: Notice) -> Verdict
         does: Does::Becomes(Status::Settled(mark, at)),
         number: i,
         amount: n,
-        told,
+        told: Some(told),
         ..nothing()
     }
 }
@@ -177,7 +160,7 @@ pub fn returned(i: usize, a: About, n: u64) -> Verdict
         first: mover(a.payee, Move::Draw),
         second: mover(a.payer, Move::Give),
         amount: n,
-        told: notice(a.payer, 6),
+        told: Some(notice(a.payer, 6)),
         ..nothing()
     }
 }
@@ -206,13 +189,13 @@ fn answer_told(a: About, bank: bool, s: Status) -> Notice
 }
 
 // Where it is settled, 8 to payee if asked, or 7 to payer if declined.
-fn answer_also(a: About, s: Status) -> Notice
+fn answer_also(a: About, s: Status) -> Option<Notice>
     ensures { result ≡ answer_also a s }
 {
     match s {
-        Status::Settled(Recall::Asked, _) => notice(a.payee, 8),
-        Status::Settled(Recall::Declined, _) => notice(a.payer, 7),
-        _ => no_notice(),
+        Status::Settled(Recall::Asked, _) => Some(notice(a.payee, 8)),
+        Status::Settled(Recall::Declined, _) => Some(notice(a.payer, 7)),
+        _ => None,
     }
 }
 
@@ -234,7 +217,7 @@ pub fn answered(i: usize, a: About, bank: bool) -> Verdict
     Verdict {
         number: i,
         amount: answer_amount(a, status),
-        told: answer_told(a, bank, status),
+        told: Some(answer_told(a, bank, status)),
         also: answer_also(a, status),
         ..nothing()
     }

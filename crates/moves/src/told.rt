@@ -4,7 +4,7 @@ ghost use Rattle.std.specs.Prelude.{◌≡◌, ◌+◌, ◌*◌, ◌≤◌, ◌<
 ghost use Rattle.std.proofs.lemmas.List.Edits.{sets};
 ghost use Rattle.report.specs.ReportLayout.{report_length, reports_bytes};
 ghost use Rattle.rules.specs.Tell.{listed};
-ghost use Rattle.verdict.specs.Meaning.{report_by, notices_told};
+ghost use Rattle.verdict.specs.Meaning.{report_by, notices_told, ToldBelow};
 
 use report::Report;
 use rules::decision::Told;
@@ -41,29 +41,27 @@ fn report_by(a: Notice, i: usize, amount: u64) -> Report
     }
 }
 
-// Code 0 is no report, and there is no second without a first.
+// There is no second without a first.
 pub fn put_notices(
     buffer: &mut [u8],
     n: usize,
-    told: Notice,
-    also: Notice,
+    told: Option<Notice>,
+    also: Option<Notice>,
     i: usize,
     amount: u64,
 ) -> usize
-    requires { (told.to < 256) × (also.to < 256) × (i < 65536)
+    requires { ToldBelow 256 told × ToldBelow 256 also × (i < 65536)
         × (report_length * n + report_length * length (listed (notices_told told also i amount)) ≤ length buffer.old) }
     ensures { (buffer.new ≡ sets buffer.old (report_length * n) (reports_bytes (listed (notices_told told also i amount))))
         × (result ≡ n + length (listed (notices_told told also i amount))) }
 {
-    let none = told.code == 0;
-    if none {
+    let Some(first) = told else {
         return n;
-    }
-    report::put_report(buffer, n, report_by(told, i, amount));
-    let alone = also.code == 0;
-    if alone {
+    };
+    report::put_report(buffer, n, report_by(first, i, amount));
+    let Some(second) = also else {
         return n + 1;
-    }
-    report::put_report(buffer, n + 1, report_by(also, i, amount));
+    };
+    report::put_report(buffer, n + 1, report_by(second, i, amount));
     n + 2
 }

@@ -1,8 +1,8 @@
 // What a ticket is judged on, and the verdict: all that is carried out then. A verdict is small values. It has no TxId, and neither has
 // what is judged: only opening an order needs it, which is carrying out. Nor has it the rows followed, which are those of the order's
 // way. One amount is enough: what is told is what moves, and where nothing moves the order's amount is told, or what was returned of it.
-// Who stays put is participant 0 (`stays_put`) and code 0 is no report, so every number of a verdict is in range where those of what was
-// found are (`verdict-in-range`). Participants are as wide as in the book: a narrower number would ask every caller that it fits.
+// Who stays put is participant 0 (`stays_put`), so every number of a verdict is in range where those of what was found are
+// (`verdict-in-range`). Participants are as wide as in the book: a narrower number would ask every caller that it fits.
 use super::decision::Move;
 use super::{Cover, Status};
 use dayfile::route::Way;
@@ -49,14 +49,14 @@ pub enum Does {
     Cuts,
 }
 
-// Who moves, and how. Who stays put is participant 0.
+// Who moves, and how. Who stays put is participant 0: `Stay` is the case of no move, and an Option would be a second one.
 #[derive(Clone, Copy)]
 pub struct Mover {
     pub who: usize,
     pub how: Move,
 }
 
-// A report: to whom, and its code, 0 where there is none.
+// A report: to whom, and its code.
 #[derive(Clone, Copy)]
 pub struct Notice {
     pub to: usize,
@@ -66,6 +66,7 @@ pub struct Notice {
 // Of a refused ticket all but the refusal is nothing.
 #[derive(Clone, Copy)]
 pub struct Verdict {
+    // 0 is none, as in the answer that is handed out
     pub refusal: u8,
     pub does: Does,
     // the order that is told of, 0 if none: the one that the ticket is about, or the new one
@@ -74,6 +75,7 @@ pub struct Verdict {
     pub first: Mover,
     pub second: Mover,
     pub amount: u64,
-    pub told: Notice,
-    pub also: Notice,
+    // the reports: there is no second without a first
+    pub told: Option<Notice>,
+    pub also: Option<Notice>,
 }

@@ -28,8 +28,8 @@ use Rattle.course.specs.declared.Entry.{Entry}
 use Rattle.course.proofs.SoughtFitting.{any-payer, any-payee, sought-sender-below, sought-order-below, reached-below}
 use Rattle.verdict.specs.OwnStep.{cut_verdict}
 use Rattle.verdict.specs.Judgement.{verdict_of}
-use Rattle.verdict.specs.Meaning.{Gains, facts_of, transfer_by, notices_told, decided_by}
-use Rattle.verdict.proofs.VerdictLaws.{VerdictInRange, verdict-in-range, verdict-gains, cuts-alone}
+use Rattle.verdict.specs.Meaning.{Gains, ToldBelow, facts_of, transfer_by, notices_told, decided_by}
+use Rattle.verdict.proofs.VerdictLaws.{VerdictInRange, verdict-in-range, verdict-gains, cuts-alone, told-below-more}
 use Rattle.verdict.proofs.VerdictMoving.{Put, stays_put, room_by, who-by, transferred-by}
 use Rattle.turns.proofs.Turn.{Expired, after-sound, verdict-applicable}
 
@@ -50,8 +50,8 @@ pub record Fits (c : Book) (v : Verdict) : Type 0 where
   -- what moves is within the limit; who stays put moves by nothing
   pub first_most : (transfer_by v.first v.amount).amount ≤ most_total
   pub second_most : (transfer_by v.second v.amount).amount ≤ most_total
-  pub told : v.told.to < 256
-  pub also : v.also.to < 256
+  pub told : ToldBelow 256 v.told
+  pub also : ToldBelow 256 v.also
   pub number : v.number < 65_536
   -- an order is opened only where there is space, and a cut moves no cover by itself, and tells by the cut alone
   pub opens : v.does ≡ Opens → c.count < most_orders
@@ -136,8 +136,8 @@ module _ {b : Book} {t : List ℕ} {e : Entry} {n₀ : ℕ} {text₀ : List ℕ}
             (first-as v.does x v) ok.second_room))));
         first_most = subst (λ (z : Transfer). z.amount ≤ most_total) (first-as v.does x v) ok.first_most;
         second_most = subst (λ (z : Transfer). z.amount ≤ most_total) (second-as v.does x v) ok.second_most;
-        told = let l = range.told in omega arith;
-        also = let l = range.also in omega arith;
+        told = told-below-more most_participants 256 v.told (omega arith) range.told;
+        also = told-below-more most_participants 256 v.also (omega arith) range.also;
         number = range.number;
         opens = λ o. subst (λ (d : Does). (decided_by d x v).number < most_orders) o ok.number;
         cuts = λ o. is ∙ cuts-alone (facts_of x) (ap (λ (y : Verdict). y.does) (sym is) ∙ o);

@@ -1,5 +1,5 @@
 -- Cases of each kind's judgement as rows: on both sides of an edge, and where two refusals apply at once. Assumes nothing.
-use Rattle.std.specs.Prelude.{Some, None}
+use Rattle.std.specs.Prelude.{Option, Some, None, ◌++◌}
 use Prim.Native.Nat.{ℕ}
 use Prim.Native.String.{String}
 use mathlib.Core.Path.{refl}
@@ -13,6 +13,7 @@ use Rattle.rules.specs.declared.Status.{Status}
 use Rattle.rules.specs.declared.Status.TheVariants as status
 use Rattle.rules.specs.declared.verdict.About.{About}
 use Rattle.rules.specs.declared.verdict.Does.{Does}
+use Rattle.rules.specs.declared.verdict.Notice.{Notice}
 use Rattle.rules.specs.declared.verdict.Does.TheVariants as does
 use Rattle.rules.specs.declared.verdict.Verdict.{Verdict}
 use Rattle.verdict.specs.Judgement.{
@@ -29,9 +30,14 @@ use Rattle.verdict.specs.Judgement.{
   confirm_verdict,
 }
 
--- of a verdict: the refusal, and the two reports, to whom and which code
+-- of a report: to whom and which code, 0 and 0 where there is none
+abbrev shown : Option Notice → List ℕ
+shown None = 0 ∷ 0 ∷ []
+shown (Some a) = a.to ∷ a.code ∷ []
+
+-- of a verdict: the refusal, and the two reports
 abbrev seen : Verdict → List ℕ
-seen v = v.refusal ∷ v.told.to ∷ v.told.code ∷ v.also.to ∷ v.also.code ∷ []
+seen v = v.refusal ∷ shown v.told ++ shown v.also
 
 abbrev answers : String → Verdict → List ℕ → Row
 answers shows v due = record { shows = shows; rule = λ s. seen v; given = []; due = due }

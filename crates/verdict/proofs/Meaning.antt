@@ -52,7 +52,6 @@ use Rattle.course.specs.Judging.{judged, decided_unless}
 use Rattle.course.specs.declared.Judged.{Judged}
 use Rattle.verdict.specs.OwnStep.{
   notice,
-  no_notice,
   unless,
   refused_verdict,
   cover_moved,
@@ -183,13 +182,13 @@ confirm-checks y p n false within false above = refl
 -- who is told of a yes, and of an order that waits: the payee a bank or not
 yes-told : (payer payee i n : ℕ) (bank : Bool)
     → cond bank (Two (report_by (notice payer 2) i n) (report_by (notice payee 2) i n)) (One (report_by (notice payer 2) i n))
-    ≡ notices_told (notice payer 2) (cond bank (notice payee 2) no_notice) i n
+    ≡ notices_told (Some (notice payer 2)) (cond bank (Some (notice payee 2)) None) i n
 yes-told payer payee i n true = refl
 yes-told payer payee i n false = refl
 
 waiting-told : (payer payee i n : ℕ) (bank : Bool)
     → One (cond bank (report_by (notice payer 9) i n) (report_by (notice payee 8) i n))
-    ≡ notices_told (cond bank (notice payer 9) (notice payee 8)) no_notice i n
+    ≡ notices_told (Some (cond bank (notice payer 9) (notice payee 8))) None i n
 waiting-told payer payee i n true = refl
 waiting-told payer payee i n false = refl
 
@@ -287,7 +286,7 @@ module _ (x : Finding) where
 
   inquiry-told : (p i : ℕ) (r : Option ℕ) (s : Status)
       → inquiry_answer (of kind.Inquiry (Some p) (Some i) r) s
-      ≡ notices_told (answer_told about x.bank s) (answer_also about s) i (answer_amount about s)
+      ≡ notices_told (Some (answer_told about x.bank s)) (answer_also about s) i (answer_amount about s)
   inquiry-told p i r status.Waiting = waiting-told about.payer about.payee i about.amount x.bank
   inquiry-told p i r status.Refused = refl
   inquiry-told p i r status.Expired = refl

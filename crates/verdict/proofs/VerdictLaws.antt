@@ -8,7 +8,7 @@
 use Rattle.std.specs.Prelude.{Option, Some, None, is_some}
 use mathlib.Core.Path.{◌≡◌, refl, subst}
 use mathlib.Core.Bool.{Bool, true, false, cond}
-use Prim.Native.Nat.{ℕ, ◌<◌}
+use Prim.Native.Nat.{ℕ, ◌≤◌, ◌<◌}
 use native.Mathlib.Omega.{arith}
 use lib.Dec.{eqb}
 use Rattle.fields.specs.Search.{number_of}
@@ -34,6 +34,7 @@ use Rattle.rules.specs.declared.decision.Move.TheVariants.{Give, Draw}
 use Rattle.rules.specs.declared.verdict.About.{About}
 use Rattle.rules.specs.declared.verdict.Facts.{Facts}
 use Rattle.rules.specs.declared.verdict.Does.TheVariants.{Opens, Cuts}
+use Rattle.rules.specs.declared.verdict.Notice.{Notice}
 use Rattle.rules.specs.declared.verdict.Verdict.{Verdict}
 use Rattle.verdict.specs.OwnStep.{
   unless,
@@ -51,7 +52,7 @@ use Rattle.verdict.specs.OwnStep.{
   answer_also,
   cut_verdict,
 }
-use Rattle.verdict.specs.Meaning.{Gains}
+use Rattle.verdict.specs.Meaning.{Gains, ToldBelow}
 use Rattle.verdict.specs.Judgement.{
   cover_in_refusal,
   cover_out_refusal,
@@ -158,12 +159,17 @@ pub record Known (size orders : ℕ) (x : Facts) : Type 0 where
   pub order : number_of x.order < orders
   pub count : x.count < orders
 
+-- whoever is told is one of more as well
+pub told-below-more : (m n : ℕ) (a : Option Notice) → m ≤ n → ToldBelow m a → ToldBelow n a
+told-below-more m n None h l = tt
+told-below-more m n (Some a) h l = omega arith
+
 -- the numbers of a verdict
 pub record VerdictInRange (size orders : ℕ) (v : Verdict) : Type 0 where
   pub first : v.first.who < size
   pub second : v.second.who < size
-  pub told : v.told.to < size
-  pub also : v.also.to < size
+  pub told : ToldBelow size v.told
+  pub also : ToldBelow size v.also
   pub number : v.number < orders
 
 sends : (f : Option ℕ) (n : ℕ) → number_of f < n → sending (sender_check f) < n
@@ -187,18 +193,18 @@ module _ (size : ℕ) (a : About) (payer : a.payer < size) (payee : a.payee < si
   told_below bank (status.Returned at n) = payer
   told_below bank (status.Settled m at) = payer
 
-  also-below : (s : Status) → (answer_also a s).to < size
-  also-below status.Waiting = omega arith
-  also-below status.Refused = omega arith
-  also-below status.Expired = omega arith
-  also-below (status.Returned at n) = omega arith
-  also-below (status.Settled mark.None at) = omega arith
+  also-below : (s : Status) → ToldBelow size (answer_also a s)
+  also-below status.Waiting = tt
+  also-below status.Refused = tt
+  also-below status.Expired = tt
+  also-below (status.Returned at n) = tt
+  also-below (status.Settled mark.None at) = tt
   also-below (status.Settled mark.Asked at) = payee
   also-below (status.Settled mark.Declined at) = payer
 
-  payee-below : (i : ℕ) (bank : Bool) (clock : ℕ) → (settled i a bank clock).also.to < size
+  payee-below : (i : ℕ) (bank : Bool) (clock : ℕ) → ToldBelow size (settled i a bank clock).also
   payee-below i true clock = payee
-  payee-below i false clock = omega arith
+  payee-below i false clock = tt
 
 module _ (size orders : ℕ) (x : Facts) (h : Known size orders x) where
   i : named (held_check x.order) < orders
@@ -210,15 +216,15 @@ module _ (size orders : ℕ) (x : Facts) (h : Known size orders x) where
   nobody-in-range : (n : ℕ) → VerdictInRange size orders (refused_verdict n)
   nobody-in-range n =
       let o = h.order in
-      record { first = omega (arith, p); second = omega (arith, p); told = omega (arith, p); also = omega (arith, p); number = omega arith }
+      record { first = omega (arith, p); second = omega (arith, p); told = tt; also = tt; number = omega arith }
 
-  moves : (v : Verdict) → v.first.who ≡ sending (sender_check x.sender) → v.second.who ≡ 0 → v.told.to ≡ 0
-      → v.also.to ≡ 0 → v.number ≡ 0
+  moves : (v : Verdict) → v.first.who ≡ sending (sender_check x.sender) → v.second.who ≡ 0 → v.told ≡ None
+      → v.also ≡ None → v.number ≡ 0
       → VerdictInRange size orders v
   moves v a b c d e =
       let s = p in
       let o = h.order in
-      record { first = omega arith; second = omega arith; told = omega arith; also = omega arith; number = omega arith }
+      record { first = omega arith; second = omega arith; told = rw c tt; also = rw d tt; number = omega arith }
 
   step-in-range : (k : Kind) → VerdictInRange size orders (step_for k x)
   step-in-range kind.CoverIn = moves (step_for kind.CoverIn x) refl refl refl refl refl
@@ -228,7 +234,7 @@ module _ (size orders : ℕ) (x : Facts) (h : Known size orders x) where
         first = p;
         second = omega (arith, p);
         told = receives x.route x.way size h.reached;
-        also = omega (arith, p);
+        also = tt;
         number = h.count;
       }
   step-in-range kind.Yes =
@@ -239,12 +245,12 @@ module _ (size orders : ℕ) (x : Facts) (h : Known size orders x) where
         also = payee-below size x.about h.payer h.payee (named (held_check x.order)) x.bank x.clock;
         number = i;
       }
-  step-in-range kind.No = record { first = h.payer; second = omega (arith, p); told = h.payer; also = omega (arith, p); number = i }
+  step-in-range kind.No = record { first = h.payer; second = omega (arith, p); told = h.payer; also = tt; number = i }
   step-in-range kind.Recall =
-      record { first = omega (arith, p); second = omega (arith, p); told = h.payee; also = omega (arith, p); number = i }
-  step-in-range kind.Return = record { first = h.payee; second = h.payer; told = h.payer; also = omega (arith, p); number = i }
+      record { first = omega (arith, p); second = omega (arith, p); told = h.payee; also = tt; number = i }
+  step-in-range kind.Return = record { first = h.payee; second = h.payer; told = h.payer; also = tt; number = i }
   step-in-range kind.Decline =
-      record { first = omega (arith, p); second = omega (arith, p); told = h.payer; also = omega (arith, p); number = i }
+      record { first = omega (arith, p); second = omega (arith, p); told = h.payer; also = tt; number = i }
   step-in-range kind.Inquiry =
       record {
         first = omega (arith, p);
@@ -257,8 +263,8 @@ module _ (size orders : ℕ) (x : Facts) (h : Known size orders x) where
       record {
         first = omega (arith, p);
         second = omega (arith, p);
-        told = omega (arith, p);
-        also = omega (arith, p);
+        told = tt;
+        also = tt;
         number = omega (arith, i);
       }
   step-in-range kind.Confirm = moves (step_for kind.Confirm x) refl refl refl refl refl

@@ -1,12 +1,11 @@
--- A verdict carried out as it stands: who moves by its one amount, what is told by its codes. Assumes nothing.
+-- A verdict carried out as it stands: who moves by its one amount. Assumes nothing.
 --     stays_put                        who stays put is participant 0
 --     moved_by_lem                         a cover moves as the decision has it, and there is room for it where there is for the decision's
 --     transferred-by                   the covers after a move
---     told_none, told-one, told-two    the reports, by the codes
 use Rattle.std.specs.Prelude.{Option, Some, None}
 use mathlib.Core.Path.{◌≡◌, refl}
 use mathlib.Core.Bool.{Bool, true, false, ◌&&◌, not, cond}
-use mathlib.Core.List.{List, [], ◌∷◌}
+use mathlib.Core.List.{List}
 use Prim.Native.Nat.{ℕ, ◌+◌}
 use lib.Dec.{eqb, leb, ltb}
 use lib.ListN.{set}
@@ -14,7 +13,6 @@ use Rattle.ticket.specs.declared.kinds.Kind.{Kind}
 use Rattle.ticket.specs.declared.kinds.Kind.TheVariants as kind
 use Rattle.rules.specs.Book.{cover_of}
 use Rattle.rules.specs.Cover.{moved, transferred, most_total}
-use Rattle.rules.specs.Tell.{listed}
 use Rattle.rules.specs.Refusal.{first_of}
 use Rattle.rules.specs.Checks.{sender_check, sender_refusal, sending, confirm_refusal, confirming, brings, total_refusal}
 use Rattle.rules.specs.declared.checks.Limit.TheVariants.{Within, Above}
@@ -23,12 +21,11 @@ use Rattle.rules.specs.declared.decision.Move.TheVariants.{Stay, Give, Draw, Res
 use Rattle.rules.specs.declared.Cover.{Cover}
 use Rattle.rules.specs.declared.verdict.Facts.{Facts}
 use Rattle.rules.specs.declared.verdict.Mover.{Mover}
-use Rattle.rules.specs.declared.verdict.Notice.{Notice}
 use Rattle.rules.specs.declared.verdict.Verdict.{Verdict}
 use Rattle.course.specs.Room.{Room}
 use Rattle.verdict.specs.OwnStep.{unless, refused_verdict, cover_moved}
 use Rattle.verdict.specs.Judgement.{verdict_for, verdict_of}
-use Rattle.verdict.specs.Meaning.{moves_by, transfer_by, report_by, notices_told}
+use Rattle.verdict.specs.Meaning.{moves_by, transfer_by}
 use Rattle.verdict.proofs.Meaning.{confirmed}
 use Rattle.verdict.proofs.VerdictLaws.{by_kind}
 
@@ -122,14 +119,3 @@ put-for kind.Tick x = refused-put 0
 
 pub stays_put : (x : Facts) → Put (verdict_of x)
 stays_put x = put-for x.kind x
-
--- the reports of a verdict
-module _ (a b : Notice) (i n : ℕ) where
-  pub told_none : eqb a.code 0 ≡ true → listed (notices_told a b i n) ≡ []
-  told_none e = rw e
-
-  pub told-one : eqb a.code 0 ≡ false → eqb b.code 0 ≡ true → listed (notices_told a b i n) ≡ report_by a i n ∷ []
-  told-one e f = rw (e, f)
-
-  pub told-two : eqb a.code 0 ≡ false → eqb b.code 0 ≡ false → listed (notices_told a b i n) ≡ report_by a i n ∷ report_by b i n ∷ []
-  told-two e f = rw (e, f)

@@ -2,9 +2,10 @@
 --     facts_of       of what was found, all that is looked at
 --     decision_by    the decision that a verdict makes
 --     judged_by      the same with its refusal
+--     ToldBelow      who is told is one of so many
 --     Gains         a move that leaves who it is of as they are, or gives: the second of every verdict is one
 -- Assumes nothing.
-use Rattle.std.specs.Prelude.{ℕ, ◌+◌, Bool, true, false, cond, eqb}
+use Rattle.std.specs.Prelude.{ℕ, ◌+◌, ◌<◌, Bool, true, false, Option, Some, None}
 use Rattle.fields.specs.Search.{number_of}
 use Rattle.report.specs.declared.Report.{Report}
 use Rattle.dayfile.specs.Route.{rows_followed}
@@ -76,10 +77,16 @@ transfer_by m n = moves_by m.who m.how n
 abbrev pub report_by : Notice → ℕ → ℕ → Report
 report_by a i n = record { to = a.to; code = a.code; order = i; amount = n }
 
--- code 0 is no report, and there is no second without a first
-abbrev pub notices_told : Notice → Notice → ℕ → ℕ → Told
-notices_told a b i n =
-    cond (eqb a.code 0) Nobody (cond (eqb b.code 0) (One (report_by a i n)) (Two (report_by a i n) (report_by b i n)))
+-- there is no second without a first
+abbrev pub notices_told : Option Notice → Option Notice → ℕ → ℕ → Told
+notices_told None b i n = Nobody
+notices_told (Some a) None i n = One (report_by a i n)
+notices_told (Some a) (Some b) i n = Two (report_by a i n) (report_by b i n)
+
+-- who is told, if one is, has a number below m
+abbrev pub ToldBelow : ℕ → Option Notice → Type 0
+ToldBelow m None = Unit {0}
+ToldBelow m (Some a) = a.to < m
 
 -- which order is written, what it becomes, how many are held then, whether all covers are cut, rows followed
 abbrev verdict_decision : ℕ → Order → ℕ → Bool → ℕ → Verdict → Decision

@@ -2,7 +2,7 @@
 --     refused_verdict    all but the refusal is nothing
 --     unless            refused by a number, or, where it is 0, a step's verdict
 -- Assumes nothing.
-use Rattle.std.specs.Prelude.{ℕ, Bool, cond, eqb}
+use Rattle.std.specs.Prelude.{ℕ, Bool, cond, eqb, Option, Some, None}
 use Rattle.rules.specs.Status.{settled_at}
 use Rattle.rules.specs.declared.Recall.{Recall}
 use Rattle.rules.specs.declared.Recall.TheVariants as mark
@@ -27,12 +27,9 @@ no_mover = mover 0 Stay
 abbrev pub notice : ℕ → ℕ → Notice
 notice to code = record { to = to; code = code }
 
-abbrev pub no_notice : Notice
-no_notice = notice 0 0
-
 abbrev pub refused_verdict : ℕ → Verdict
 refused_verdict n =
-    record { refusal = n; does = Nothing; number = 0; first = no_mover; second = no_mover; amount = 0; told = no_notice; also = no_notice }
+    record { refusal = n; does = Nothing; number = 0; first = no_mover; second = no_mover; amount = 0; told = None; also = None }
 
 abbrev pub unless : ℕ → Verdict → Verdict
 unless n v = cond (eqb n 0) v (refused_verdict n)
@@ -51,8 +48,8 @@ cover_moved who how n =
       first = mover who how;
       second = no_mover;
       amount = n;
-      told = no_notice;
-      also = no_notice;
+      told = None;
+      also = None;
     }
 
 -- Order: available to reserved; new Waiting order; report 1 to payee
@@ -65,8 +62,8 @@ opened i payer payee n =
       first = mover payer Reserve;
       second = no_mover;
       amount = n;
-      told = notice payee 1;
-      also = no_notice;
+      told = Some (notice payee 1);
+      also = None;
     }
 
 -- Yes to Waiting: payer's reserved falls, payee's available rises; Settled, mark none; report 2 to payer, then to payee if a bank. 02,
@@ -80,8 +77,8 @@ settled i a bank clock =
       first = mover a.payer Spend;
       second = mover a.payee Give;
       amount = a.amount;
-      told = notice a.payer 2;
-      also = cond bank (notice a.payee 2) no_notice;
+      told = Some (notice a.payer 2);
+      also = cond bank (Some (notice a.payee 2)) None;
     }
 
 -- No to Waiting: reserved to available; Refused; report 3 to payer only
@@ -94,8 +91,8 @@ turned_down i a =
       first = mover a.payer Release;
       second = no_mover;
       amount = a.amount;
-      told = notice a.payer 3;
-      also = no_notice;
+      told = Some (notice a.payer 3);
+      also = None;
     }
 
 -- the order's mark changes, and one is told
@@ -108,8 +105,8 @@ marked m at i n told =
       first = no_mover;
       second = no_mover;
       amount = n;
-      told = told;
-      also = no_notice;
+      told = Some told;
+      also = None;
     }
 
 -- Recall of Settled with mark none: asked; report 5 to payee
@@ -130,8 +127,8 @@ returned i a n =
       first = mover a.payee Draw;
       second = mover a.payer Give;
       amount = n;
-      told = notice a.payer 6;
-      also = no_notice;
+      told = Some (notice a.payer 6);
+      also = None;
     }
 
 -- Inquiry. Waiting: 9 to payer if the payee is a bank, else 8 to payee. Settled: 2 to payer. Refused 3, Expired 4, Returned 6, to payer
@@ -143,16 +140,16 @@ answer_told a bank (status.Returned at n) = notice a.payer 6
 answer_told a bank (status.Settled m at) = notice a.payer 2
 
 -- then 8 to payee if asked, or 7 to payer if declined
-abbrev pub mark_told : About → Recall → Notice
-mark_told a mark.None = no_notice
-mark_told a mark.Asked = notice a.payee 8
-mark_told a mark.Declined = notice a.payer 7
+abbrev pub mark_told : About → Recall → Option Notice
+mark_told a mark.None = None
+mark_told a mark.Asked = Some (notice a.payee 8)
+mark_told a mark.Declined = Some (notice a.payer 7)
 
-abbrev pub answer_also : About → Status → Notice
-answer_also a status.Waiting = no_notice
-answer_also a status.Refused = no_notice
-answer_also a status.Expired = no_notice
-answer_also a (status.Returned at n) = no_notice
+abbrev pub answer_also : About → Status → Option Notice
+answer_also a status.Waiting = None
+answer_also a status.Refused = None
+answer_also a status.Expired = None
+answer_also a (status.Returned at n) = None
 answer_also a (status.Settled m at) = mark_told a m
 
 -- 02, slip 2: report 6 carries the returned amount, also when an inquiry repeats it; the others carry the order's
@@ -173,11 +170,11 @@ answered i a bank =
       first = no_mover;
       second = no_mover;
       amount = answer_amount a a.status;
-      told = answer_told a bank a.status;
+      told = Some (answer_told a bank a.status);
       also = answer_also a a.status;
     }
 
 -- Cut: all covers, with their own reports
 abbrev pub cut_verdict : Verdict
 cut_verdict =
-    record { refusal = 0; does = Cuts; number = 0; first = no_mover; second = no_mover; amount = 0; told = no_notice; also = no_notice }
+    record { refusal = 0; does = Cuts; number = 0; first = no_mover; second = no_mover; amount = 0; told = None; also = None }
