@@ -28,12 +28,5 @@ pub fn iban_ok(s: &[u8]) -> bool
     requires { length s.now ≡ 34 }
     ensures { result ≡ is_iban (unpadded s.now) }
 {
-    if !iban_front(s) {
-        return false;
-    }
-    if !classes::all_padded(Class::CapitalOrDigit, s) {
-        return false;
-    }
-    let taken = divided(s);
-    taken.remainder == 1
+    iban_front(s) && classes::all_padded(Class::CapitalOrDigit, s) && divided(s).remainder == 1
 }

@@ -10,7 +10,7 @@ ghost use Rattle.iban.specs.Iban.{value, digits_of, digits, read_decimal, rearra
 ghost use Rattle.iban.specs.Groups.{group_count, over_groups};
 ghost use Rattle.iban.specs.Strides.{five_more, Writes};
 
-use remainder::Divided;
+use remainder::{Divided, Held};
 
 // Some characters as a number, how many digits it is written with, and how many characters they are.
 #[derive(Clone, Copy)]
@@ -20,12 +20,6 @@ pub struct Stride {
     pub length: usize,
 }
 
-fn wide(c: u8) -> u32
-    ensures { (result ≡ c) × (result < 256) }
-{
-    c as u32
-}
-
 // What a character counts for: a digit's byte is 48 above it, a capital's 55. From numbers of several characters all of that is taken off
 // at once.
 fn worth(c: u8) -> u32
@@ -33,9 +27,10 @@ fn worth(c: u8) -> u32
     ensures { (result ≡ value c) × (result < 36) }
 {
     if c < 64 {
-        return wide(c) - 48;
+        u32::from(c) - 48
+    } else {
+        u32::from(c) - 55
     }
-    wide(c) - 55
 }
 
 // What the number before it is multiplied by: 10 for one digit, 100 for two.
@@ -43,30 +38,21 @@ fn scale(c: u8) -> u32
     requires { is_in CapitalOrDigit c ≡ true }
     ensures { (result ≡ 10 ^ length (digits_of c)) × (result ≤ 100) }
 {
-    if c < 64 {
-        return 10;
-    }
-    100
+    if c < 64 { 10 } else { 100 }
 }
 
 fn digits_of(c: u8) -> usize
     requires { is_in CapitalOrDigit c ≡ true }
     ensures { (result ≡ length (digits_of c)) × (result ≤ 2) }
 {
-    if c < 64 {
-        return 1;
-    }
-    2
+    if c < 64 { 1 } else { 2 }
 }
 
 // A byte, 0 past the end.
 fn byte(s: &[u8], i: usize) -> u8
     ensures { result ≡ get_or s.now i 0 }
 {
-    if i < s.len() {
-        return s[i];
-    }
-    0
+    s.get(i).copied().unwrap_or(0)
 }
 
 fn one(c: u8) -> Stride
@@ -97,7 +83,7 @@ fn two_digits(a: u8, b: u8) -> Stride
     ensures { Writes result (a ∷ b ∷ []) × (result.digits ≤ 7) }
 {
     Stride {
-        number: wide(a) * 10 + wide(b) - 528,
+        number: u32::from(a) * 10 + u32::from(b) - 528,
         digits: 2,
         length: 2,
     }
@@ -109,7 +95,7 @@ fn two_letters(a: u8, b: u8) -> Stride
     ensures { Writes result (a ∷ b ∷ []) × (result.digits ≤ 7) }
 {
     Stride {
-        number: wide(a) * 100 + wide(b) - 5_555,
+        number: u32::from(a) * 100 + u32::from(b) - 5_555,
         digits: 4,
         length: 2,
     }
@@ -120,28 +106,23 @@ fn five_more(s: &[u8], at: usize) -> bool
     requires { at ≤ length s.now }
     ensures { result ≡ five_more s.now at }
 {
-    if s.len() < at + 5 {
+    let Some(&[a, b, c, d, e]) = s[at..].first_chunk::<5>() else {
         return false;
-    }
-    (s[at] < 64)
-        & (s[at + 1] < 64)
-        & (s[at + 2] < 64)
-        & (s[at + 3] < 64)
-        & (s[at + 4] < 64)
-        & (s[at + 4] != 0)
+    };
+    (a < 64) & (b < 64) & (c < 64) & (d < 64) & (e < 64) & (e != 0)
 }
 
 fn seven_digits(s: &[u8], i: usize) -> Stride
     requires { (i + 7 ≤ length s.now) × (all_in Digit (part 7 i s.now) ≡ true) }
     ensures { Writes result (part 7 i s.now) × (result.digits ≤ 7) }
 {
-    let number = wide(s[i]) * 1_000_000
-        + wide(s[i + 1]) * 100_000
-        + wide(s[i + 2]) * 10_000
-        + wide(s[i + 3]) * 1_000
-        + wide(s[i + 4]) * 100
-        + wide(s[i + 5]) * 10
-        + wide(s[i + 6]);
+    let number = u32::from(s[i]) * 1_000_000
+        + u32::from(s[i + 1]) * 100_000
+        + u32::from(s[i + 2]) * 10_000
+        + u32::from(s[i + 3]) * 1_000
+        + u32::from(s[i + 4]) * 100
+        + u32::from(s[i + 5]) * 10
+        + u32::from(s[i + 6]);
     Stride {
         number: number - 53_333_328,
         digits: 7,
@@ -176,7 +157,8 @@ fn front(s: &[u8]) -> u32
     requires { (4 ≤ length s.now) × (all_in Capital (take 2 s.now) ≡ true) × (all_in Digit (take 2 (drop 2 s.now)) ≡ true) }
     ensures { (result ≡ read_decimal (digits (take 4 s.now))) × (result < 10 ^ 6) }
 {
-    wide(s[0]) * 10_000 + wide(s[1]) * 100 + wide(s[2]) * 10 + wide(s[3]) - 556_028
+    u32::from(s[0]) * 10_000 + u32::from(s[1]) * 100 + u32::from(s[2]) * 10 + u32::from(s[3])
+        - 556_028
 }
 
 // The remainder over the groups of seven digits, and how many these are.
@@ -184,13 +166,12 @@ pub fn divided(s: &[u8]) -> Divided
     requires { iban_shape (unpadded s.now) ≡ true }
     ensures { (result.remainder ≡ over_groups (digits (rearranged (unpadded s.now)))) × (result.groups ≡ group_count (digits (rearranged (unpadded s.now)))) }
 {
-    let powers = remainder::powers();
-    let mut held = remainder::nothing_held();
+    let mut held = Held::nothing();
     let mut i = 4;
     while byte(s, i) != 0 {
         let next = next_stride(s, i);
-        held = remainder::put(held, &powers, next.number, next.digits);
+        held = held.put(next.number, next.digits);
         i += next.length;
     }
-    remainder::ended(remainder::put(held, &powers, front(s), 6), &powers)
+    held.put(front(s), 6).ended()
 }

@@ -1,3 +1,2 @@
 pub mod DigitBounds
 pub mod Joining
-pub mod Quotient

@@ -1,18 +1,14 @@
 -- What is kept while digits are put behind each other, by its numbers alone: what is carried from the whole groups of seven and how many
 -- these are, the number of the digits behind them and how many those are. What it tells of a list of digits is stated in `iban`.
---     Powers        a table of the powers of ten, 10^0 to 10^7
 --     Fitting       below 97 is carried, over at most nine groups; fewer than seven digits are held, and their number has no more
 --     nothing_held   before the first digit
 --     taken_off      with d digits put behind, of which the last rest are held and those before them make a group whole
 --     joined        with d digits put behind, which are the number n: fewer than seven are held; else the first seven are taken off
 --     divided_at     at the end: the digits held are the last group, where there are any
 -- Assumes nothing.
-use Rattle.std.specs.Prelude.{ℕ, ◌+◌, ◌-◌, ◌*◌, ◌/◌, ◌%◌, ◌^◌, ◌≤◌, ◌<◌, ◌≡◌, cond, List, ltb, eqb, get_or}
+use Rattle.std.specs.Prelude.{ℕ, ◌+◌, ◌-◌, ◌*◌, ◌/◌, ◌%◌, ◌^◌, ◌≤◌, ◌<◌, cond, ltb, eqb}
 use Rattle.remainder.specs.declared.Held.{Held}
 use Rattle.remainder.specs.declared.Divided.{Divided}
-
-pub record Powers (powers : List ℕ) : Type 0 where
-  pub power : (k : ℕ) → k < 8 → get_or powers k 0 ≡ 10 ^ k
 
 pub record Fitting (h : Held) : Type 0 where
   pub carried : h.carried < 97

@@ -5,7 +5,7 @@
 #![tactic(auto)]
 
 ghost use Rattle.std.specs.Prelude.{◌≡◌, ◌*◌, ◌+◌, ◌%◌, ◌^◌, ◌≤◌, ◌<◌};
-ghost use Rattle.remainder.specs.Held.{Powers, Fitting, nothing_held, joined, divided_at};
+ghost use Rattle.remainder.specs.Held.{Fitting, nothing_held, joined, divided_at};
 
 // What is carried from the groups taken off, how many these are, the number of the digits held behind them, and how many those are.
 #[derive(Clone, Copy)]
@@ -23,31 +23,13 @@ pub struct Divided {
     pub groups: u32,
 }
 
-const POWERS: [u32; 8] = [1, 10, 100, 1_000, 10_000, 100_000, 1_000_000, 10_000_000];
+static POWERS: [u32; 8] = [1, 10, 100, 1_000, 10_000, 100_000, 1_000_000, 10_000_000];
 
-// The powers of ten, for who puts many numbers behind each other: a constant array is written anew wherever it is used.
-pub fn powers() -> [u32; 8]
-    ensures { Powers result }
+fn power_of(k: usize) -> u32
+    requires { k ≤ 7 }
+    ensures { (result ≡ 10 ^ k) × (1 ≤ result) × (result ≤ 10 ^ 7) }
 {
-    POWERS
-}
-
-pub fn nothing_held() -> Held
-    ensures { result ≡ nothing_held }
-{
-    Held {
-        carried: 0,
-        groups: 0,
-        number: 0,
-        digits: 0,
-    }
-}
-
-fn power_of(powers: &[u32; 8], k: usize) -> u32
-    requires { Powers powers.now × (k ≤ 7) }
-    ensures { (result ≡ 10 ^ k) × (result ≤ 10 ^ 7) }
-{
-    powers[k]
+    POWERS[k]
 }
 
 // A number written behind another, at most seven digits in all.
@@ -58,13 +40,13 @@ fn behind(n: u32, power: u32, number: u32) -> u32
     n * power + number
 }
 
-// The remainder of n by 97. A product and a division by 2^37, which is a shift, give the quotient of numbers as small as these
-// (`quotient`). The compiler has to be right for all of 32 bits, and takes four instructions more, which the next group waits for.
+// The remainder of n by 97. A product and a division by 2^37, which is a shift, give the quotient of numbers as small as these.
+// The compiler has to be right for all of 32 bits, and takes four instructions more, which the next group waits for.
 fn by_97(n: u32) -> u32
     requires { n < 97 * 10 ^ 7 }
     ensures { result ≡ n % 97 }
 {
-    let m = n as u64;
+    let m = u64::from(n);
     let quotient = m * 1_416_896_428 / 137_438_953_472;
     (m - quotient * 97) as u32
 }
@@ -77,46 +59,58 @@ fn carry(carried: u32, power: u32, group: u32) -> u32
     by_97(carried * power + group)
 }
 
-// Digits behind those held: as one number, and how many they are.
-pub fn put(held: Held, powers: &[u32; 8], number: u32, digits: usize) -> Held
-    requires { Fitting held × Powers powers.now × (digits ≤ 7) × (number < 10 ^ digits) }
-    ensures { result ≡ joined held number digits }
-{
-    let count = held.digits + digits;
-    if count < 7 {
-        return Held {
-            carried: held.carried,
-            groups: held.groups,
-            number: behind(held.number, power_of(powers, digits), number),
-            digits: count,
-        };
+impl Held {
+    // Before the first digit.
+    pub fn nothing() -> Held
+        ensures { result ≡ nothing_held }
+    {
+        Held {
+            carried: 0,
+            groups: 0,
+            number: 0,
+            digits: 0,
+        }
     }
-    let rest = count - 7;
-    let power = power_of(powers, rest);
-    let first = number / power;
-    let group = behind(held.number, power_of(powers, digits - rest), first);
-    Held {
-        carried: carry(held.carried, 10_000_000, group),
-        groups: held.groups + 1,
-        number: number - first * power,
-        digits: rest,
-    }
-}
 
-// At the end: the digits held are the last group, where there are any.
-pub fn ended(held: Held, powers: &[u32; 8]) -> Divided
-    requires { Fitting held × Powers powers.now }
-    ensures { result ≡ divided_at held }
-{
-    let digits = held.digits;
-    if digits == 0 {
-        return Divided {
-            remainder: held.carried,
-            groups: held.groups,
-        };
+    // Digits put behind those held: as one number, and how many they are.
+    pub fn put(self, number: u32, digits: usize) -> Held
+        requires { Fitting self × (digits ≤ 7) × (number < 10 ^ digits) }
+        ensures { result ≡ joined self number digits }
+    {
+        let count = self.digits + digits;
+        if count < 7 {
+            return Held {
+                number: behind(self.number, power_of(digits), number),
+                digits: count,
+                ..self
+            };
+        }
+        let rest = count - 7;
+        let power = power_of(rest);
+        let first = number / power;
+        let group = behind(self.number, power_of(digits - rest), first);
+        Held {
+            carried: carry(self.carried, 10_000_000, group),
+            groups: self.groups + 1,
+            number: number - first * power,
+            digits: rest,
+        }
     }
-    Divided {
-        remainder: carry(held.carried, power_of(powers, digits), held.number),
-        groups: held.groups + 1,
+
+    // At the end: the digits held are the last group, where there are any.
+    pub fn ended(self) -> Divided
+        requires { Fitting self }
+        ensures { result ≡ divided_at self }
+    {
+        if self.digits == 0 {
+            return Divided {
+                remainder: self.carried,
+                groups: self.groups,
+            };
+        }
+        Divided {
+            remainder: carry(self.carried, power_of(self.digits), self.number),
+            groups: self.groups + 1,
+        }
     }
 }

@@ -16,7 +16,7 @@ use Rattle.remainder.specs.declared.Divided.{Divided}
 use Rattle.iban.proofs.ShapeParts.{shape-least, shape-most, shape-country, shape-check, shape-spelt}
 use Rattle.iban.proofs.ValueBytes.{used-within, value-stops, value-part}
 use Rattle.iban.proofs.HeldDigits.{Holds, end-remainder, end-groups}
-use Rattle.iban.proofs.Walk.{Walked, stride-small, walk_begins, walk-fits, walk-strides, walk_ends, end_fits}
+use Rattle.iban.proofs.Walk.{Walked, stride-small, walk-fits, walk-strides, walk_ends, end_fits}
 use Rattle.iban.proofs.strides.divided.Goals as goal
 
 -- the bytes of a field whose value has the shape of an IBAN
@@ -35,12 +35,6 @@ module _ (s : List ℕ) (e : iban_shape (unpadded s) ≡ true) where
 inside : (s : List ℕ) (i b : ℕ) → b ≡ get_or s i 0 → (b ≡ 0 → ⊥) → i < length (unpadded s)
 inside s i b e used = used-within s i (ne_eqb (get_or s i 0) 0 (λ z. used (e ∙ z)))
 
-pub loop-next-init : goal.loop-next-init
-loop-next-init c =
-    let s = c.args.s.now in
-    let least = shape-least (unpadded s) c.requires in
-    subst (λ (h : Held). Walked s h 4) (sym c.nothing_held-held.ensures) (walk_begins s (omega arith))
-
 pub next_stride-next-requires : goal.next_stride-next-requires
 next_stride-next-requires c =
     (shape-spelt (unpadded c.args.s.now) c.requires, inside c.args.s.now c.loop-next.i c.byte.result c.byte.ensures c.loop-next-test.true)
@@ -50,18 +44,9 @@ put-held-requires c =
     let s = c.args.s.now in
     let r = c.next_stride-next.result in (
       walk-fits s (shape-most (unpadded s) c.requires) c.loop-next.invariant,
-      c.powers-powers.ensures,
       c.next_stride-next.ensures.3,
       stride-small _ c.next_stride-next.ensures.2,
     )
-
-pub overflow_add-i : goal.overflow_add-i
-overflow_add-i c =
-    omega (arith, c.next_stride-next.ensures.1, shape-most (unpadded c.args.s.now) c.requires)
-
-pub loop-next-smaller : goal.loop-next-smaller
-loop-next-smaller c =
-    omega (arith, c.next_stride-next.ensures.0, c.next_stride-next.ensures.1, inside c.args.s.now c.loop-next.i c.byte.result c.byte.ensures c.loop-next-test.true)
 
 pub loop-next-preserved : goal.loop-next-preserved
 loop-next-preserved c =
@@ -84,14 +69,13 @@ front-requires c =
 pub put-requires : goal.put-requires
 put-requires c = (
   walk-fits c.args.s.now (shape-most (unpadded c.args.s.now) c.requires) c.loop-next.invariant,
-  c.powers-powers.ensures,
   omega arith,
   c.front.ensures.1,
 )
 
 pub ended-requires : goal.ended-requires
 ended-requires c =
-    (end_fits c.args.s.now (shape-most (unpadded c.args.s.now) c.requires) (all_held c.args.s.now c.requires c.put.result c.loop-next.held c.loop-next.i c.front.result c.loop-next.invariant (sym c.byte.ensures ∙ c.loop-next-test.false) c.front.ensures.0 c.put.ensures), c.powers-powers.ensures)
+    end_fits c.args.s.now (shape-most (unpadded c.args.s.now) c.requires) (all_held c.args.s.now c.requires c.put.result c.loop-next.held c.loop-next.i c.front.result c.loop-next.invariant (sym c.byte.ensures ∙ c.loop-next-test.false) c.front.ensures.0 c.put.ensures)
 
 pub returns : goal.returns
 returns c =

@@ -1,8 +1,6 @@
 -- `iban::strides::next_stride` meets its contract. Assumes nothing.
 use mathlib.Core.Path.{sym, ◌∙◌}
-use native.Mathlib.Omega.{arith}
-use Rattle.classes.proofs.Unpadding.{value-within}
-use Rattle.iban.proofs.StrideAhead.{Ahead, first-spelt, one-strode, two-within, second-spelt, two-strode, both-capitals, both-digits, seven-there, seven-strode}
+use Rattle.iban.proofs.StrideAhead.{Ahead, first-spelt, one-strode, second-spelt, two-strode, both-capitals, both-digits, seven-there, seven-strode}
 use Rattle.iban.proofs.strides.next_stride.Goals.{After-byte-b}
 use Rattle.iban.proofs.strides.next_stride.Goals as goal
 
@@ -10,14 +8,6 @@ use Rattle.iban.proofs.strides.next_stride.Goals as goal
 ahead : (c : After-byte-b) → let a = c.args in Ahead a.s.now a.i c.byte-b.result
 ahead c =
     record { spelt = c.requires.0; within = c.requires.1; next = c.byte-b.ensures }
-
-pub bounds-s-i : goal.bounds-s-i
-bounds-s-i c =
-    omega (arith, c.requires.1, value-within c.args.s.now)
-
-pub overflow_add-i : goal.overflow_add-i
-overflow_add-i c =
-    omega (arith, c.requires.1, value-within c.args.s.now)
 
 pub one-requires : goal.one-requires
 one-requires c =
@@ -43,14 +33,6 @@ two-requires c =
 pub returns-then-a-b-2 : goal.returns-then-a-b-2
 returns-then-a-b-2 c =
     two-strode (ahead (goal.at.returns-then-a-b-2 c).After-byte-b) c.if-b-eq0.false c.two.result c.two.ensures
-
-pub overflow_add-i-2 : goal.overflow_add-i-2
-overflow_add-i-2 c =
-    omega (arith, two-within (ahead (goal.at.overflow_add-i-2 c).After-byte-b) c.if-b-eq0.false, value-within c.args.s.now)
-
-pub five_more-requires : goal.five_more-requires
-five_more-requires c =
-    omega (arith, two-within (ahead (goal.at.five_more-requires c).After-byte-b) c.if-b-eq0.false, value-within c.args.s.now)
 
 pub seven_digits-requires : goal.seven_digits-requires
 seven_digits-requires c =

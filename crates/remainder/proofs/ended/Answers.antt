@@ -1,9 +1,0 @@
--- `remainder::ended` meets its contract. Assumes nothing.
-use native.Mathlib.Omega.{arith}
-use Rattle.remainder.proofs.Joining.{last_taken}
-use Rattle.remainder.proofs.ended.Goals as goal
-
-pub returns : goal.returns
-returns c =
-    let a = c.args in
-    last_taken a.held (λ none. omega (arith, none)) c.power_of.ensures.0 c.carry.ensures.0
