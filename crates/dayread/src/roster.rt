@@ -25,9 +25,7 @@ fn bic_at(f: &[u8], at: usize) -> [u8; 11]
     requires { at + 11 ≤ length f.now }
     ensures { result ≡ part 11 at f.now }
 {
-    let mut bic = [0u8; 11];
-    fields::copy(&f[at..at + 11], &mut bic);
-    bic
+    f[at..at + 11].try_into().unwrap()
 }
 
 fn kind_of(b: u8) -> PartyKind
@@ -101,12 +99,9 @@ fn read_participants(start: usize, n: usize, f: &[u8]) -> [Participant; limits::
     requires { (n ≤ most_participants) × (start + participant_length * n ≤ length f.now) }
     ensures { result ≡ participants_to start n f.now }
 {
-    let none = no_participant();
-    let mut all = [none; limits::MOST_PARTICIPANTS];
-    let mut i = 0;
-    while i < n {
-        all[i] = participant_at(f, start + limits::PARTICIPANT_LENGTH * i);
-        i += 1;
+    let mut all = [no_participant(); limits::MOST_PARTICIPANTS];
+    for p in 0..n {
+        all[p] = participant_at(f, start + limits::PARTICIPANT_LENGTH * p);
     }
     all
 }
@@ -115,12 +110,9 @@ fn read_routes(start: usize, n: usize, f: &[u8]) -> [Route; limits::MOST_ROUTES]
     requires { (n ≤ most_routes) × (start + route_length * n ≤ length f.now) }
     ensures { result ≡ routes_to start n f.now }
 {
-    let none = no_route();
-    let mut all = [none; limits::MOST_ROUTES];
-    let mut i = 0;
-    while i < n {
+    let mut all = [no_route(); limits::MOST_ROUTES];
+    for i in 0..n {
         all[i] = route_at(f, start + limits::ROUTE_LENGTH * i);
-        i += 1;
     }
     all
 }
@@ -130,12 +122,10 @@ pub fn read_roster(h: Header, f: &[u8]) -> Roster
     requires { RowsWithin h (length f.now) }
     ensures { result ≡ roster_of h f.now }
 {
-    let n = h.counts;
-    let at = h.offsets;
     Roster {
-        participants: read_participants(at.participants, n.participants, f),
-        size: n.participants,
-        routes: read_routes(at.routes, n.routes, f),
-        rows: n.routes,
+        participants: read_participants(h.offsets.participants, h.counts.participants, f),
+        size: h.counts.participants,
+        routes: read_routes(h.offsets.routes, h.counts.routes, f),
+        rows: h.counts.routes,
     }
 }

@@ -1,1 +1,1 @@
-pub mod BicChains
+pub mod Repeats

@@ -3,7 +3,7 @@ ghost use Rattle.std.specs.Prelude.{◌≡◌, ◌+◌, ◌*◌, ◌≤◌, leng
 ghost use Rattle.dayfile.specs.FileLimits.{most_participants, most_routes, participant_length, route_length};
 ghost use Rattle.dayfile.specs.Check.{CountsInRange, ranged, placed, enrolled, routed};
 
-use super::{chains, rows};
+use super::{repeats, rows};
 use dayfile::check::{Enrolled, Placed, Ranged, Routed};
 use dayfile::header::Header;
 use dayfile::limits;
@@ -49,12 +49,10 @@ pub fn check_participants(start: usize, n: usize, f: &[u8]) -> Enrolled
     ensures { result ≡ enrolled start n f.now }
 {
     let mut ok = true;
-    let mut i = 0;
-    while i < n {
-        ok = ok & rows::participant_ok(f, start + limits::PARTICIPANT_LENGTH * i);
-        i += 1;
+    for i in 0..n {
+        ok &= rows::participant_ok(f, start + limits::PARTICIPANT_LENGTH * i);
     }
-    if ok & !chains::bic_repeats(f, start, limits::PARTICIPANT_LENGTH, n) {
+    if ok & !repeats::bic_repeats(f, start, limits::PARTICIPANT_LENGTH, n) {
         Enrolled::Right
     } else {
         Enrolled::Wrong
@@ -66,12 +64,10 @@ pub fn check_routes(size: usize, start: usize, n: usize, f: &[u8]) -> Routed
     ensures { result ≡ routed size start n f.now }
 {
     let mut ok = true;
-    let mut i = 0;
-    while i < n {
-        ok = ok & rows::route_ok(f, start + limits::ROUTE_LENGTH * i, size, i);
-        i += 1;
+    for i in 0..n {
+        ok &= rows::route_ok(f, start + limits::ROUTE_LENGTH * i, size, i);
     }
-    if ok & !chains::bic_repeats(f, start, limits::ROUTE_LENGTH, n) {
+    if ok & !repeats::bic_repeats(f, start, limits::ROUTE_LENGTH, n) {
         Routed::Right
     } else {
         Routed::Wrong

@@ -1,12 +1,7 @@
--- `dayread::roster::read_participants` meets its contract. The loop's invariant: the first i rows are read. Assumes nothing.
-use mathlib.Core.Path.{◌≡◌}
-use Prim.Native.Nat.{◌≤◌, ◌-◌}
-use lib.ListN.{length}
+-- `dayread::roster::read_participants` meets its contract. The loop's invariant: the first p rows are read. Assumes nothing.
+use Rattle.std.proofs.Common.{◌≡◌}
 use Rattle.dayfile.specs.Roster.{participants_to}
 use Rattle.dayread.proofs.roster.read_participants.Given as goal
 
-abbrev pub invariant-loop-i : goal.invariant-loop-i
-invariant-loop-i l = (l.i ≤ l.n) × (length l.all ≡ 32) × (l.all ≡ participants_to l.start l.i l.f)
-
-abbrev pub decreases-loop-i : goal.decreases-loop-i
-decreases-loop-i l = l.n - l.i
+abbrev pub invariant-loop-p : goal.invariant-loop-p
+invariant-loop-p l = l.all ≡ participants_to l.start l.p l.f

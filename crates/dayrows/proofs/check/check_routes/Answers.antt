@@ -1,41 +1,20 @@
-use mathlib.Core.Path.{◌≡◌, sym, ◌∙◌, ap, ap₂}
-use mathlib.Core.Bool.{Bool, ◌&&◌, not, cond}
-use mathlib.Core.List.{List}
-use Prim.Native.Nat.{ℕ}
-use native.Mathlib.Numerals.{add-one}
-use native.Mathlib.Omega.{arith}
-use Rattle.fields.specs.UpTo.{all_to}
-use Rattle.fields.proofs.UpTo.{all_apart}
+use Rattle.std.proofs.Common.{◌+◌, ◌*◌, Bool, cond, sym, ap, ◌∙◌, arith}
 use Rattle.dayfile.specs.FileLimits.{route_length}
-use Rattle.dayfile.specs.FileRows.{bic_among}
-use Rattle.dayfile.specs.Check.{routes_ok}
+use Rattle.dayfile.specs.FileRows.{route_ok}
 use Rattle.dayfile.specs.declared.check.Routed.TheVariants.{Right, Wrong}
-use Rattle.dayrows.specs.BicChains.{bic_in}
-use borrow.Author.Rules.{rules}
-use Rattle.dayrows.proofs.check.check_routes.Goals.{After-bic_repeats}
-use Rattle.dayrows.proofs.check.check_routes.Invariants.{right}
+use Rattle.dayrows.proofs.Repeating.{all-right}
 use Rattle.dayrows.proofs.check.check_routes.Goals as goal
-
-abbrev repeated : ℕ → List ℕ → ℕ → Bool
-repeated start f i = bic_among start route_length i (bic_in start route_length f i) f
-
--- all rows are looked at
-all : (c : After-bic_repeats) → let a = c.args in
-    (c.loop-i.ok && not c.bic_repeats.result) ≡ routes_ok a.size a.start a.n a.f.now
-all c =
-    let a = c.args in
-    let end : c.loop-i.i ≡ a.n = omega arith in
-    ap₂ (λ (b q : Bool). b && not q) (c.loop-i.invariant.1 ∙ ap (all_to (right a.size a.start a.f.now)) end) c.bic_repeats.ensures
-    ∙ sym (all_apart (right a.size a.start a.f.now) (repeated a.start a.f.now) a.n)
-
-pub loop-i-preserved : goal.loop-i-preserved
-loop-i-preserved c =
-    (search rules, simp (add-one, c.loop-i.invariant.1, c.route_ok-ok.ensures))
 
 pub returns-then-ok-bic_repeats : goal.returns-then-ok-bic_repeats
 returns-then-ok-bic_repeats c =
-    ap (λ (b : Bool). cond b Right Wrong) (sym c.if-ok-bic_repeats.true ∙ all (goal.at.returns-then-ok-bic_repeats c).After-bic_repeats)
+    ap (λ (b : Bool). cond b Right Wrong)
+    (sym c.if-ok-bic_repeats.true
+    ∙ all-right (λ i. route_ok c.args.size i (c.args.start + route_length * i) c.args.f.now) c.args.start route_length c.args.n c.loop-i.i c.args.f.now (omega arith)
+    c.loop-i.invariant c.bic_repeats.ensures)
 
 pub returns-else-ok-bic_repeats : goal.returns-else-ok-bic_repeats
 returns-else-ok-bic_repeats c =
-    ap (λ (b : Bool). cond b Right Wrong) (sym c.if-ok-bic_repeats.false ∙ all (goal.at.returns-else-ok-bic_repeats c).After-bic_repeats)
+    ap (λ (b : Bool). cond b Right Wrong)
+    (sym c.if-ok-bic_repeats.false
+    ∙ all-right (λ i. route_ok c.args.size i (c.args.start + route_length * i) c.args.f.now) c.args.start route_length c.args.n c.loop-i.i c.args.f.now (omega arith)
+    c.loop-i.invariant c.bic_repeats.ensures)
