@@ -1,6 +1,7 @@
 // The answers of the checks from 12 on, an enum for each. The case that passes carries what the checks behind it and the step take from it.
 // specs/Checks.antt says when each is given, and the refusal's number. 21 has two, since a cut and a confirm look at different things; 18
-// has one enum and a check for each status that a step needs.
+// has one enum and a check for each status that a step needs. They are enums of their own and no Option or Result: `let .. else` names the
+// case that passes, and answers the refusal's number in the other.
 use super::decision::Move;
 
 // 12: the participant's number.

@@ -23,7 +23,8 @@ pub struct Transfer {
     pub amount: u64,
 }
 
-// The reports of a step, or those of a cut to one participant: at most two.
+// The reports of a step, or those of a cut to one participant: at most two, so an enum. An array would have a count beside it, and places
+// that nothing fills.
 #[derive(Clone, Copy)]
 pub enum Told {
     Nobody,

@@ -1,4 +1,5 @@
-// What a book finds in a ticket: all that refusals from 12 on and the ticket's own step look at.
+// What a book finds in a ticket: all that refusals from 12 on and the ticket's own step look at. No function takes one: the code hands on
+// `Facts`, in verdict.rt, without the TxId.
 use super::{Cover, Order};
 use dayfile::route::Way;
 use ticket::kinds::Kind;
