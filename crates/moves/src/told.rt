@@ -41,7 +41,18 @@ fn report_by(a: Notice, i: usize, amount: u64) -> Report
     }
 }
 
-// There is no second without a first.
+// A verdict's reports: there is no second without a first.
+fn notices_told(told: Option<Notice>, also: Option<Notice>, i: usize, amount: u64) -> Told
+    requires { ToldBelow 256 told × ToldBelow 256 also × (i < 65536) }
+    ensures { result ≡ notices_told told also i amount }
+{
+    match (told, also) {
+        (None, _) => Told::Nobody,
+        (Some(a), None) => Told::One(report_by(a, i, amount)),
+        (Some(a), Some(b)) => Told::Two(report_by(a, i, amount), report_by(b, i, amount)),
+    }
+}
+
 pub fn put_notices(
     buffer: &mut [u8],
     n: usize,
@@ -55,13 +66,5 @@ pub fn put_notices(
     ensures { (buffer.new ≡ sets buffer.old (report_length * n) (reports_bytes (listed (notices_told told also i amount))))
         × (result ≡ n + length (listed (notices_told told also i amount))) }
 {
-    let Some(first) = told else {
-        return n;
-    };
-    report::put_report(buffer, n, report_by(first, i, amount));
-    let Some(second) = also else {
-        return n + 1;
-    };
-    report::put_report(buffer, n + 1, report_by(second, i, amount));
-    n + 2
+    put_told(buffer, n, notices_told(told, also, i, amount))
 }
