@@ -11,10 +11,12 @@ use dayfile::route::Way;
 
 fn print_way(rt: &impl Print, way: Option<Way>) {
     match way {
-        Some(Way {
-            participant: p,
-            rows: n,
-        }) => print::shown(print!(rt; " {p}/{n}")),
+        Some(
+            Way {
+                participant: p,
+                rows: n,
+            },
+        ) => print::shown(print!(rt; " {p}/{n}")),
         None => print::put(rt, b" -"),
     }
 }
@@ -22,13 +24,8 @@ fn print_way(rt: &impl Print, way: Option<Way>) {
 fn print_routes(rt: &impl Print, r: Roster) {
     let rows = r.rows;
     let routes = r.routes;
-    let targets = routes::targets_of(routes);
-    let kinds = targets.kinds;
-    let numbers = targets.numbers;
-    let mut i = 0;
-    while i < rows {
-        print_way(rt, routes::follow(&kinds, &numbers, i));
-        i += 1;
+    for i in 0..rows {
+        print_way(rt, routes::follow(&routes, i));
     }
 }
 
@@ -88,11 +85,7 @@ fn way_of(f: &[u8], bic: &[u8]) -> Option<Way>
 {
     let d = dayread::read_day_file(f);
     let r = d.roster;
-    let routes = r.routes;
-    let targets = routes::targets_of(routes);
-    let kinds = targets.kinds;
-    let numbers = targets.numbers;
-    routes::end_of(&kinds, &numbers, row_with(r, bic))
+    routes::end_of(&r, row_with(r, bic))
 }
 
 pub fn run_way(rt: &impl Print, line: &[u8]) {

@@ -1,7 +1,7 @@
 // Cases of tickets.
 use super::{bytes, print, words};
-use index::chains;
-use sight::{Seen, Sight};
+use index::Index;
+use sight::Seen;
 use ticket::kinds::Kind;
 use ticket::layout;
 
@@ -24,21 +24,11 @@ fn kind_number(kind: Kind) -> u64 {
 }
 
 // What is seen of a ticket at clock 0, with no participants, orders or routes.
-fn seen(t: &[u8]) -> Sight {
+fn seen(t: &[u8]) -> Result<Seen, u8> {
     if t.len() != layout::LENGTH {
-        return Sight::Refused(7);
+        return Err(7);
     }
-    let none = [0u64; 1];
-    let bics = chains::bic_chains(&none, 0);
-    let bic_heads = bics.heads;
-    let bic_links = bics.links;
-    let keys = chains::key_chains(&none, 0);
-    let key_heads = keys.heads;
-    let key_links = keys.links;
-    sight::see(
-        0, t, &bic_heads, &bic_links, &none, 0, &key_heads, &key_links, &none, 0, &bic_heads,
-        &bic_links, &none, 0,
-    )
+    sight::see(0, t, &Index::new(), &Index::new(), &Index::new())
 }
 
 fn print_fields(rt: &impl Print, s: Seen) {
@@ -56,8 +46,8 @@ pub fn run_read(rt: &impl Print, line: &[u8]) {
     let mut buffer = [0u8; 4096];
     let n = bytes::put_bytes(line, name, &mut buffer);
     match seen(&buffer[0..n]) {
-        Sight::Read(s) => print_fields(rt, s),
-        Sight::Refused(r) => print::print_number(rt, r as u64),
+        Ok(s) => print_fields(rt, s),
+        Err(r) => print::print_number(rt, r as u64),
     }
     print::print_end(rt)
 }

@@ -14,7 +14,7 @@ use Rattle.fields.proofs.Stores.{length_part}
 use Rattle.fields.proofs.Tests.{never}
 use Rattle.fields.proofs.UpTo.{none-at, all_apart}
 use Rattle.fields.proofs.Indexing.{row_within}
-use Rattle.index.specs.Table.{row_at, rows_of, first_with, Apart}
+use Rattle.index.specs.RowChains.{row_at, rows_of, first_with, Distinct}
 use Rattle.index.specs.Words.{Bytes, bic_words}
 use Rattle.index.proofs.Comparing.{same-bics, part_bytes}
 use Rattle.dayfile.specs.FileRows.{bic_among}
@@ -81,7 +81,7 @@ module _ (start width n : ℕ) (f : List ℕ) (bytes : Bytes f) (wide : 11 ≤ w
       (length_part 11 _ f (row_ends start width n j _ wide within k)) (part_bytes bytes 11 _) (part_bytes bytes 11 _)
 
   -- no BIC repeats, so no two rows hold the same
-  pub rows-apart : (i : ℕ) → i ≤ n → bic_repeats start width i f ≡ false → Apart (rows_of bic_row i)
+  pub rows-apart : (i : ℕ) → i ≤ n → bic_repeats start width i f ≡ false → Distinct (rows_of bic_row i)
   rows-apart i l none =
       record {
         differ = λ j k a b.

@@ -35,8 +35,8 @@ sender-long t whole = length_part 11 16 t (rw whole (omega arith))
 pub txid-long : (t : List ℕ) → length t ≡ 108 → length (txid_field t) ≡ 35
 txid-long t whole = length_part 35 38 t (rw whole (omega arith))
 
-module _ {b₀ : Book} {tickets answers₀ reports₀ : List ℕ} {b : Book} {keys heads links : List ℕ} {all m k n : ℕ} {bytes text : List ℕ}
-    (h : LoopKept b₀ tickets answers₀ reports₀ b keys heads links all m k n bytes text) where
+module _ {b₀ : Book} {tickets answers₀ reports₀ : List ℕ} {b : Book} {keys : List (List ℕ)} {all m k n : ℕ} {bytes text : List ℕ}
+    (h : LoopKept b₀ tickets answers₀ reports₀ b keys all m k n bytes text) where
   pub bytes-long : length bytes ≡ length answers₀
   bytes-long = answers-long b₀ tickets answers₀ reports₀ h.going
 

@@ -15,51 +15,47 @@ use Rattle.course.specs.Running.{room_left}
 use Rattle.course.specs.Expiry.{Passed}
 use Rattle.course.proofs.Running.{Going}
 use Rattle.course.proofs.Summing.{all_of}
-use Rattle.index.specs.RowChains.{row_bucket}
 use Rattle.turns.proofs.Index.{KeyIndex}
 use Rattle.turns.proofs.Done.{Done, going_on}
 use Rattle.engine.proofs.Searching.{words_in}
 
-pub record LoopKept (b₀ : Book) (tickets answers₀ reports₀ : List ℕ) (b : Book) (keys heads links : List ℕ) (all m k n : ℕ)
+pub record LoopKept (b₀ : Book) (tickets answers₀ reports₀ : List ℕ) (b : Book) (keys : List (List ℕ)) (all m k n : ℕ)
     (bytes text : List ℕ) : Type 0 where
   pub going : Going b₀ tickets answers₀ reports₀ b k n bytes text
   pub roster : b.roster ≡ b₀.roster
   -- no order before m waits for a bank
   pub passed : Passed m b
   pub few : m ≤ b.count
-  pub index : KeyIndex (words_in b.roster) row_bucket b keys heads links
+  pub index : KeyIndex (words_in b.roster) b keys
   -- all cover together
   pub sum : all ≡ all_of b.covers
 
 pub done-as : {words_of : ℕ × List ℕ → List ℕ} {b : Book} {t : List ℕ} {n₀ : ℕ} {text₀ : List ℕ} {b' : Book} {r k n : ℕ}
-    {text : List ℕ} {m : ℕ} {keys heads links : List ℕ} {all : ℕ}
-    {k' n' : ℕ} {text' keys' heads' links' : List ℕ} → Done words_of row_bucket b t n₀ text₀ b' r k n text m keys heads links all
-    → text' ≡ text → keys' ≡ keys → heads' ≡ heads → links' ≡ links → n' ≡ n → k' ≡ k
-    → Done words_of row_bucket b t n₀ text₀ b' r k' n' text' m keys' heads' links' all
-done-as {words_of} {b} {t} {n₀} {text₀} {b'} {r} {k} {n} {text} {m} {keys} {heads} {links} {all} {k'} {n'} {text'} {keys'} {heads'}
-    {links'} d is-text is-keys is-heads is-links is-n is-k =
-    subst (λ (x : ℕ). Done words_of row_bucket b t n₀ text₀ b' r x n' text' m keys' heads' links' all) (sym is-k)
-    (subst (λ (x : ℕ). Done words_of row_bucket b t n₀ text₀ b' r k x text' m keys' heads' links' all) (sym is-n)
-    (subst (λ (x : List ℕ). Done words_of row_bucket b t n₀ text₀ b' r k n x m keys' heads' links' all) (sym is-text)
-    (subst (λ (x : List ℕ). Done words_of row_bucket b t n₀ text₀ b' r k n text m x heads' links' all) (sym is-keys)
-    (subst (λ (x : List ℕ). Done words_of row_bucket b t n₀ text₀ b' r k n text m keys x links' all) (sym is-heads)
-    (subst (λ (x : List ℕ). Done words_of row_bucket b t n₀ text₀ b' r k n text m keys heads x all) (sym is-links) d)))))
+    {text : List ℕ} {m : ℕ} {keys : List (List ℕ)} {all : ℕ}
+    {k' n' : ℕ} {text' : List ℕ} {keys' : List (List ℕ)} → Done words_of b t n₀ text₀ b' r k n text m keys all
+    → text' ≡ text → keys' ≡ keys → n' ≡ n → k' ≡ k
+    → Done words_of b t n₀ text₀ b' r k' n' text' m keys' all
+done-as {words_of} {b} {t} {n₀} {text₀} {b'} {r} {k} {n} {text} {m} {keys} {all} {k'} {n'} {text'} {keys'} d is-text is-keys is-n is-k =
+    subst (λ (x : ℕ). Done words_of b t n₀ text₀ b' r x n' text' m keys' all) (sym is-k)
+    (subst (λ (x : ℕ). Done words_of b t n₀ text₀ b' r k x text' m keys' all) (sym is-n)
+    (subst (λ (x : List ℕ). Done words_of b t n₀ text₀ b' r k n x m keys' all) (sym is-text)
+    (subst (λ (x : List (List ℕ)). Done words_of b t n₀ text₀ b' r k n text m x all) (sym is-keys) d)))
 
-pub kept_on : {b₀ : Book} {tickets answers₀ reports₀ : List ℕ} {b : Book} {keys₀ heads₀ links₀ : List ℕ} {all₀ m₀ taken n₀ : ℕ}
-    {bytes text₀ t : List ℕ} {b' : Book} {r k n : ℕ} {text : List ℕ} {m : ℕ} {keys heads links : List ℕ} {all : ℕ}
+pub kept_on : {b₀ : Book} {tickets answers₀ reports₀ : List ℕ} {b : Book} {keys₀ : List (List ℕ)} {all₀ m₀ taken n₀ : ℕ}
+    {bytes text₀ t : List ℕ} {b' : Book} {r k n : ℕ} {text : List ℕ} {m : ℕ} {keys : List (List ℕ)} {all : ℕ}
     {a : Answer} {bytes' : List ℕ}
-    → LoopKept b₀ tickets answers₀ reports₀ b keys₀ heads₀ links₀ all₀ m₀ taken n₀ bytes text₀
+    → LoopKept b₀ tickets answers₀ reports₀ b keys₀ all₀ m₀ taken n₀ bytes text₀
     → room_left (length tickets - 108 * taken) (length answers₀ - 4 * taken) (length reports₀ - 12 * n₀) ≡ true
     → t ≡ take 108 (drop (108 * taken) tickets)
-    → Done (words_in b.roster) row_bucket b t n₀ text₀ b' r k n text m keys heads links all
+    → Done (words_in b.roster) b t n₀ text₀ b' r k n text m keys all
     → a ≡ answer_of (step_of b t) → bytes' ≡ sets bytes (4 * taken) (answer_bytes a)
-    → LoopKept b₀ tickets answers₀ reports₀ b' keys heads links all m (taken + 1) n bytes' text
-kept_on {b' = b'} {keys = keys} {heads} {links} h more is d answer bytes =
+    → LoopKept b₀ tickets answers₀ reports₀ b' keys all m (taken + 1) n bytes' text
+kept_on {b' = b'} {keys = keys} h more is d answer bytes =
     record {
       going = going_on h.going more is d answer bytes;
       roster = d.roster ∙ h.roster;
       passed = d.passed;
       few = d.few;
-      index = subst (λ (r : Roster). KeyIndex (words_in r) row_bucket b' keys heads links) (sym d.roster) d.index;
+      index = subst (λ (r : Roster). KeyIndex (words_in r) b' keys) (sym d.roster) d.index;
       sum = d.sum;
     }

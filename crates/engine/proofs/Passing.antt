@@ -5,21 +5,17 @@
 --     below ..          an order is looked at, one in use
 --     lapse-is          it expires as the rules have it; freeable, told-fits: there is room for that
 --     one-expired       one order more
---     follows           where the row leads
 --     all-with          all cover, by the cover as the code has it
---     else_refused      what is not read is refused, by its number
-use Rattle.std.specs.Prelude.{◌≡◌, ℕ, ◌+◌, ◌-◌, ◌*◌, ◌<◌, ◌≤◌, Bool, false, eqb, List, length, Option}
+use Rattle.std.specs.Prelude.{◌≡◌, ℕ, ◌+◌, ◌-◌, ◌*◌, ◌<◌, ◌≤◌, Bool, false, eqb, List, length, Result, Ok, Err}
 use mathlib.Core.Path.{refl, sym, ◌∙◌, ap, ap₂, subst}
 use native.Mathlib.Omega.{arith}
 use lib.Seq.{sets, length-sets}
-use Rattle.fields.specs.Rows.{first_row}
+use Rattle.index.specs.RowChains.{first_with}
 use Rattle.report.specs.ReportLayout.{reports_bytes}
 use Rattle.ticket.specs.TicketLayout.{sender_of, payee_of, payer_of, txid_field}
 use Rattle.dayfile.specs.Guarantee.{Guaranteed}
 use Rattle.dayfile.specs.Route.{followed_from}
 use Rattle.dayfile.specs.declared.roster.Roster.{Roster}
-use Rattle.routes.specs.Ways.{end_at}
-use Rattle.routes.proofs.Leading.{led-end}
 use Rattle.rules.specs.Book.{order_of, is_bank}
 use Rattle.rules.specs.Cover.{whole}
 use Rattle.rules.specs.Find.{sender_in, order_in, route_in}
@@ -36,41 +32,38 @@ use Rattle.course.proofs.Looping.{Sweeping, at-sound, at-roster, at-few, one_mor
 use Rattle.course.proofs.SoughtFitting.{Freeable, expiry-fits}
 use Rattle.course.proofs.Applying.{listed-few}
 use Rattle.index.specs.Words.{Bytes, bic_words, key_words}
-use Rattle.index.specs.RowChains.{row_bucket}
-use Rattle.sight.specs.Sight.{sight_of, sight_refusal}
+use Rattle.sight.specs.Sight.{sight_of}
 use Rattle.sight.specs.declared.Seen.{Seen}
-use Rattle.sight.specs.declared.Sight.{Sight}
-use Rattle.sight.specs.declared.Sight.TheVariants.{Read, Refused}
 use Rattle.turns.proofs.Turn.{TakenUp, clocked-sound, loop-count}
 use Rattle.turns.proofs.Done.{Done, turned_down}
 use Rattle.engine.specs.Directory.{Directs}
+use Rattle.engine.specs.declared.directory.Directory.{Directory}
 use Rattle.engine.proofs.LoopKeeping.{LoopKept}
 use Rattle.engine.proofs.Searching.{words_in, all_found}
 use Rattle.engine.proofs.SeenEntry.{entry_by, Sighted, sight-read, sight-refused}
 use Rattle.dayfile.specs.declared.route.Way.{Way}
 
-module _ {b₀ : Book} {tickets answers₀ reports₀ : List ℕ} {b : Book} {keys heads links : List ℕ} {all m k n : ℕ} {bytes text : List ℕ}
-    (h : LoopKept b₀ tickets answers₀ reports₀ b keys heads links all m k n bytes text)
-    {bics bic_heads bic_links routes route_heads route_links kinds numbers : List ℕ} (g : Guaranteed b₀.roster)
-    (d : Directs b₀.roster bics bic_heads bic_links routes route_heads route_links kinds numbers) {t : List ℕ}
-    (whole : length t ≡ 108) (held : Bytes t) {sight : Sight}
+module _ {b₀ : Book} {tickets answers₀ reports₀ : List ℕ} {b : Book} {keys : List (List ℕ)} {all m k n : ℕ} {bytes text : List ℕ}
+    (h : LoopKept b₀ tickets answers₀ reports₀ b keys all m k n bytes text)
+    {y : Directory} (g : Guaranteed b₀.roster) (d : Directs b₀.roster y) {t : List ℕ}
+    (whole : length t ≡ 108) (held : Bytes t) {sight : Result Seen ℕ}
     (is : sight
-    ≡ sight_of b.clock t (first_row 2 b₀.roster.size (bic_words (sender_of t)) bics)
-    (first_row 7 b.count (key_words (payer_of t) (txid_field t)) keys) (first_row 2 b₀.roster.rows (bic_words (payee_of t)) routes)) where
+    ≡ sight_of b.clock t (first_with (bic_words (sender_of t)) y.bics)
+    (first_with (key_words (payer_of t) (txid_field t)) keys) (first_with (bic_words (payee_of t)) y.routes)) where
   pub seen-is : sight ≡ sight_of b.clock t (sender_in b.roster t) (order_in b.roster b.orders b.count t) (route_in b.roster t)
   seen-is = is ∙ all_found g d t whole held h.going.sound h.index h.roster
 
-  pub refused-as : {r : ℕ} → sight ≡ Refused r → ((entry_of b.clock t).refusal ≡ r) × (eqb r 0 ≡ false)
+  pub refused-as : {r : ℕ} → sight ≡ Err r → ((entry_of b.clock t).refusal ≡ r) × (eqb r 0 ≡ false)
   refused-as e = sight-refused b t (sym seen-is ∙ e)
 
-  pub refused-done : {r : ℕ} → sight ≡ Refused r
-      → Done (words_in b.roster) row_bucket b t n text b r 0 n text m keys heads links all
+  pub refused-done : {r : ℕ} → sight ≡ Err r
+      → Done (words_in b.roster) b t n text b r 0 n text m keys all
   refused-done e = let r = refused-as e in turned_down h.going.sound r.0 r.1 h.passed h.few h.index h.sum
 
-  pub sighted : {y : Seen} → sight ≡ Read y → Sighted b t y
+  pub sighted : {y : Seen} → sight ≡ Ok y → Sighted b t y
   sighted e = sight-read b t (sym seen-is ∙ e)
 
-  pub taken : {y : Seen} → sight ≡ Read y → TakenUp b t (entry_by y)
+  pub taken : {y : Seen} → sight ≡ Ok y → TakenUp b t (entry_by y)
   taken e = record { sound = h.going.sound; is = (sighted e).is; passes = refl }
 
 -- c is the book at order m of the expiries
@@ -124,15 +117,7 @@ module _ {b : Book} {t : List ℕ} {e : Entry} (u : TakenUp b t e) {n₀ : ℕ} 
         (told ∙ ap (λ (y : Expiry). n + length (listed y.told)) lapse-is)
         (text-is ∙ ap (λ (y : Expiry). sets text (12 * n) (reports_bytes (listed y.told))) lapse-is)
 
-pub follows : {r : Roster} {bics bic_heads bic_links routes route_heads route_links kinds numbers : List ℕ}
-    → Directs r bics bic_heads bic_links routes route_heads route_links kinds numbers → (route : Option ℕ) {way : Option Way}
-    → way ≡ end_at kinds numbers route → way ≡ followed_from r route
-follows {r} d route is = is ∙ ap₂ (λ (x y : List ℕ). end_at x y route) d.kind d.number ∙ led-end r route
-
 pub all-with : (all all' : ℕ) (old : Cover) {new new' : Cover} → all' ≡ all - whole old + whole new → new' ≡ new
     → all' ≡ all - whole old + whole new'
 all-with all all' old is e = is ∙ ap (λ (x : Cover). all - whole old + whole x) (sym e)
 
-pub else_refused : (x : Sight) → ((y : Seen) → x ≡ Read y → ⊥) → x ≡ Refused (sight_refusal x)
-else_refused (Read y) none = absurd (none y refl)
-else_refused (Refused r) none = refl

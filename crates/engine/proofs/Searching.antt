@@ -1,12 +1,12 @@
 -- What is searched: the index of keys may be lent to a search, and what is found among rows of words is what is found in the book.
 -- Assumes nothing.
 use Rattle.std.specs.Prelude.{◌≡◌, ℕ, ◌<◌, Bool, true, false, cond, ◌&&◌, eqb, List, length}
-use mathlib.Core.Path.{sym, ◌∙◌, ap}
+use mathlib.Core.Path.{sym, ◌∙◌, ap, subst}
 use native.Mathlib.Nat.{lt_trans}
 use native.Mathlib.Omega.{arith}
 use Rattle.fields.specs.Text.{same}
 use Rattle.fields.specs.Search.{first_to}
-use Rattle.fields.specs.Rows.{first_row}
+use Rattle.index.specs.RowChains.{first_with}
 use Rattle.fields.proofs.Stores.{length_part}
 use Rattle.fields.proofs.Same.{same_refl}
 use Rattle.codes.specs.Bic.{is_bic}
@@ -22,13 +22,13 @@ use Rattle.rules.specs.Sound.{Sound}
 use Rattle.rules.specs.declared.Book.{Book}
 use Rattle.rules.proofs.Senders.{swapped, who-sends}
 use Rattle.index.specs.Words.{Bytes, bic_words, key_words}
-use Rattle.index.specs.RowChains.{row_bucket}
 use Rattle.index.specs.LentRows.{KeyRows}
 use Rattle.index.proofs.Comparing.{part_bytes}
 use Rattle.index.proofs.LentRows.{bic-found, key-found, key-rows}
 use Rattle.sight.specs.Sight.{sight_of}
-use Rattle.turns.proofs.Index.{KeyIndex, row_chained}
+use Rattle.turns.proofs.Index.{KeyIndex}
 use Rattle.engine.specs.Directory.{Directs}
+use Rattle.engine.specs.declared.directory.Directory.{Directory}
 
 -- the words of an order's key: those of its payer's BIC and of its TxId
 abbrev pub words_in : Roster → ℕ × List ℕ → List ℕ
@@ -41,7 +41,7 @@ one-bic r g p q l m =
     who-sends r g (participant_of r q).bic q (record { below = m; passes = same_refl (participant_of r q).bic }) p l ∙ swapped q p
 
 -- the index may be lent
-module _ {b : Book} {keys heads links : List ℕ} (s : Sound b) (f : KeyIndex (words_in b.roster) row_bucket b keys heads links) where
+module _ {b : Book} {keys : List (List ℕ)} (s : Sound b) (f : KeyIndex (words_in b.roster) b keys) where
   abbrev bic : ℕ → List ℕ
   bic i = (participant_of b.roster (order_of b.orders i).payer).bic
 
@@ -58,20 +58,17 @@ module _ {b : Book} {keys heads links : List ℕ} (s : Sound b) (f : KeyIndex (w
       (s.orders.payer j k))
       ∙ s.orders.distinct i j l k
 
-  pub keys-lent : KeyRows b.count keys heads links
+  pub keys-lent : KeyRows keys
   keys-lent =
-      let few = s.orders.count in
-      let linked = f.linked in
-      let long = f.long in
-      key-rows bic txid f.keys payers-bic s.orders.padded s.orders.txid differ f.headed (omega arith) (omega arith)
-      (row_chained f)
+      subst KeyRows (sym f.keys) (key-rows bic txid b.count payers-bic s.orders.padded s.orders.txid differ)
 
   -- what is found among the keys is what is found in the book
   order-found : (t : List ℕ) → length t ≡ 108 → Bytes t
-      → first_row 7 b.count (key_words (payer_of t) (txid_field t)) keys ≡ order_in b.roster b.orders b.count t
+      → first_with (key_words (payer_of t) (txid_field t)) keys ≡ order_in b.roster b.orders b.count t
   unfolding order_in
   order-found t whole bytes =
-      key-found bic txid f.keys payers-bic s.orders.padded s.orders.txid (payer_of t) (txid_field t)
+      ap (first_with (key_words (payer_of t) (txid_field t))) f.keys
+      ∙ key-found bic txid b.count payers-bic s.orders.padded s.orders.txid (payer_of t) (txid_field t)
       (payer-long (eqb (kind_byte t) 3)) (length_part 35 38 t (rw whole (omega arith))) (payer-bytes (eqb (kind_byte t) 3))
       (part_bytes bytes 35 38)
     where
@@ -83,27 +80,28 @@ module _ {b : Book} {keys heads links : List ℕ} (s : Sound b) (f : KeyIndex (w
       payer-bytes true = part_bytes bytes 11 16
       payer-bytes false = part_bytes bytes 11 27
 
-module _ {r : Roster} {bics bic_heads bic_links routes route_heads route_links kinds numbers : List ℕ} (g : Guaranteed r)
-    (d : Directs r bics bic_heads bic_links routes route_heads route_links kinds numbers) (t : List ℕ)
+module _ {r : Roster} {y : Directory} (g : Guaranteed r) (d : Directs r y) (t : List ℕ)
     (whole : length t ≡ 108) (bytes : Bytes t) where
-  sender-found : first_row 2 r.size (bic_words (sender_of t)) bics ≡ sender_in r t
+  sender-found : first_with (bic_words (sender_of t)) y.bics ≡ sender_in r t
   unfolding sender_in
   sender-found =
-      bic-found (λ p. (participant_in r.participants p).bic) d.sender g.bic (sender_of t)
+      ap (first_with (bic_words (sender_of t))) d.sender
+      ∙ bic-found (λ p. (participant_in r.participants p).bic) r.size g.bic (sender_of t)
       (length_part 11 16 t (rw whole (omega arith)))
       (part_bytes bytes 11 16)
 
-  route-found : first_row 2 r.rows (bic_words (payee_of t)) routes ≡ route_in r t
+  route-found : first_with (bic_words (payee_of t)) y.routes ≡ route_in r t
   unfolding route_in
   route-found =
-      bic-found (λ i. (row_of r.routes i).bic) d.payee g.route_bic (payee_of t) (length_part 11 27 t (rw whole (omega arith)))
+      ap (first_with (bic_words (payee_of t))) d.payee
+      ∙ bic-found (λ i. (row_of r.routes i).bic) r.rows g.route_bic (payee_of t) (length_part 11 27 t (rw whole (omega arith)))
       (part_bytes bytes 11 27)
       ∙ ap (first_to (has_bic r.routes (payee_of t))) (sym (rows_in_lem r g.rows))
 
-  pub all_found : {b : Book} {keys heads links : List ℕ} → Sound b → KeyIndex (words_in b.roster) row_bucket b keys heads links
+  pub all_found : {b : Book} {keys : List (List ℕ)} → Sound b → KeyIndex (words_in b.roster) b keys
       → b.roster ≡ r
-      → sight_of b.clock t (first_row 2 r.size (bic_words (sender_of t)) bics)
-      (first_row 7 b.count (key_words (payer_of t) (txid_field t)) keys) (first_row 2 r.rows (bic_words (payee_of t)) routes)
+      → sight_of b.clock t (first_with (bic_words (sender_of t)) y.bics)
+      (first_with (key_words (payer_of t) (txid_field t)) keys) (first_with (bic_words (payee_of t)) y.routes)
       ≡ sight_of b.clock t (sender_in b.roster t) (order_in b.roster b.orders b.count t) (route_in b.roster t)
   all_found {b} s f ours =
       λ i. sight_of b.clock t ((sender-found ∙ ap (λ (x : Roster). sender_in x t) (sym ours)) i) (order-found s f t whole bytes i)

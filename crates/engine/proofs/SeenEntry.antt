@@ -3,7 +3,7 @@
 --     Sighted         it is the ticket's, and what was found is what is sought
 --     sight-read      of a ticket that passes
 --     sight-refused   of one that 7 to 11 refuse
-use Rattle.std.specs.Prelude.{◌≡◌, ℕ, Bool, true, false, cond, eqb, List}
+use Rattle.std.specs.Prelude.{◌≡◌, ℕ, Bool, true, false, cond, eqb, List, Result, Ok, Err}
 use mathlib.Core.Path.{refl, sym, ◌∙◌, ap, subst}
 use native.Mathlib.Omega.{arith}
 use borrow.Author.Tests.{eqb-true}
@@ -14,24 +14,22 @@ use Rattle.course.specs.Seeking.{sought_sender, sought_order}
 use Rattle.course.specs.declared.Entry.{Entry}
 use Rattle.sight.specs.Sight.{seen_as, sight_of}
 use Rattle.sight.specs.declared.Seen.{Seen}
-use Rattle.sight.specs.declared.Sight.{Sight}
-use Rattle.sight.specs.declared.Sight.TheVariants.{Read, Refused}
 use Rattle.turns.proofs.Facts.{sought_route}
 
 abbrev pub entry_by : Seen → Entry
 entry_by y = record { refusal = 0; kind = y.kind; time = y.time; amount = y.amount }
 
-abbrev seen_in : Seen → Sight → Seen
-seen_in y (Read x) = x
-seen_in y (Refused n) = y
+abbrev seen_in : Seen → Result Seen ℕ → Seen
+seen_in y (Ok x) = x
+seen_in y (Err n) = y
 
-abbrev number_in : Sight → ℕ
-number_in (Read x) = 0
-number_in (Refused n) = n
+abbrev number_in : Result Seen ℕ → ℕ
+number_in (Ok x) = 0
+number_in (Err n) = n
 
-abbrev is_read : Sight → ℕ
-is_read (Read x) = 1
-is_read (Refused n) = 0
+abbrev is_read : Result Seen ℕ → ℕ
+is_read (Ok x) = 1
+is_read (Err n) = 0
 
 pub record Sighted (b : Book) (t : List ℕ) (y : Seen) : Type 0 where
   pub is : entry_by y ≡ entry_of b.clock t
@@ -47,7 +45,7 @@ module _ (b : Book) (t : List ℕ) where
   seen = seen_as e (sender_in b.roster t) (order_in b.roster b.orders b.count t) (route_in b.roster t)
 
   pub sight-read : {y : Seen}
-      → sight_of b.clock t (sender_in b.roster t) (order_in b.roster b.orders b.count t) (route_in b.roster t) ≡ Read y
+      → sight_of b.clock t (sender_in b.roster t) (order_in b.roster b.orders b.count t) (route_in b.roster t) ≡ Ok y
       → Sighted b t y
   sight-read {y} = go (eqb e.refusal 0) refl
     where
@@ -57,16 +55,16 @@ module _ (b : Book) (t : List ℕ) where
       as_seen : e.refusal ≡ 0 → Sighted b t seen
       as_seen q = record { is = passed q; sends = refl; names = refl; leads = refl }
 
-      go : (z : Bool) → eqb e.refusal 0 ≡ z → cond z (Read seen) (Refused e.refusal) ≡ Read y → Sighted b t y
+      go : (z : Bool) → eqb e.refusal 0 ≡ z → cond z (Ok seen) (Err e.refusal) ≡ Ok y → Sighted b t y
       go true q r = subst (Sighted b t) (ap (seen_in seen) r) (as_seen (eqb-true e.refusal 0 q))
       go false q r = let none : ◌≡◌ {A = ℕ} 0 1 = ap is_read r in absurd (omega arith)
 
   pub sight-refused : {n : ℕ}
-      → sight_of b.clock t (sender_in b.roster t) (order_in b.roster b.orders b.count t) (route_in b.roster t) ≡ Refused n
+      → sight_of b.clock t (sender_in b.roster t) (order_in b.roster b.orders b.count t) (route_in b.roster t) ≡ Err n
       → (e.refusal ≡ n) × (eqb n 0 ≡ false)
   sight-refused {n} = go (eqb e.refusal 0) refl
     where
-      go : (z : Bool) → eqb e.refusal 0 ≡ z → cond z (Read seen) (Refused e.refusal) ≡ Refused n
+      go : (z : Bool) → eqb e.refusal 0 ≡ z → cond z (Ok seen) (Err e.refusal) ≡ Err n
           → (e.refusal ≡ n) × (eqb n 0 ≡ false)
       go true q r = let none : ◌≡◌ {A = ℕ} 1 0 = ap is_read r in absurd (omega arith)
       go false q r = let same = ap number_in r in (same, ap (λ (m : ℕ). eqb m 0) (sym same) ∙ q)

@@ -24,20 +24,6 @@ pub fn run(b: Book, tickets: &[u8], answers: &mut [u8], reports: &mut [u8]) -> B
     ensures { Ran b tickets.now answers.old reports.old result.book result.taken answers.new
         reports.new }
 {
-    let roster = b.roster;
-    let d = directory::directory_of(roster);
-    taking::take(
-        b,
-        tickets,
-        answers,
-        reports,
-        &d.bics,
-        &d.bic_heads,
-        &d.bic_links,
-        &d.routes,
-        &d.route_heads,
-        &d.route_links,
-        &d.kinds,
-        &d.numbers,
-    )
+    let directory = directory::directory_of(&b.roster);
+    taking::take(b, tickets, answers, reports, &directory)
 }

@@ -17,15 +17,15 @@ ghost use Rattle.course.specs.Seeking.{seeks_open};
 ghost use Rattle.course.specs.Running.{Ran};
 ghost use Rattle.engine.specs.Directory.{Directs};
 
+use super::directory::Directory;
 use super::{Batch, room};
-use index::chains;
+use index::words;
 use moves::{cover, cut, sums, told};
 use orders::{status, tick};
 use report::answer;
 use report::answer::Answer;
 use rules::verdict::{About, Does, Facts};
 use rules::{Book, Order, Status};
-use sight::Sight;
 use ticket::kinds::Kind;
 use ticket::layout;
 
@@ -49,35 +49,23 @@ fn is_cut(kind: Kind) -> bool
     }
 }
 
-pub fn take<'a>(
+pub fn take(
     mut b: Book,
     tickets: &[u8],
     answers: &mut [u8],
     reports: &mut [u8],
-    bics: &'a [u64],
-    bic_heads: &'a [u16],
-    bic_links: &'a [u16],
-    routes: &'a [u64],
-    route_heads: &'a [u16],
-    route_links: &'a [u16],
-    kinds: &'a [u8; 64],
-    numbers: &'a [usize; 64],
+    directory: &Directory,
 ) -> Batch
     requires { Sound b
-        × Directs b.roster bics.now bic_heads.now bic_links.now routes.now route_heads.now
-        route_links.now kinds.now numbers.now }
+        × Directs b.roster directory.now }
     ensures { Ran b tickets.now answers.old reports.old result.book result.taken answers.new
         reports.new }
 {
     let roster = b.roster;
     let size = roster.size;
-    let route_rows = roster.rows;
     let orders = b.orders;
     let participants = roster.participants;
-    let mut keys = index::keys_of(participants, orders, b.count);
-    let made = chains::key_chains(&keys, b.count);
-    let mut heads = made.heads;
-    let mut links = made.links;
+    let mut keys = index::keys_of(&participants, &orders, b.count);
     // all cover together
     let covers = b.covers;
     let mut total = sums::total_of(covers, size);
@@ -94,34 +82,21 @@ pub fn take<'a>(
         let t = &tickets[at..at + layout::LENGTH];
 
         // it is seen
-        let sight = sight::see(
-            b.clock,
-            t,
-            bic_heads,
-            bic_links,
-            bics,
-            size,
-            &heads,
-            &links,
-            &keys,
-            b.count,
-            route_heads,
-            route_links,
-            routes,
-            route_rows,
-        );
-        let Sight::Read(s) = sight else {
-            answer::put_answer(
-                answers,
-                taken,
-                Answer {
-                    refusal: sight::refusal_of(sight),
-                    reports: 0,
-                    rows: 0,
-                },
-            );
-            taken += 1;
-            continue;
+        let s = match sight::see(b.clock, t, &directory.bics, &keys, &directory.routes) {
+            Ok(s) => s,
+            Err(refusal) => {
+                answer::put_answer(
+                    answers,
+                    taken,
+                    Answer {
+                        refusal,
+                        reports: 0,
+                        rows: 0,
+                    },
+                );
+                taken += 1;
+                continue;
+            }
         };
         b.clock = s.time;
         let before = n;
@@ -151,7 +126,7 @@ pub fn take<'a>(
         let sender = s.sender;
         let order = s.order;
         let route = s.route;
-        let way = routes::end_of(kinds, numbers, route);
+        let way = routes::end_of(&roster, route);
         let mut unconfirmed = false;
         if is_cut(kind) {
             let covers = b.covers;
@@ -230,14 +205,10 @@ pub fn take<'a>(
                 let k = b.count;
                 let mut txid = [0u8; 35];
                 fields::copy(&t[layout::TXID..layout::IBAN], &mut txid);
-                index::put_key(
-                    &mut heads,
-                    &mut links,
-                    &mut keys,
-                    k,
+                keys.push(&words::key_words(
                     &t[layout::SENDER..layout::PAYEE],
                     &t[layout::TXID..layout::IBAN],
-                );
+                ));
                 followed = dayfile::rows_followed(way);
                 b.orders[k] = Order {
                     txid,

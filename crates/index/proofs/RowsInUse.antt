@@ -11,8 +11,7 @@ use Rattle.fields.proofs.Finding.{first-same}
 use Rattle.fields.proofs.Chaining.{same-chained, enchained}
 use lib.Seq.{get_or-set_same, get_or-set_other}
 use Rattle.fields.proofs.Tests.{never}
-use Rattle.index.specs.RowChains.{row_buckets, added_to}
-use Rattle.index.specs.Table.{words_bucket, row_at, first_with, Apart}
+use Rattle.index.specs.RowChains.{row_buckets, added_to, row_bucket, row_at, first_with, Distinct}
 use Rattle.index.proofs.AlongChain.{Searchable}
 
 pub same_is : (s t : List ℕ) → same s t ≡ pointwise eqb s t
@@ -36,14 +35,14 @@ module _ (all : List (List ℕ)) {rows : List (List ℕ)} (n : ℕ) (used : take
       ∙ first-same (λ i. same (row_at rows i) words) (λ i. same (row_at all i) words) n
       (λ i l. ap (λ (s : List ℕ). same s words) (row-is i l))
 
-  pub searchable : {heads links : List ℕ} → Chained row_buckets (λ i. words_bucket (row_at all i)) n heads links → Apart rows
+  pub searchable : {heads links : List ℕ} → Chained row_buckets (λ i. row_bucket (row_at all i)) n heads links → Distinct rows
       → (words : List ℕ)
-      → Searchable row_buckets (words_bucket words) (λ i. words_bucket (row_at all i)) (λ i. same (row_at all i) words) n heads links
+      → Searchable row_buckets (row_bucket words) (λ i. row_bucket (row_at all i)) (λ i. same (row_at all i) words) n heads links
   searchable c apart words =
       record {
         chained = c;
         inside = mod-lt (added_to 0 words) (lit< tt);
-        tells = λ i l e. ap words_bucket (same_true (row_at all i) words e);
+        tells = λ i l e. ap row_bucket (same_true (row_at all i) words e);
         alone = λ i j l k e. go i j l k e (same (row_at all j) words) refl;
       }
     where
@@ -59,10 +58,10 @@ module _ (all : List (List ℕ)) {rows : List (List ℕ)} (n : ℕ) (used : take
 
 -- a row more, in its bucket's chain
 pub pushed-chained : (all : List (List ℕ)) (n : ℕ) {heads links : List ℕ}
-    → Chained row_buckets (λ i. words_bucket (row_at all i)) n heads links → length heads ≡ row_buckets → n < length links
-    → n < length all → (words : List ℕ) {b : ℕ} → b ≡ words_bucket words → b < row_buckets
-    → Chained row_buckets (λ i. words_bucket (row_at (set all n words) i)) (n + 1) (set heads b (n + 1)) (set links n (get_or heads b 0))
+    → Chained row_buckets (λ i. row_bucket (row_at all i)) n heads links → length heads ≡ row_buckets → n < length links
+    → n < length all → (words : List ℕ) {b : ℕ} → b ≡ row_bucket words → b < row_buckets
+    → Chained row_buckets (λ i. row_bucket (row_at (set all n words) i)) (n + 1) (set heads b (n + 1)) (set links n (get_or heads b 0))
 pushed-chained all n {heads} {links} c headed linked room words {b} is inside =
     enchained
-    (same-chained c (λ i l. ap words_bucket (sym (get_or-set_other all n i words [] (λ e. omega arith)))))
-    headed linked (is ∙ ap words_bucket (sym (get_or-set_same all n words [] room))) inside refl refl
+    (same-chained c (λ i l. ap row_bucket (sym (get_or-set_other all n i words [] (λ e. omega arith)))))
+    headed linked (is ∙ ap row_bucket (sym (get_or-set_same all n words [] room))) inside refl refl

@@ -1,4 +1,3 @@
 pub mod RowChains
 pub mod LentRows
 pub mod Words
-pub mod Table

@@ -1,8 +1,7 @@
 // Rows of words with chains through them.
 ghost use Rattle.std.specs.Prelude.{◌≡◌, ℕ, ◌+◌, ◌<◌, ◌≤◌, ◌++◌, List, [], ◌∷◌, length, get_or, take};
 ghost use Rattle.fields.specs.Chains.{Chained};
-ghost use Rattle.index.specs.RowChains.{row_buckets};
-ghost use Rattle.index.specs.Table.{words_bucket, Apart, first_with};
+ghost use Rattle.index.specs.RowChains.{row_buckets, row_bucket, Distinct, first_with};
 
 use std::marker::Model;
 
@@ -20,11 +19,11 @@ impl<const WORDS: usize, const ROWS: usize> Model for Index<WORDS, ROWS> {
     ghost view = { λ x. take x.count x.rows };
 
     ghost invariant = { λ x. (x.count ≤ ROWS) × (ROWS < 65536)
-        × Chained row_buckets (λ i. words_bucket (get_or x.rows i [])) x.count x.heads x.links };
+        × Chained row_buckets (λ i. row_bucket (get_or x.rows i [])) x.count x.heads x.links };
 }
 
 fn bucket<const WORDS: usize>(words: &[u64; WORDS]) -> usize
-    ensures { (result ≡ words_bucket words.now) × (result < row_buckets) }
+    ensures { (result ≡ row_bucket words.now) × (result < row_buckets) }
 {
     let mut sum = 0u64;
     for &w in words {
@@ -59,7 +58,7 @@ impl<const WORDS: usize, const ROWS: usize> Index<WORDS, ROWS> {
     }
 
     pub fn find(&self, words: &[u64; WORDS]) -> Option<usize>
-        requires { Apart self.now }
+        requires { Distinct self.now }
         ensures { result ≡ first_with words.now self.now }
     {
         let mut at = self.heads[bucket(words)] as usize;

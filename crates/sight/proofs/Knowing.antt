@@ -7,7 +7,6 @@ use Prim.Native.Nat.{ℕ, ◌+◌, ◌≤◌}
 use native.Mathlib.Omega.{arith}
 use lib.ListN.{length}
 use Rattle.fields.specs.Number.{part}
-use Rattle.fields.specs.Rows.{first_row}
 use Rattle.fields.proofs.Stores.{length_part}
 use Rattle.ticket.specs.TicketLayout.{ticket_length, sender_of, payee_of, payer_of, txid_field}
 use Rattle.ticket.specs.declared.kinds.Kind.{Kind}
@@ -16,22 +15,23 @@ use Rattle.ticket.proofs.TicketTelling.{payer-named}
 use Rattle.rules.specs.declared.terms.Subject.TheVariants.{NewOrder, HeldOrder}
 use Rattle.shapes.specs.Subject.{TicketNaming, KnownBic, KnownKey}
 use Rattle.shapes.proofs.Forms.{none-new}
+use Rattle.index.specs.RowChains.{first_with}
 use Rattle.index.specs.LentRows.{BicRows, KeyRows}
 use Rattle.index.specs.Words.{Bytes, bic_words, key_words}
 use Rattle.index.proofs.Comparing.{part_bytes}
 
-module _ (t : List ℕ) (whole : length t ≡ ticket_length) (bytes : Bytes t) {n : ℕ} {rows heads links : List ℕ} where
-  pub known-sender : BicRows n rows heads links → (f : Option ℕ) → f ≡ first_row 2 n (bic_words (sender_of t)) rows → KnownBic f (sender_of t)
+module _ (t : List ℕ) (whole : length t ≡ ticket_length) (bytes : Bytes t) {rows : List (List ℕ)} where
+  pub known-sender : BicRows rows → (f : Option ℕ) → f ≡ first_with (bic_words (sender_of t)) rows → KnownBic f (sender_of t)
   known-sender lent f e found =
       lent.formed (sender_of t) (length_part 11 16 t (omega arith)) (part_bytes bytes 11 16) (ap is_some (sym e) ∙ found)
 
-  pub known-payee : BicRows n rows heads links → (f : Option ℕ) → f ≡ first_row 2 n (bic_words (payee_of t)) rows → KnownBic f (payee_of t)
+  pub known-payee : BicRows rows → (f : Option ℕ) → f ≡ first_with (bic_words (payee_of t)) rows → KnownBic f (payee_of t)
   known-payee lent f e found =
       lent.formed (payee_of t) (length_part 11 27 t (omega arith)) (part_bytes bytes 11 27) (ap is_some (sym e) ∙ found)
 
   -- by its sender or its payer, at either place
-  pub known-key : KeyRows n rows heads links → (at : ℕ) → at + 11 ≤ ticket_length → (f : Option ℕ)
-      → f ≡ first_row 7 n (key_words (part 11 at t) (txid_field t)) rows → KnownKey f (part 11 at t) (txid_field t)
+  pub known-key : KeyRows rows → (at : ℕ) → at + 11 ≤ ticket_length → (f : Option ℕ)
+      → f ≡ first_with (key_words (part 11 at t) (txid_field t)) rows → KnownKey f (part 11 at t) (txid_field t)
   known-key lent at fits f e found =
       lent.formed (part 11 at t) (txid_field t) (length_part 11 at t (omega arith)) (length_part 35 38 t (omega arith))
       (part_bytes bytes 11 at) (part_bytes bytes 35 38) (ap is_some (sym e) ∙ found)

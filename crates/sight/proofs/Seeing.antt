@@ -1,5 +1,5 @@
 -- What is seen of a ticket, check by check. Assumes nothing.
-use Rattle.std.specs.Prelude.{Option, None, Result, Some, ℕ}
+use Rattle.std.specs.Prelude.{Option, None, Result, Some, Ok, Err}
 use mathlib.Core.Path.{◌≡◌, refl, sym, ◌∙◌, ap}
 use mathlib.Core.Bool.{Bool, true, false, cond}
 use mathlib.Core.List.{List}
@@ -25,30 +25,31 @@ use Rattle.sight.specs.Sight.{seen_as, sight_as, sight_of}
 use Rattle.shapes.specs.Amounts.{amounts_of}
 use Rattle.shapes.specs.Subject.{TicketNaming}
 use Rattle.sight.specs.Value.{value_sight}
-use Rattle.sight.specs.declared.Sight.{Sight}
-use Rattle.sight.specs.declared.Sight.TheVariants.{Read, Refused}
+use Rattle.sight.specs.declared.Seen.{Seen}
 use Rattle.shapes.proofs.Forms.{formed-kind, no-account}
 use Rattle.ticket.specs.declared.Fields.{Fields}
 
 module _ (clock : ℕ) (t : List ℕ) (sender order route : Option ℕ) where
   -- of what was read
-  abbrev sight-read : Result Fields ℕ → Sight
+  abbrev sight-read : Result Fields ℕ → Result Seen ℕ
   sight-read r = sight_as (read_entry clock r) sender order route
 
   -- with what its kind asks for, by what that names
-  abbrev pub asked : Kind → Subject → Sight
-  asked k s = value_sight clock t k (if (names_sender s) sender) (if (seeks_order s) order) (if (opens_order s) route)
+  abbrev pub asked : Kind → Subject → Result Seen ℕ
+  asked k s =
+      value_sight clock t k
+      (record { sender = if (names_sender s) sender; order = if (seeks_order s) order; route = if (opens_order s) route })
 
   -- 7: an unknown kind or flag
-  pub sight-unknown : kinded (kind_byte t) (flag_byte t) ≡ None → sight_of clock t sender order route ≡ Refused 7
+  pub sight-unknown : kinded (kind_byte t) (flag_byte t) ≡ None → sight_of clock t sender order route ≡ Err 7
   sight-unknown e = ap sight-read (unknown-refused t e)
 
   -- 7
-  pub sight-malformed : shape_of t ≡ None → sight_of clock t sender order route ≡ Refused 7
+  pub sight-malformed : shape_of t ≡ None → sight_of clock t sender order route ≡ Err 7
   sight-malformed e = ap sight-read (read-malformed t e)
 
   -- 8
-  pub sight-wrong : (k : Kind) → shape_of t ≡ Some k → account_of (form_of k) t ≡ Wrong → sight_of clock t sender order route ≡ Refused 8
+  pub sight-wrong : (k : Kind) → shape_of t ≡ Some k → account_of (form_of k) t ≡ Wrong → sight_of clock t sender order route ≡ Err 8
   sight-wrong k e w = ap sight-read (read-formed t k e ∙ ap (read_account k t) w)
 
   -- 9 to 11, and what is seen where none applies
@@ -76,19 +77,19 @@ module _ (clock : ℕ) (t : List ℕ) (sender order route : Option ℕ) where
 
 module _ (clock : ℕ) (t : List ℕ) (sender order route : Option ℕ) where
   -- by the test of its refusal
-  abbrev tested : Bool → Sight
-  tested b = cond b (Read (seen_as (entry_of clock t) sender order route)) (Refused (entry_of clock t).refusal)
+  abbrev tested : Bool → Result Seen ℕ
+  tested b = cond b (Ok (seen_as (entry_of clock t) sender order route)) (Err (entry_of clock t).refusal)
 
-  pub refused : (n : ℕ) → sight_of clock t sender order route ≡ Refused n → ((entry_of clock t).refusal ≡ n) × (0 < n)
+  pub refused : (n : ℕ) → sight_of clock t sender order route ≡ Err n → ((entry_of clock t).refusal ≡ n) × (0 < n)
   refused n e = go (eqb (entry_of clock t).refusal 0) refl
     where
       go : (b : Bool) → eqb (entry_of clock t).refusal 0 ≡ b → ((entry_of clock t).refusal ≡ n) × (0 < n)
       go true q =
-          let e' : ◌≡◌ {A = Sight} (Read (seen_as (entry_of clock t) sender order route)) (Refused n) = sym (ap tested q) ∙ e in
+          let e' : ◌≡◌ {A = Result Seen ℕ} (Ok (seen_as (entry_of clock t) sender order route)) (Err n) = sym (ap tested q) ∙ e in
           let z : ◌≡◌ {A = ℕ} 0 1 = cc in
           absurd (omega arith)
       go false q =
-          let e' : ◌≡◌ {A = Sight} (Refused (entry_of clock t).refusal) (Refused n) = sym (ap tested q) ∙ e in
+          let e' : ◌≡◌ {A = Result Seen ℕ} (Err (entry_of clock t).refusal) (Err n) = sym (ap tested q) ∙ e in
           let is : (entry_of clock t).refusal ≡ n = cc in
           let not-zero = eqb-false (entry_of clock t).refusal 0 q in
           (is, omega arith)

@@ -3,16 +3,13 @@
 --     seen_as          of a ticket that passes
 --     sight_by         refused by a number, or what is seen where it is 0
 --     sight_of         of any ticket
---     sight_refusal    the number, 0 where the ticket passes
 -- Assumes nothing.
-use Rattle.std.specs.Prelude.{ℕ, cond, List, eqb, Option}
+use Rattle.std.specs.Prelude.{ℕ, cond, List, eqb, Option, Result, Ok, Err}
 use Rattle.rules.specs.Terms.{terms_of, names_sender, opens_order}
 use Rattle.course.specs.Entry.{entry_of}
 use Rattle.course.specs.Seeking.{if, seeks_order}
 use Rattle.course.specs.declared.Entry.{Entry}
 use Rattle.sight.specs.declared.Seen.{Seen}
-use Rattle.sight.specs.declared.Sight.{Sight}
-use Rattle.sight.specs.declared.Sight.TheVariants.{Read, Refused}
 
 abbrev pub seen_as : Entry → Option ℕ → Option ℕ → Option ℕ → Seen
 seen_as e sender order route =
@@ -26,15 +23,11 @@ seen_as e sender order route =
       route = if (opens_order subject) route;
     }
 
-abbrev pub sight_by : ℕ → Seen → Sight
-sight_by n seen = cond (eqb n 0) (Read seen) (Refused n)
+abbrev pub sight_by : ℕ → Seen → Result Seen ℕ
+sight_by n seen = cond (eqb n 0) (Ok seen) (Err n)
 
-abbrev pub sight_as : Entry → Option ℕ → Option ℕ → Option ℕ → Sight
+abbrev pub sight_as : Entry → Option ℕ → Option ℕ → Option ℕ → Result Seen ℕ
 sight_as e sender order route = sight_by e.refusal (seen_as e sender order route)
 
-abbrev pub sight_of : ℕ → List ℕ → Option ℕ → Option ℕ → Option ℕ → Sight
+abbrev pub sight_of : ℕ → List ℕ → Option ℕ → Option ℕ → Option ℕ → Result Seen ℕ
 sight_of clock t sender order route = sight_as (entry_of clock t) sender order route
-
-abbrev pub sight_refusal : Sight → ℕ
-sight_refusal (Read seen) = 0
-sight_refusal (Refused n) = n

@@ -6,7 +6,7 @@
 --     value_sight      refused by that, or what is seen
 --     formed_sight     refused by 7 or 8, or by that, or what is seen
 -- Assumes nothing.
-use Rattle.std.specs.Prelude.{ℕ, cond, List, ltb, Option, None, Some}
+use Rattle.std.specs.Prelude.{ℕ, cond, List, ltb, Option, None, Some, Result, Ok, Err}
 use Rattle.ticket.specs.TicketLayout.{amount_of, time_of}
 use Rattle.ticket.specs.TicketRefusal.{stated_refusal, amount_limit_refusal}
 use Rattle.ticket.specs.declared.kinds.Kind.{Kind}
@@ -16,10 +16,8 @@ use Rattle.rules.specs.Refusal.{first_of, timing_of, timing_refusal}
 use Rattle.shapes.specs.Amounts.{amounts_of}
 use Rattle.shapes.specs.declared.amounts.Amounts.{Amounts}
 use Rattle.sight.specs.Sight.{sight_by}
-use Rattle.sight.specs.declared.Sight.{Sight}
-use Rattle.sight.specs.declared.Sight.TheVariants.{Refused}
-use Rattle.sight.specs.declared.subjects.Formed.{Formed}
-use Rattle.sight.specs.declared.subjects.Formed.TheVariants as formed
+use Rattle.sight.specs.declared.Seen.{Seen}
+use Rattle.sight.specs.declared.subjects.Parties.{Parties}
 
 -- 9. Amount zero for kinds 1, 2, 3, 6: those whose least amount is 1
 abbrev pub stated_by : Amounts → List ℕ → Option ℕ
@@ -39,18 +37,18 @@ value_refusal clock t amounts =
     (first_of (amount_limit_refusal (limit_by amounts (stated_amount (stated_by amounts t))))
     (timing_refusal (timing_of clock (time_of t))))
 
-abbrev pub value_sight : ℕ → List ℕ → Kind → Option ℕ → Option ℕ → Option ℕ → Sight
-value_sight clock t kind sender order route =
+abbrev pub value_sight : ℕ → List ℕ → Kind → Parties → Result Seen ℕ
+value_sight clock t kind parties =
     sight_by (value_refusal clock t (amounts_of kind))
     (record {
       kind = kind;
       time = time_of t;
       amount = stated_amount (stated_by (amounts_of kind) t);
-      sender = sender;
-      order = order;
-      route = route;
+      sender = parties.sender;
+      order = parties.order;
+      route = parties.route;
     })
 
-abbrev pub formed_sight : ℕ → List ℕ → Kind → Formed → Sight
-formed_sight clock t kind (formed.With sender order route) = value_sight clock t kind sender order route
-formed_sight clock t kind (formed.Refused n) = Refused n
+abbrev pub formed_sight : ℕ → List ℕ → Kind → Result Parties ℕ → Result Seen ℕ
+formed_sight clock t kind (Ok parties) = value_sight clock t kind parties
+formed_sight clock t kind (Err n) = Err n

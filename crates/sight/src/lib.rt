@@ -8,13 +8,13 @@ mod subjects;
 mod values;
 
 ghost use Rattle.std.specs.Prelude.{◌≡◌, length};
-ghost use Rattle.fields.specs.Rows.{first_row};
 ghost use Rattle.ticket.specs.TicketLayout.{ticket_length, sender_of, payee_of, payer_of, txid_field};
+ghost use Rattle.index.specs.RowChains.{first_with};
 ghost use Rattle.index.specs.LentRows.{BicRows, KeyRows};
 ghost use Rattle.index.specs.Words.{bic_words, key_words};
-ghost use Rattle.sight.specs.Sight.{sight_of, sight_refusal};
+ghost use Rattle.sight.specs.Sight.{sight_of};
 
-use subjects::Formed;
+use index::Index;
 use ticket::kinds::Kind;
 use ticket::{kinds, layout};
 
@@ -29,68 +29,23 @@ pub struct Seen {
     pub route: Option<usize>,
 }
 
-#[derive(Clone, Copy)]
-pub enum Sight {
-    Read(Seen),
-    Refused(u8),
-}
-
-// Of a ticket of 108 bytes. Lent are the chains and rows of `size` participants, `count` orders and `route_rows` route rows.
+// Of a ticket of 108 bytes: what is seen of it, or the number of its refusal. Lent are the rows of participants, orders and route rows.
 pub fn see(
     clock: u32,
     t: &[u8],
-    bic_heads: &[u16],
-    bic_links: &[u16],
-    bics: &[u64],
-    size: usize,
-    key_heads: &[u16],
-    key_links: &[u16],
-    keys: &[u64],
-    count: usize,
-    route_heads: &[u16],
-    route_links: &[u16],
-    routes: &[u64],
-    route_rows: usize,
-) -> Sight
-    requires { (length t.now ≡ ticket_length) × BicRows size bics.now bic_heads.now bic_links.now
-        × KeyRows count keys.now key_heads.now key_links.now
-        × BicRows route_rows routes.now route_heads.now route_links.now }
+    bics: &Index<2, 32>,
+    keys: &Index<7, 256>,
+    routes: &Index<2, 64>,
+) -> Result<Seen, u8>
+    requires { (length t.now ≡ ticket_length) × BicRows bics.now × KeyRows keys.now × BicRows routes.now }
     ensures { result ≡ sight_of clock t.now
-        (first_row 2 size (bic_words (sender_of t.now)) bics.now)
-        (first_row 7 count (key_words (payer_of t.now) (txid_field t.now)) keys.now)
-        (first_row 2 route_rows (bic_words (payee_of t.now)) routes.now) }
+        (first_with (bic_words (sender_of t.now)) bics.now)
+        (first_with (key_words (payer_of t.now) (txid_field t.now)) keys.now)
+        (first_with (bic_words (payee_of t.now)) routes.now) }
 {
     let Some(kind) = kinds::kind_of(t[layout::KIND], t[layout::FLAG]) else {
-        return Sight::Refused(7);
+        return Err(7);
     };
-    let formed = subjects::formed_of(
-        t,
-        kind,
-        bic_heads,
-        bic_links,
-        bics,
-        size,
-        key_heads,
-        key_links,
-        keys,
-        count,
-        route_heads,
-        route_links,
-        routes,
-        route_rows,
-    );
-    match formed {
-        Formed::With(sender, order, route) => values::valued(clock, t, kind, sender, order, route),
-        Formed::Refused(n) => Sight::Refused(n),
-    }
-}
-
-// The refusal, 0 where the ticket passes.
-pub fn refusal_of(sight: Sight) -> u8
-    ensures { result ≡ sight_refusal sight }
-{
-    match sight {
-        Sight::Read(_) => 0,
-        Sight::Refused(n) => n,
-    }
+    let parties = subjects::parties_of(t, kind, bics, keys, routes)?;
+    values::valued(clock, t, kind, parties)
 }

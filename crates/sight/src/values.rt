@@ -6,7 +6,8 @@ ghost use Rattle.ticket.specs.TicketLayout.{ticket_length};
 ghost use Rattle.rules.specs.Refusal.{timing_of};
 ghost use Rattle.sight.specs.Value.{stated_by, limit_by, value_sight};
 
-use super::{Seen, Sight};
+use super::Seen;
+use super::subjects::Parties;
 use rules::refusal::Timing;
 use shapes::amounts;
 use shapes::amounts::Amounts;
@@ -50,22 +51,27 @@ fn timing(clock: u32, time: u32) -> Timing
 }
 
 // What is seen of a ticket that 7 and 8 do not refuse.
-pub fn valued(clock: u32, t: &[u8], kind: Kind, sender: Option<usize>, order: Option<usize>, route: Option<usize>) -> Sight
+pub fn valued(clock: u32, t: &[u8], kind: Kind, parties: Parties) -> Result<Seen, u8>
     requires { length t.now ≡ ticket_length }
-    ensures { result ≡ value_sight clock t.now kind sender order route }
+    ensures { result ≡ value_sight clock t.now kind parties }
 {
     let amounts = amounts::amounts_of(kind);
     let Some(amount) = stated(amounts, t) else {
-        return Sight::Refused(9);
+        return Err(9);
     };
     let Limit::Within = limit(amounts, amount) else {
-        return Sight::Refused(10);
+        return Err(10);
     };
     let time = fields::u32_at(t, layout::TIME);
     let Timing::InTime = timing(clock, time) else {
-        return Sight::Refused(11);
+        return Err(11);
     };
-    Sight::Read(Seen {
+    let Parties {
+        sender,
+        order,
+        route,
+    } = parties;
+    Ok(Seen {
         kind,
         time,
         amount,

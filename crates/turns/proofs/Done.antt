@@ -32,9 +32,9 @@ use Rattle.turns.proofs.Turn.{refused-turn}
 
 -- of ticket t in book b, n₀ reports standing in the text before it; afterwards the book, the refusal, the rows followed, n reports in the
 -- text, the order m to look at next, the index and all cover together
-pub record Done (words_of : ℕ × List ℕ → List ℕ) (bucket_of : List ℕ → ℕ) (b : Book) (t : List ℕ) (n₀ : ℕ)
+pub record Done (words_of : ℕ × List ℕ → List ℕ) (b : Book) (t : List ℕ) (n₀ : ℕ)
     (text₀ : List ℕ) (b' : Book) (r k n : ℕ)
-    (text : List ℕ) (m : ℕ) (keys heads links : List ℕ) (all : ℕ) : Type 0 where
+    (text : List ℕ) (m : ℕ) (keys : List (List ℕ)) (all : ℕ) : Type 0 where
   pub book : b' ≡ (step_of b t).book
   pub sound : Sound b'
   pub roster : b'.roster ≡ b.roster
@@ -47,14 +47,14 @@ pub record Done (words_of : ℕ × List ℕ → List ℕ) (bucket_of : List ℕ 
   -- no order below m waits for a bank
   pub passed : Passed m b'
   pub few : m ≤ b'.count
-  pub index : KeyIndex words_of bucket_of b' keys heads links
+  pub index : KeyIndex words_of b' keys
   pub sum : all ≡ all_of b'.covers
 
 -- the answer
-pub answer-is : {words_of : ℕ × List ℕ → List ℕ} {bucket_of : List ℕ → ℕ} {b : Book} {t : List ℕ} {n₀ : ℕ}
+pub answer-is : {words_of : ℕ × List ℕ → List ℕ} {b : Book} {t : List ℕ} {n₀ : ℕ}
     {text₀ : List ℕ} {b' : Book} {r k n : ℕ}
-    {text : List ℕ} {m : ℕ} {keys heads links : List ℕ} {all : ℕ}
-    → Done words_of bucket_of b t n₀ text₀ b' r k n text m keys heads links all
+    {text : List ℕ} {m : ℕ} {keys : List (List ℕ)} {all : ℕ}
+    → Done words_of b t n₀ text₀ b' r k n text m keys all
     → ◌≡◌ {A = Answer} (record { refusal = r; reports = n - n₀; rows = k }) (answer_of (step_of b t))
 answer-is {b = b} {t} {n₀} {n = n} h =
     let e = h.told in
@@ -62,10 +62,10 @@ answer-is {b = b} {t} {n₀} {n = n} h =
     λ i. record { refusal = h.refusal i; reports = count i; rows = h.rows i }
 
 -- refused by 7 to 11, all stays as it is
-pub turned_down : {words_of : ℕ × List ℕ → List ℕ} {bucket_of : List ℕ → ℕ} {b : Book} {t : List ℕ} {r n₀ : ℕ} {text₀ : List ℕ} {m : ℕ}
-    {keys heads links : List ℕ} {all : ℕ} → Sound b → (entry_of b.clock t).refusal ≡ r → eqb r 0 ≡ false → Passed m b → m ≤ b.count
-    → KeyIndex words_of bucket_of b keys heads links → all ≡ all_of b.covers
-    → Done words_of bucket_of b t n₀ text₀ b r 0 n₀ text₀ m keys heads links all
+pub turned_down : {words_of : ℕ × List ℕ → List ℕ} {b : Book} {t : List ℕ} {r n₀ : ℕ} {text₀ : List ℕ} {m : ℕ}
+    {keys : List (List ℕ)} {all : ℕ} → Sound b → (entry_of b.clock t).refusal ≡ r → eqb r 0 ≡ false → Passed m b → m ≤ b.count
+    → KeyIndex words_of b keys → all ≡ all_of b.covers
+    → Done words_of b t n₀ text₀ b r 0 n₀ text₀ m keys all
 turned_down {b = b} {t} {r} {n₀} {text₀} s refusal refused passed few index sum =
     let step = refused-turn b t r refusal refused in
     record {
@@ -90,14 +90,14 @@ pub refused-answer : (b : Book) (t : List ℕ) (r : ℕ) → (entry_of b.clock t
 refused-answer b t r refusal refused = ap answer_of (sym (refused-turn b t r refusal refused))
 
 -- the loop over tickets goes on
-pub going_on : {words_of : ℕ × List ℕ → List ℕ} {bucket_of : List ℕ → ℕ} {b₀ : Book} {tickets answers₀ reports₀ : List ℕ}
+pub going_on : {words_of : ℕ × List ℕ → List ℕ} {b₀ : Book} {tickets answers₀ reports₀ : List ℕ}
     {b : Book} {taken n₀ : ℕ}
-    {bytes text₀ t : List ℕ} {b' : Book} {r k n : ℕ} {text : List ℕ} {m : ℕ} {keys heads links : List ℕ} {all : ℕ}
+    {bytes text₀ t : List ℕ} {b' : Book} {r k n : ℕ} {text : List ℕ} {m : ℕ} {keys : List (List ℕ)} {all : ℕ}
     {a : Answer} {bytes' : List ℕ}
     → Going b₀ tickets answers₀ reports₀ b taken n₀ bytes text₀
     → room_left (length tickets - 108 * taken) (length answers₀ - 4 * taken) (length reports₀ - 12 * n₀) ≡ true
     → t ≡ take 108 (drop (108 * taken) tickets)
-    → Done words_of bucket_of b t n₀ text₀ b' r k n text m keys heads links all
+    → Done words_of b t n₀ text₀ b' r k n text m keys all
     → a ≡ answer_of (step_of b t) → bytes' ≡ sets bytes (4 * taken) (answer_bytes a)
     → Going b₀ tickets answers₀ reports₀ b' (taken + 1) n bytes' text
 going_on {b₀ = b₀} {tickets} {answers₀} {reports₀} {b} {taken} {n₀} {bytes} {text₀} {t} {b'} {n = n} {text}

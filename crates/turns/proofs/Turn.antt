@@ -146,8 +146,8 @@ module _ {b : Book} {t : List ℕ} {e : Entry} {n₀ : ℕ} {text₀ : List ℕ}
   after-key i =
       ap (λ (d : Book). key_of (order_of d.orders i)) w.sweeping.book ∙ swept-key start (clocked-sound w.taken) m w.few i
 
-  pub after-index : {words_of : ℕ × List ℕ → List ℕ} {bucket_of : List ℕ → ℕ} {keys heads links : List ℕ}
-      → KeyIndex words_of bucket_of b keys heads links → KeyIndex words_of bucket_of c keys heads links
+  pub after-index : {words_of : ℕ × List ℕ → List ℕ} {keys : List (List ℕ)}
+      → KeyIndex words_of b keys → KeyIndex words_of c keys
   after-index f = same_index f after-count after-key
 
   -- all cover together stays, and is within the limit

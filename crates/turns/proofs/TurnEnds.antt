@@ -4,7 +4,7 @@
 --     changed         the order that the ticket is about has another status
 --     cut             all covers are cut
 use mathlib.Core.Path.{◌≡◌, refl, sym, ◌∙◌, ap, ap₂, subst}
-use mathlib.Core.List.{List, [], ◌++◌}
+use mathlib.Core.List.{List, [], ◌∷◌, ◌++◌}
 use Prim.Native.Nat.{ℕ, ◌+◌, ◌*◌, ◌<◌}
 use native.Mathlib.Nat.{add_assoc}
 use native.Mathlib.Omega.{arith}
@@ -33,7 +33,6 @@ use Rattle.rules.specs.declared.Cover.{Cover}
 use Rattle.rules.specs.declared.Book.{Book}
 use Rattle.rules.proofs.Reporting.{step-few}
 use Rattle.rules.proofs.StepSound.{step-sound}
-use Rattle.index.specs.RowChains.{row_buckets}
 use Rattle.course.specs.Room.{Applicable}
 use Rattle.course.specs.Expiry.{Passed}
 use Rattle.course.specs.Seeking.{sought_order, sought}
@@ -60,12 +59,12 @@ use Rattle.turns.proofs.VerdictFitting.{verdict_reports, fits, both-moved}
 use Rattle.turns.proofs.Done.{Done}
 use Rattle.turns.proofs.CarryingOut.{CarriedOut, cut-silent, covers-same}
 
-module _ {words_of : ℕ × List ℕ → List ℕ} {bucket_of : List ℕ → ℕ} {b : Book} {t : List ℕ} {e : Entry} {n₀ : ℕ}
+module _ {words_of : ℕ × List ℕ → List ℕ} {b : Book} {t : List ℕ} {e : Entry} {n₀ : ℕ}
     {text₀ : List ℕ} {c : Book} {m n : ℕ}
     {text : List ℕ} (w : Expired b t e n₀ text₀ c m n text) {v : Verdict} (is : v ≡ verdict_of (facts_of (sought c e t)))
     {cs : List Cover} {all n₂ : ℕ}
-    {text₂ : List ℕ} (k : CarriedOut c v n text cs all n₂ text₂) {keys heads links : List ℕ}
-    (f : KeyIndex words_of bucket_of b keys heads links) where
+    {text₂ : List ℕ} (k : CarriedOut c v n text cs all n₂ text₂) {keys : List (List ℕ)}
+    (f : KeyIndex words_of b keys) where
   -- any way it ends, from the decision that the verdict stands for
   module _ (d : Does) (does : v.does ≡ d) where
     abbrev decision : Decision
@@ -89,14 +88,14 @@ module _ {words_of : ℕ × List ℕ → List ℕ} {bucket_of : List ℕ → ℕ
         record { refusal = v.refusal; reports = (swept_step w).reports ++ told_by c y; rows = y.rows; book = applied c y })
         does
 
-    kept-index : KeepsKey c decision → KeyIndex words_of bucket_of (applied c decision) keys heads links
+    kept-index : KeepsKey c decision → KeyIndex words_of (applied c decision) keys
     kept-index keeps = same_index (after-index w f) keeps.count (kept-key c decision (after-sound w).orders.long ok.number keeps)
 
-    ended : {b' : Book} {rows n' : ℕ} {text' keys' heads' links' : List ℕ} → b' ≡ applied c decision → rows ≡ decision.rows
+    ended : {b' : Book} {rows n' : ℕ} {text' : List ℕ} {keys' : List (List ℕ)} → b' ≡ applied c decision → rows ≡ decision.rows
         → n' ≡ n + length (told_by c decision) → text' ≡ sets text (12 * n) (reports_bytes (told_by c decision))
-        → KeyIndex words_of bucket_of (applied c decision) keys' heads' links'
-        → Done words_of bucket_of b t n₀ text₀ b' v.refusal rows n' text' m keys' heads' links' all
-    ended {b'} {rows} {n'} {text'} {keys'} {heads'} {links'} book is-rows told reports index =
+        → KeyIndex words_of (applied c decision) keys'
+        → Done words_of b t n₀ text₀ b' v.refusal rows n' text' m keys' all
+    ended {b'} {rows} {n'} {text'} {keys'} book is-rows told reports index =
         let step = step_is in
         let told-all : (swept_step w).reports ++ told_by c decision ≡ (step_of b t).reports = ap (λ (x : Step). x.reports) (sym step) in
         let book-step : b' ≡ (step_of b t).book = book ∙ ap (λ (x : Step). x.book) (sym step) in
@@ -128,7 +127,7 @@ module _ {words_of : ℕ × List ℕ → List ℕ} {bucket_of : List ℕ → ℕ
               let h = w.few in
               let a = after-count w in
               omega arith;
-          index = subst (λ (x : Book). KeyIndex words_of bucket_of x keys' heads' links') (sym book) index;
+          index = subst (λ (x : Book). KeyIndex words_of x keys') (sym book) index;
           sum =
               k.sum
               ∙ ap all_of (k.covers ∙ both-moved w is d)
@@ -148,7 +147,7 @@ module _ {words_of : ℕ × List ℕ → List ℕ} {bucket_of : List ℕ → ℕ
   written_back = sym (set-get_or c.orders number no_order)
 
   pub did_nothing : {b' : Book} → v.does ≡ Nothing → b' ≡ with_covers c cs
-      → Done words_of bucket_of b t n₀ text₀ b' v.refusal 0 n₂ text₂ m keys heads links all
+      → Done words_of b t n₀ text₀ b' v.refusal 0 n₂ text₂ m keys all
   did_nothing does book =
       ended Nothing does
       (book ∙ ap₂ (λ (x : List Cover) (os : List Order). with x os c.count) (k.covers ∙ both-moved w is Nothing) written_back) refl
@@ -162,7 +161,7 @@ module _ {words_of : ℕ × List ℕ → List ℕ} {bucket_of : List ℕ → ℕ
         count = c.count;
         roster = c.roster;
       }
-      → Done words_of bucket_of b t n₀ text₀ b' v.refusal 0 n₂ text₂ m keys heads links all
+      → Done words_of b t n₀ text₀ b' v.refusal 0 n₂ text₂ m keys all
   changed {s = s} does at book =
       ended (Becomes s) does
       (book
@@ -170,16 +169,13 @@ module _ {words_of : ℕ × List ℕ → List ℕ} {bucket_of : List ℕ → ℕ
       (k.covers ∙ both-moved w is (Becomes s)) at)
       refl k.told k.reports (kept-index (Becomes s) does (record { count = refl; key = refl }))
 
-  pub order-opened : {b' : Book} {o : Order} {rows bucket : ℕ} {keys' heads' links' : List ℕ} → v.does ≡ Opens
+  pub order-opened : {b' : Book} {o : Order} {rows : ℕ} {keys' : List (List ℕ)} → v.does ≡ Opens
       → o ≡ new_order (sought c e t)
       → b' ≡ record { clock = c.clock; covers = cs; orders = set c.orders c.count o; count = c.count + 1; roster = c.roster }
       → rows ≡ rows_followed (sought c e t).way
-      → length (words_of (key_of (new_order (sought c e t)))) ≡ 7 → bucket ≡ bucket_of (words_of (key_of (new_order (sought c e t))))
-      → bucket < row_buckets
-      → heads' ≡ set heads bucket (c.count + 1) → links' ≡ set links c.count (get_or heads bucket 0)
-      → keys' ≡ sets keys (7 * c.count) (words_of (key_of (new_order (sought c e t))))
-      → Done words_of bucket_of b t n₀ text₀ b' v.refusal rows n₂ text₂ m keys' heads' links' all
-  order-opened {b'} does is-o book is-rows wide is-bucket inside new-heads new-links new-keys =
+      → keys' ≡ keys ++ words_of (key_of (new_order (sought c e t))) ∷ []
+      → Done words_of b t n₀ text₀ b' v.refusal rows n₂ text₂ m keys' all
+  order-opened {b'} does is-o book is-rows new-keys =
       let long = (after-sound w).orders.long in
       let d = decided_by Opens (sought c e t) v in
       let may = ok Opens does in
@@ -187,14 +183,14 @@ module _ {words_of : ℕ × List ℕ → List ℕ} {bucket_of : List ℕ → ℕ
       (book
       ∙ ap₂ (λ (x : List Cover) (y : Order). with x (set c.orders c.count y) (c.count + 1)) (k.covers ∙ both-moved w is Opens) is-o)
       is-rows k.told k.reports
-      (more-index (after-index w f) may.number refl (λ i l. other_key c d long may.number i (λ q. omega arith))
-      (applied-key c d long may.number) wide is-bucket inside new-heads new-links new-keys)
+      (more-index (after-index w f) refl (λ i l. other_key c d long may.number i (λ q. omega arith))
+      (applied-key c d long may.number) new-keys)
 
   pub cut : {b' : Book} {r : Roster} {cs' : List Cover} {n₃ : ℕ} {text₃ : List ℕ} → v.does ≡ Cuts → r ≡ b.roster
       → cs' ≡ cut_to r cs r.size
       → b' ≡ with_covers c cs' → n₃ ≡ n₂ + length (cut_reports_to r cs r.size)
       → text₃ ≡ sets text₂ (12 * n₂) (reports_bytes (cut_reports_to r cs r.size))
-      → Done words_of bucket_of b t n₀ text₀ b' v.refusal 0 n₃ text₃ m keys heads links all
+      → Done words_of b t n₀ text₀ b' v.refusal 0 n₃ text₃ m keys all
   cut {r = r} does roster is_cut book told reports =
       let ours : r ≡ c.roster = roster ∙ sym (after-roster w) in
       let may = fits w is in

@@ -1,5 +1,5 @@
 use Rattle.std.proofs.Common.{◌+◌, ◌*◌, length, sym, ap, ◌∙◌, subst, arith}
-use Rattle.index.specs.Table.{Apart}
+use Rattle.index.specs.RowChains.{Distinct}
 use Rattle.index.proofs.Comparing.{slice-bytes}
 use Rattle.dayrows.proofs.Repeating.{words-at, rows-count, rows-apart, told, one-more, repeats-here}
 use Rattle.dayrows.proofs.repeats.bic_repeats.Goals as goal
@@ -11,7 +11,7 @@ find-requires c =
       omega arith,
       (
         omega arith,
-        subst Apart (sym c.loop-i.invariant.0)
+        subst Distinct (sym c.loop-i.invariant.0)
             (rows-apart a.start a.width a.n a.f.now (slice-bytes _ c.type_inv.f) p.0 p.2 c.loop-i.i (omega arith) c.loop-i.invariant.1),
       ),
     )

@@ -1,5 +1,6 @@
 -- `take` meets its contract, a phase of a turn after the other. Assumes nothing.
-use Rattle.std.specs.Prelude.{◌≡◌, ℕ, ◌-◌, ◌*◌, Bool, false, cond, List, length, set}
+use Rattle.std.specs.Prelude.{◌≡◌, ℕ, ◌-◌, ◌*◌, Bool, false, cond, List, [], ◌∷◌, ◌++◌, length, set, Ok, Err}
+use Rattle.std.proofs.Common.{lit<}
 use mathlib.Core.Path.{refl, sym, ◌∙◌, ap, subst}
 use mathlib.Core.Logic.{inl, inr}
 use native.Mathlib.Nat.{not-suc-le-zero}
@@ -23,15 +24,14 @@ use Rattle.course.proofs.Running.{RoomFor, started, ended}
 use Rattle.course.proofs.Seeking.{total-sum}
 use Rattle.course.proofs.Summing.{all-total}
 use Rattle.index.specs.Words.{key_words}
-use Rattle.index.specs.RowChains.{row_bucket}
 use Rattle.index.proofs.Comparing.{slice-bytes}
-use Rattle.index.proofs.LentRows.{chained-fields, bucket-inside}
+use Rattle.index.proofs.RowsOf.{length-of}
 use Rattle.ticket.specs.TicketLayout.{sender_of, txid_field}
 use Rattle.verdict.specs.Judgement.{verdict_of}
 use Rattle.verdict.specs.Meaning.{facts_of}
 use Rattle.verdict.specs.OwnStep.{refused_verdict}
 use Rattle.verdict.proofs.VerdictLaws.{refused-alone}
-use Rattle.turns.proofs.Turn.{TakenUp, loop-begun, Expired, expiries-done}
+use Rattle.turns.proofs.Turn.{TakenUp, after-count, loop-begun, Expired, expiries-done}
 use Rattle.turns.proofs.Facts.{Searched, total-few, sender-in, order-in, payee-in, facts-are, sender-bic, number_is, way-is, new-order}
 use Rattle.turns.proofs.VerdictFitting.{Fits as Suits, fits}
 use Rattle.turns.proofs.CarryingOut.{CarriedOut, first_fits, second-room, second_fits, moves-carried-out, nothing-carried, told-room, cut-size, cut-room, cut-whole}
@@ -39,11 +39,11 @@ use Rattle.turns.proofs.Done.{Done, answer-is, refused-answer}
 use Rattle.turns.proofs.TurnEnds.{did_nothing, changed, order-opened, cut}
 use Rattle.engine.proofs.Heading.{ticket_at, ticket_is, ticket-bytes, sender-long, txid-long, bytes-long, text-long, none_more, more, room, whole-ticket}
 use Rattle.engine.proofs.LoopKeeping.{done-as, kept_on}
-use Rattle.engine.proofs.Passing.{refused-as, refused-done, sighted, taken, below, number-below, payer-below, payee-below, early, freeable, told-fits, one-expired, follows, all-with, else_refused}
+use Rattle.engine.proofs.Passing.{refused-as, refused-done, sighted, taken, below, number-below, payer-below, payee-below, early, freeable, told-fits, one-expired, all-with}
 use Rattle.engine.proofs.Searching.{words_in, keys-lent}
 use Rattle.engine.proofs.SeenEntry.{entry_by}
 use Rattle.engine.proofs.taking.take.Goals as goal
-use Rattle.engine.proofs.taking.take.Goals.{In-loop-roster, In-Read, Left-loop-next, After-unwrap_or-i, After-judge-v, After-put_notices-n, Joined-does, else-loop-next-test, then-loop-next-test+then-is_young, then-is_cut, else-is_cut, in-Nothing, in-Opens, in-Becomes, in-Cuts}
+use Rattle.engine.proofs.taking.take.Goals.{In-loop-roster, In-Ok, Left-loop-next, After-unwrap_or-i, After-judge-v, After-put_notices-n, Joined-does, else-loop-next-test, then-loop-next-test+then-is_young, then-is_cut, else-is_cut, in-Nothing, in-Opens, in-Becomes, in-Cuts}
 
 -- the loop over tickets: there is room for the ticket at hand, and it is whole
 module _ (c : In-loop-roster) where
@@ -55,21 +55,21 @@ module _ (c : In-loop-roster) where
   is_whole = whole-ticket c.loop-roster.invariant c.room_left.ensures c.loop-roster-test.true
 
 -- 7 to 11 don't refuse it
-module _ (c : In-Read) where
-  passes : TakenUp c.loop-roster.b (ticket_at c.args.tickets.now c.loop-roster.taken) (entry_by c.in-Read.s)
+module _ (c : In-Ok) where
+  passes : TakenUp c.loop-roster.b (ticket_at c.args.tickets.now c.loop-roster.taken) (entry_by c.in-Ok.s)
   passes =
       let h = c.loop-roster.invariant in
       taken h c.requires.0.roster c.requires.1 (whole-ticket h c.room_left.ensures c.loop-roster-test.true)
-      (ticket-bytes (slice-bytes _ c.type_inv.tickets) c.loop-roster.taken) c.in-Read.ensures refl
+      (ticket-bytes (slice-bytes _ c.type_inv.tickets) c.loop-roster.taken) c.in-Ok.ensures refl
 
 -- the orders have been looked at
 expired : (c : Left-loop-next)
-    → Expired c.loop-roster.b (ticket_at c.args.tickets.now c.loop-roster.taken) (entry_by c.in-Read.s) c.loop-roster.n c.loop-roster.reports
+    → Expired c.loop-roster.b (ticket_at c.args.tickets.now c.loop-roster.taken) (entry_by c.in-Ok.s) c.loop-roster.n c.loop-roster.reports
     c.loop-next.b c.loop-next.next c.loop-next.n c.loop-next.reports
 expired c =
     let h = c.loop-roster.invariant in
     let u = taken h c.requires.0.roster c.requires.1 (whole-ticket h c.room_left.ensures c.loop-roster-test.true)
-    (ticket-bytes (slice-bytes _ c.type_inv.tickets) c.loop-roster.taken) c.in-Read.ensures refl in
+    (ticket-bytes (slice-bytes _ c.type_inv.tickets) c.loop-roster.taken) c.in-Ok.ensures refl in
     expiries-done u h.passed c.loop-next.invariant.0 c.loop-next.invariant.1 c.loop-next.invariant.2
     (elim c.loop-next-test.branch [
       | else-loop-next-test w ↦ inl (let l = w.loop-next-test in omega arith)
@@ -78,24 +78,24 @@ expired c =
 
 -- what was found for the ticket
 found : (c : After-unwrap_or-i)
-    → Searched c.loop-roster.b (ticket_at c.args.tickets.now c.loop-roster.taken) (entry_by c.in-Read.s) c.in-Read.s.sender c.in-Read.s.order
-    c.in-Read.s.route c.unwrap_or-p.result c.unwrap_or-i.result
+    → Searched c.loop-roster.b (ticket_at c.args.tickets.now c.loop-roster.taken) (entry_by c.in-Ok.s) c.in-Ok.s.sender c.in-Ok.s.order
+    c.in-Ok.s.route c.unwrap_or-p.result c.unwrap_or-i.result
 found c =
     let h = c.loop-roster.invariant in
     let s = sighted h c.requires.0.roster c.requires.1 (whole-ticket h c.room_left.ensures c.loop-roster-test.true)
-    (ticket-bytes (slice-bytes _ c.type_inv.tickets) c.loop-roster.taken) c.in-Read.ensures refl in
+    (ticket-bytes (slice-bytes _ c.type_inv.tickets) c.loop-roster.taken) c.in-Ok.ensures refl in
     record { sends = s.sends; names = s.names; leads = s.leads; from = c.unwrap_or-p.ensures; at = c.unwrap_or-i.ensures }
 
 -- the verdict
 module _ (c : After-judge-v)
-    (w : Expired c.loop-roster.b (ticket_at c.args.tickets.now c.loop-roster.taken) (entry_by c.in-Read.s) c.loop-roster.n
+    (w : Expired c.loop-roster.b (ticket_at c.args.tickets.now c.loop-roster.taken) (entry_by c.in-Ok.s) c.loop-roster.n
     c.loop-roster.reports c.loop-next.b c.loop-next.next c.loop-next.n c.loop-next.reports)
-    (f : Searched c.loop-roster.b (ticket_at c.args.tickets.now c.loop-roster.taken) (entry_by c.in-Read.s) c.in-Read.s.sender
-    c.in-Read.s.order c.in-Read.s.route c.unwrap_or-p.result c.unwrap_or-i.result) where
+    (f : Searched c.loop-roster.b (ticket_at c.args.tickets.now c.loop-roster.taken) (entry_by c.in-Ok.s) c.in-Ok.s.sender
+    c.in-Ok.s.order c.in-Ok.s.route c.unwrap_or-p.result c.unwrap_or-i.result) where
   abbrev anywhere : Bool
   anywhere = any_to (λ q. is_open (cover_of c.loop-next.b.covers q)) c.args.b.roster.size
 
-  open_is : c.if-is_cut.unconfirmed ≡ cond (seeks_open (terms_of c.in-Read.s.kind).flow) anywhere false
+  open_is : c.if-is_cut.unconfirmed ≡ cond (seeks_open (terms_of c.in-Ok.s.kind).flow) anywhere false
   open_is =
       elim c.if-is_cut.branch [
         | then-is_cut x ↦
@@ -106,16 +106,16 @@ module _ (c : After-judge-v)
       ]
 
   verdict-is : c.judge-v.result
-      ≡ verdict_of (facts_of (sought c.loop-next.b (entry_by c.in-Read.s) (ticket_at c.args.tickets.now c.loop-roster.taken)))
+      ≡ verdict_of (facts_of (sought c.loop-next.b (entry_by c.in-Ok.s) (ticket_at c.args.tickets.now c.loop-roster.taken)))
   verdict-is =
       c.judge-v.ensures
       ∙ ap verdict_of
-      (facts-are w f (sym c.loop-roster.invariant.roster) (follows c.requires.1 c.in-Read.s.route c.end_of-way.ensures)
+      (facts-are w f (sym c.loop-roster.invariant.roster) c.end_of-way.ensures
       c.is_bank.ensures open_is c.loop-roster.invariant.sum)
 
 -- its moves and reports
 carried : (c : After-put_notices-n)
-    → Expired c.loop-roster.b (ticket_at c.args.tickets.now c.loop-roster.taken) (entry_by c.in-Read.s) c.loop-roster.n
+    → Expired c.loop-roster.b (ticket_at c.args.tickets.now c.loop-roster.taken) (entry_by c.in-Ok.s) c.loop-roster.n
     c.loop-roster.reports c.loop-next.b c.loop-next.next c.loop-next.n c.loop-next.reports
     → Suits c.loop-next.b c.judge-v.result
     → CarriedOut c.loop-next.b c.judge-v.result c.loop-next.n c.loop-next.reports
@@ -146,28 +146,20 @@ total_of-total-requires c =
 
 pub loop-roster-init : goal.loop-roster-init
 loop-roster-init c =
-    let rows = c.keys_of-keys.ensures in
-    let chains = c.key_chains-made.ensures in
     record {
       going = started c.args.b c.args.tickets.now c.args.answers.now c.args.reports.now c.requires.0;
       roster = refl;
       passed = record { none = λ i l. absurd (not-suc-le-zero l) };
       few = omega arith;
-      index = record {
-        keys = rows.1;
-        long = rows.0;
-        chained = chained-fields rows.1 chains.2;
-        headed = chains.0;
-        linked = chains.1;
-      };
+      index = record { keys = c.keys_of-keys.ensures };
       sum = c.total_of-total.ensures ∙ total-sum c.args.b ∙ sym (all-total c.args.b c.requires.0);
     }
 
-pub see-sight-requires : goal.see-sight-requires
-see-sight-requires c =
+pub see-requires : goal.see-requires
+see-requires c =
     let h = c.loop-roster.invariant in
     let d = c.requires.1 in
-    (is_whole (goal.at.see-sight-requires c).In-loop-roster, d.senders, keys-lent h.going.sound h.index, d.payees)
+    (is_whole (goal.at.see-requires c).In-loop-roster, d.senders, keys-lent h.going.sound h.index, d.payees)
 
 pub put_answer-requires : goal.put_answer-requires
 put_answer-requires c =
@@ -175,16 +167,15 @@ put_answer-requires c =
     let e = bytes-long c.loop-roster.invariant in
     omega arith
 
-pub loop-roster-preserved-in_default : goal.loop-roster-preserved-in_default
-loop-roster-preserved-in_default c =
+pub loop-roster-preserved-in-Err : goal.loop-roster-preserved-in-Err
+loop-roster-preserved-in-Err c =
     let h = c.loop-roster.invariant in
-    let whole = is_whole (goal.at.loop-roster-preserved-in_default c).In-loop-roster in
+    let whole = is_whole (goal.at.loop-roster-preserved-in-Err c).In-loop-roster in
     let held = ticket-bytes (slice-bytes _ c.type_inv.tickets) c.loop-roster.taken in
-    let e = else_refused c.see-sight.result c.in_default.not-Read in
-    let r = refused-as h c.requires.0.roster c.requires.1 whole held c.see-sight.ensures e in
+    let r = refused-as h c.requires.0.roster c.requires.1 whole held refl (sym c.in-Err.ensures) in
     kept_on h (more h c.room_left.ensures c.loop-roster-test.true) (ticket_is c.args.tickets.now c.loop-roster.taken)
-    (refused-done h c.requires.0.roster c.requires.1 whole held c.see-sight.ensures e)
-    (ap (λ (n : ℕ). record { refusal = n; reports = 0; rows = 0 }) c.refusal_of.ensures ∙ refused-answer c.loop-roster.b _ _ r.0 r.1)
+    (refused-done h c.requires.0.roster c.requires.1 whole held refl (sym c.in-Err.ensures))
+    (refused-answer c.loop-roster.b _ _ r.0 r.1)
     c.put_answer.ensures
 
 pub loop-next-init : goal.loop-next-init
@@ -195,31 +186,31 @@ loop-next-init c =
 pub offset_bounds-b-next : goal.offset_bounds-b-next
 offset_bounds-b-next c =
     let w = c.loop-next.invariant in
-    let h = number-below (passes (goal.at.offset_bounds-b-next c).In-Read) w.0 w.2 c.loop-next-test.true in search rules
+    let h = number-below (passes (goal.at.offset_bounds-b-next c).In-Ok) w.0 w.2 c.loop-next-test.true in search rules
 
 pub bounds-b-next : goal.bounds-b-next
 bounds-b-next c =
     let w = c.loop-next.invariant in
-    number-below (passes (goal.at.bounds-b-next c).In-Read) w.0 w.2 c.loop-next-test.true
+    number-below (passes (goal.at.bounds-b-next c).In-Ok) w.0 w.2 c.loop-next-test.true
 
 pub is_young-requires : goal.is_young-requires
 is_young-requires c =
     let w = c.loop-next.invariant in
-    early (passes (goal.at.is_young-requires c).In-Read) w.0 w.2 c.loop-next-test.true
+    early (passes (goal.at.is_young-requires c).In-Ok) w.0 w.2 c.loop-next-test.true
 
 pub offset_bounds-roster-payee : goal.offset_bounds-roster-payee
 offset_bounds-roster-payee c =
     let w = c.loop-next.invariant in
-    let h = payee-below (passes (goal.at.offset_bounds-roster-payee c).In-Read) w.0 w.2 c.loop-next-test.true in search rules
+    let h = payee-below (passes (goal.at.offset_bounds-roster-payee c).In-Ok) w.0 w.2 c.loop-next-test.true in search rules
 
 pub bounds-roster-payee : goal.bounds-roster-payee
 bounds-roster-payee c =
     let w = c.loop-next.invariant in
-    payee-below (passes (goal.at.bounds-roster-payee c).In-Read) w.0 w.2 c.loop-next-test.true
+    payee-below (passes (goal.at.bounds-roster-payee c).In-Ok) w.0 w.2 c.loop-next-test.true
 
 pub expire-lapse-requires : goal.expire-lapse-requires
 expire-lapse-requires c =
-    let u = passes (goal.at.expire-lapse-requires c).In-Read in
+    let u = passes (goal.at.expire-lapse-requires c).In-Ok in
     let w = c.loop-next.invariant in
     let h = payer-below u w.0 w.2 c.loop-next-test.true in
     let k = payee-below u w.0 w.2 c.loop-next-test.true in
@@ -229,63 +220,63 @@ expire-lapse-requires c =
 pub offset_bounds-b-next-in-loop-next : goal.offset_bounds-b-next-in-loop-next
 offset_bounds-b-next-in-loop-next c =
     let w = c.loop-next.invariant in
-    let h = number-below (passes (goal.at.offset_bounds-b-next-in-loop-next c).In-Read) w.0 w.2 c.loop-next-test.true in search rules
+    let h = number-below (passes (goal.at.offset_bounds-b-next-in-loop-next c).In-Ok) w.0 w.2 c.loop-next-test.true in search rules
 
 pub bounds-b-next-in-loop-next : goal.bounds-b-next-in-loop-next
 bounds-b-next-in-loop-next c =
     let w = c.loop-next.invariant in
-    number-below (passes (goal.at.bounds-b-next-in-loop-next c).In-Read) w.0 w.2 c.loop-next-test.true
+    number-below (passes (goal.at.bounds-b-next-in-loop-next c).In-Ok) w.0 w.2 c.loop-next-test.true
 
 pub offset_bounds-b-who : goal.offset_bounds-b-who
 offset_bounds-b-who c =
     let w = c.loop-next.invariant in
-    let h = (freeable (passes (goal.at.offset_bounds-b-who c).In-Read) w.0 w.2 c.loop-next-test.true c.loop-roster.invariant.roster
+    let h = (freeable (passes (goal.at.offset_bounds-b-who c).In-Ok) w.0 w.2 c.loop-next-test.true c.loop-roster.invariant.roster
     c.is_bank-bank.ensures c.expire-lapse.ensures).who in search rules
 
 pub bounds-b-who : goal.bounds-b-who
 bounds-b-who c =
     let w = c.loop-next.invariant in
-    (freeable (passes (goal.at.bounds-b-who c).In-Read) w.0 w.2 c.loop-next-test.true c.loop-roster.invariant.roster
+    (freeable (passes (goal.at.bounds-b-who c).In-Ok) w.0 w.2 c.loop-next-test.true c.loop-roster.invariant.roster
     c.is_bank-bank.ensures c.expire-lapse.ensures).who
 
 pub moved-requires : goal.moved-requires
 moved-requires c =
     let w = c.loop-next.invariant in
-    (freeable (passes (goal.at.moved-requires c).In-Read) w.0 w.2 c.loop-next-test.true c.loop-roster.invariant.roster
+    (freeable (passes (goal.at.moved-requires c).In-Ok) w.0 w.2 c.loop-next-test.true c.loop-roster.invariant.roster
     c.is_bank-bank.ensures c.expire-lapse.ensures).fits
 
 pub offset_bounds-b-who-in-loop-next : goal.offset_bounds-b-who-in-loop-next
 offset_bounds-b-who-in-loop-next c =
     let w = c.loop-next.invariant in
-    let h = (freeable (passes (goal.at.offset_bounds-b-who-in-loop-next c).In-Read) w.0 w.2 c.loop-next-test.true
+    let h = (freeable (passes (goal.at.offset_bounds-b-who-in-loop-next c).In-Ok) w.0 w.2 c.loop-next-test.true
     c.loop-roster.invariant.roster c.is_bank-bank.ensures c.expire-lapse.ensures).who in search rules
 
 pub bounds-b-who-in-loop-next : goal.bounds-b-who-in-loop-next
 bounds-b-who-in-loop-next c =
     let w = c.loop-next.invariant in
-    (freeable (passes (goal.at.bounds-b-who-in-loop-next c).In-Read) w.0 w.2 c.loop-next-test.true
+    (freeable (passes (goal.at.bounds-b-who-in-loop-next c).In-Ok) w.0 w.2 c.loop-next-test.true
     c.loop-roster.invariant.roster c.is_bank-bank.ensures c.expire-lapse.ensures).who
 
 pub put_told-n-requires : goal.put_told-n-requires
 put_told-n-requires c =
     let w = c.loop-next.invariant in
-    told-fits (passes (goal.at.put_told-n-requires c).In-Read) w.0 w.2 c.loop-next-test.true c.loop-roster.invariant.roster
+    told-fits (passes (goal.at.put_told-n-requires c).In-Ok) w.0 w.2 c.loop-next-test.true c.loop-roster.invariant.roster
     c.is_bank-bank.ensures c.expire-lapse.ensures
     (let h = (has (goal.at.put_told-n-requires c).In-loop-roster).report in let e = text-long c.loop-roster.invariant in omega arith)
 
 pub overflow_add-next : goal.overflow_add-next
 overflow_add-next c =
     let w = c.loop-next.invariant in
-    let h = number-below (passes (goal.at.overflow_add-next c).In-Read) w.0 w.2 c.loop-next-test.true in search rules
+    let h = number-below (passes (goal.at.overflow_add-next c).In-Ok) w.0 w.2 c.loop-next-test.true in search rules
 
 pub loop-next-smaller : goal.loop-next-smaller
 loop-next-smaller c =
     let w = c.loop-next.invariant in
-    let h = below (passes (goal.at.loop-next-smaller c).In-Read) w.0 w.2 c.loop-next-test.true in omega arith
+    let h = below (passes (goal.at.loop-next-smaller c).In-Ok) w.0 w.2 c.loop-next-test.true in omega arith
 
 pub loop-next-preserved : goal.loop-next-preserved
 loop-next-preserved c =
-    let u = passes (goal.at.loop-next-preserved c).In-Read in
+    let u = passes (goal.at.loop-next-preserved c).In-Ok in
     let w = c.loop-next.invariant in
     let l = below u w.0 w.2 c.loop-next-test.true in (
       one-expired u w.0 w.2 c.loop-next-test.true c.loop-roster.invariant.roster c.is_bank-bank.ensures c.expire-lapse.ensures
@@ -339,17 +330,17 @@ judge-v-requires c =
 
 -- refused from 12 on: its turn is done
 late-done : (c : After-judge-v) → (c.judge-v.result.refusal ≡ 0 → ⊥)
-    → Expired c.loop-roster.b (ticket_at c.args.tickets.now c.loop-roster.taken) (entry_by c.in-Read.s) c.loop-roster.n
+    → Expired c.loop-roster.b (ticket_at c.args.tickets.now c.loop-roster.taken) (entry_by c.in-Ok.s) c.loop-roster.n
     c.loop-roster.reports c.loop-next.b c.loop-next.next c.loop-next.n c.loop-next.reports
     → c.judge-v.result
-    ≡ verdict_of (facts_of (sought c.loop-next.b (entry_by c.in-Read.s) (ticket_at c.args.tickets.now c.loop-roster.taken)))
-    → Done (words_in c.loop-roster.b.roster) row_bucket c.loop-roster.b (ticket_at c.args.tickets.now c.loop-roster.taken) c.loop-roster.n
+    ≡ verdict_of (facts_of (sought c.loop-next.b (entry_by c.in-Ok.s) (ticket_at c.args.tickets.now c.loop-roster.taken)))
+    → Done (words_in c.loop-roster.b.roster) c.loop-roster.b (ticket_at c.args.tickets.now c.loop-roster.taken) c.loop-roster.n
     c.loop-roster.reports c.loop-next.b c.judge-v.result.refusal 0 c.loop-next.n c.loop-next.reports c.loop-next.next c.loop-roster.keys
-    c.loop-roster.heads c.loop-roster.links c.loop-roster.total
+    c.loop-roster.total
 late-done c refused w is =
     let alone : c.judge-v.result ≡ refused_verdict c.judge-v.result.refusal =
     subst (λ (y : Verdict). y ≡ refused_verdict y.refusal) (sym is)
-    (refused-alone (facts_of (sought c.loop-next.b (entry_by c.in-Read.s) (ticket_at c.args.tickets.now c.loop-roster.taken)))
+    (refused-alone (facts_of (sought c.loop-next.b (entry_by c.in-Ok.s) (ticket_at c.args.tickets.now c.loop-roster.taken)))
     (λ none. refused (ap (λ (y : Verdict). y.refusal) is ∙ none))) in
     did_nothing w is (nothing-carried w alone c.loop-roster.invariant.sum) c.loop-roster.invariant.index
     (ap (λ (y : Verdict). y.does) alone) refl
@@ -501,18 +492,20 @@ pub copy-requires : goal.copy-requires
 copy-requires c =
     txid-long _ (is_whole (goal.at.copy-requires c).In-loop-roster)
 
-pub put_key-requires : goal.put_key-requires
-put_key-requires c =
-    let w = expired (goal.at.put_key-requires c).Left-loop-next in
-    let f = found (goal.at.put_key-requires c).After-unwrap_or-i in
-    let is = verdict-is (goal.at.put_key-requires c).After-judge-v w f in
-    let s = fits w is in
-    let x = c.loop-roster.invariant.index in
-    let few = s.opens c.in-Opens.is in
-    let linked = x.linked in
-    let long = x.long in
-    let t = is_whole (goal.at.put_key-requires c).In-loop-roster in
-    (x.headed, omega arith, omega arith, omega arith, sender-long _ t, txid-long _ t)
+pub key_words-requires : goal.key_words-requires
+key_words-requires c =
+    let t = is_whole (goal.at.key_words-requires c).In-loop-roster in
+    (sender-long _ t, txid-long _ t)
+
+pub push-requires : goal.push-requires
+push-requires c =
+    let w = expired (goal.at.push-requires c).Left-loop-next in
+    let f = found (goal.at.push-requires c).After-unwrap_or-i in
+    let is = verdict-is (goal.at.push-requires c).After-judge-v w f in
+    let few = (fits w is).opens c.in-Opens.is in
+    let held = ap length c.loop-roster.invariant.index.keys ∙ length-of _ c.loop-roster.b.count in
+    let same = after-count w in
+    (lit< tt, (lit< tt, omega arith))
 
 pub offset_bounds-b-k : goal.offset_bounds-b-k
 offset_bounds-b-k c =
@@ -580,12 +573,12 @@ cut_covers-after-requires c =
 
 -- whatever becomes of the order, the turn was one step of the rules
 module _ (c : Joined-does)
-    (w : Expired c.loop-roster.b (ticket_at c.args.tickets.now c.loop-roster.taken) (entry_by c.in-Read.s) c.loop-roster.n
+    (w : Expired c.loop-roster.b (ticket_at c.args.tickets.now c.loop-roster.taken) (entry_by c.in-Ok.s) c.loop-roster.n
     c.loop-roster.reports c.loop-next.b c.loop-next.next c.loop-next.n c.loop-next.reports)
-    (f : Searched c.loop-roster.b (ticket_at c.args.tickets.now c.loop-roster.taken) (entry_by c.in-Read.s) c.in-Read.s.sender
-    c.in-Read.s.order c.in-Read.s.route c.unwrap_or-p.result c.unwrap_or-i.result)
+    (f : Searched c.loop-roster.b (ticket_at c.args.tickets.now c.loop-roster.taken) (entry_by c.in-Ok.s) c.in-Ok.s.sender
+    c.in-Ok.s.order c.in-Ok.s.route c.unwrap_or-p.result c.unwrap_or-i.result)
     (is : c.judge-v.result
-    ≡ verdict_of (facts_of (sought c.loop-next.b (entry_by c.in-Read.s) (ticket_at c.args.tickets.now c.loop-roster.taken))))
+    ≡ verdict_of (facts_of (sought c.loop-next.b (entry_by c.in-Ok.s) (ticket_at c.args.tickets.now c.loop-roster.taken))))
     (k : CarriedOut c.loop-next.b c.judge-v.result c.loop-next.n c.loop-next.reports
     (set (set c.loop-next.b.covers c.judge-v.result.first.who c.moved-new.result) c.judge-v.result.second.who c.gained-new.result)
     c.total_moved-total-in-loop-roster.result c.put_notices-n.result c.put_notices-n.new.buffer) where
@@ -602,7 +595,7 @@ module _ (c : Joined-does)
         txid = txid;
         payer = c.unwrap_or-p.result;
         payee = payee;
-        amount = c.in-Read.s.amount;
+        amount = c.in-Ok.s.amount;
         time = c.loop-next.b.clock;
         status = Waiting;
       }
@@ -617,34 +610,32 @@ module _ (c : Joined-does)
         roster = c.loop-next.b.roster;
       }
 
-  done : Done (words_in c.loop-roster.b.roster) row_bucket c.loop-roster.b t c.loop-roster.n c.loop-roster.reports c.match-does.b
+  done : Done (words_in c.loop-roster.b.roster) c.loop-roster.b t c.loop-roster.n c.loop-roster.reports c.match-does.b
       c.judge-v.result.refusal c.match-does.followed c.match-does.n c.match-does.reports c.loop-next.next c.match-does.keys
-      c.match-does.heads c.match-does.links c.total_moved-total-in-loop-roster.result
+      c.total_moved-total-in-loop-roster.result
   done =
       let index = c.loop-roster.invariant.index in
       let ours = sym c.loop-roster.invariant.roster in
-      let way = follows c.requires.1 c.in-Read.s.route c.end_of-way.ensures in
+      let way = c.end_of-way.ensures in
       elim c.match-does.branch [
         | in-Nothing x ↦
-            done-as (did_nothing w is k index x.in-Nothing.is x.b-is) x.reports-is x.keys-is x.heads-is x.links-is x.n-is x.followed-is
+            done-as (did_nothing w is k index x.in-Nothing.is x.b-is) x.reports-is x.keys-is x.n-is x.followed-is
         | in-Opens x ↦
             let words = ap (λ (s : List ℕ). key_words s (txid_field t)) (sym (sender-bic w is x.in-Opens.is)) in
             done-as
             (order-opened w is k index x.in-Opens.is (ap (newly _) x.reached.ensures ∙ new-order w f ours way x.copy.ensures) x.b-is
-            (x.rows_followed-followed.ensures ∙ ap rows_followed (way-is w f ours way)) refl (ap row_bucket words)
-            (bucket-inside (key_words (sender_of t) (txid_field t)))
-            x.put_key.ensures.0 x.put_key.ensures.1
-            (x.put_key.ensures.2 ∙ ap (sets c.loop-roster.keys (7 * c.loop-next.b.count)) words))
-            x.reports-is x.keys-is x.heads-is x.links-is x.n-is x.followed-is
+            (x.rows_followed-followed.ensures ∙ ap rows_followed (way-is w f ours way))
+            (x.push.ensures ∙ ap (λ (s : List ℕ). c.loop-roster.keys ++ s ∷ []) (x.key_words.ensures ∙ words)))
+            x.reports-is x.keys-is x.n-is x.followed-is
         | in-Becomes x ↦
             done-as
             (changed w is k index x.in-Becomes.is (number_is w f)
             (x.b-is ∙ ap (with-order c.unwrap_or-i.result c.loop-next.b.count) x.with_status-changed.ensures))
-            x.reports-is x.keys-is x.heads-is x.links-is x.n-is x.followed-is
+            x.reports-is x.keys-is x.n-is x.followed-is
         | in-Cuts x ↦
             done-as
             (cut w is k index x.in-Cuts.is ours x.cut_covers-after.ensures x.b-is x.put_cut-n.ensures.1 x.put_cut-n.ensures.0)
-            x.reports-is x.keys-is x.heads-is x.links-is x.n-is x.followed-is
+            x.reports-is x.keys-is x.n-is x.followed-is
       ]
 
 pub overflow_sub-n-in-loop-roster : goal.overflow_sub-n-in-loop-roster

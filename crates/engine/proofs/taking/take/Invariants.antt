@@ -15,7 +15,7 @@ decreases-loop-next l = l.initial.b.count - l.next
 -- the loop over tickets
 abbrev pub invariant-loop-roster : goal.invariant-loop-roster
 invariant-loop-roster l =
-    LoopKept l.initial.b l.tickets l.initial.answers l.initial.reports l.b l.keys l.heads l.links l.total l.next l.taken l.n l.answers l.reports
+    LoopKept l.initial.b l.tickets l.initial.answers l.initial.reports l.b l.keys l.total l.next l.taken l.n l.answers l.reports
 
 abbrev pub decreases-loop-roster : goal.decreases-loop-roster
 decreases-loop-roster l = length l.tickets - 108 * l.taken

@@ -1,6 +1,6 @@
 use Rattle.std.proofs.Common.{◌≡◌, ℕ, ◌≤◌, ◌-◌, length, get_or, sym, subst, ◌∙◌, arith, rules}
 use Rattle.fields.specs.Text.{same}
-use Rattle.index.specs.Table.{words_bucket, row_at}
+use Rattle.index.specs.RowChains.{row_bucket, row_at}
 use Rattle.index.proofs.AlongChain.{LeftBelow, left-at-head, link-falls, left-at-link, found-there, found_nowhere}
 use Rattle.index.proofs.RowsInUse.{same_is, first-is, searchable}
 use Rattle.index.proofs.table.Index.find.Goals as goal
@@ -11,7 +11,7 @@ loop-at-init g c =
     let words = c.args.words.now in
     subst
     (λ (b : ℕ).
-    LeftBelow (words_bucket words) (λ i. words_bucket (row_at x.rows i)) (λ i. same (row_at x.rows i) words) x.count (get_or x.heads b 0))
+    LeftBelow (row_bucket words) (λ i. row_bucket (row_at x.rows i)) (λ i. same (row_at x.rows i) words) x.count (get_or x.heads b 0))
     (sym c.bucket.ensures.0)
     (left-at-head (searchable x.rows x.count c.self.view_is c.self.told c.self.invariant.0 c.self.invariant.2 c.requires words))
 
@@ -44,5 +44,5 @@ returns g c =
     let end : c.loop-at.at ≡ 0 = let t = c.loop-at-test.false in omega arith in
     sym (first-is x.rows x.count c.self.view_is c.self.told c.self.invariant.0 words
     ∙ found_nowhere (searchable x.rows x.count c.self.view_is c.self.told c.self.invariant.0 c.self.invariant.2 c.requires words)
-    (subst (LeftBelow (words_bucket words) (λ i. words_bucket (row_at x.rows i)) (λ i. same (row_at x.rows i) words) x.count) end
+    (subst (LeftBelow (row_bucket words) (λ i. row_bucket (row_at x.rows i)) (λ i. same (row_at x.rows i) words) x.count) end
     c.loop-at.invariant))
