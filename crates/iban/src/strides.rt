@@ -102,16 +102,23 @@ fn two_letters(a: u8, b: u8) -> Stride
 }
 
 // Whether no letter and no end is among five bytes: behind a zero byte there are only zero bytes, so the last tells whether there is one.
+// By index: with the five taken out by `first_chunk` an IBAN's check takes 3 to 6 in 100 longer.
 fn five_more(s: &[u8], at: usize) -> bool
     requires { at ≤ length s.now }
     ensures { result ≡ five_more s.now at }
 {
-    let Some(&[a, b, c, d, e]) = s[at..].first_chunk::<5>() else {
+    if s.len() < at + 5 {
         return false;
-    };
-    (a < 64) & (b < 64) & (c < 64) & (d < 64) & (e < 64) & (e != 0)
+    }
+    (s[at] < 64)
+        & (s[at + 1] < 64)
+        & (s[at + 2] < 64)
+        & (s[at + 3] < 64)
+        & (s[at + 4] < 64)
+        & (s[at + 4] != 0)
 }
 
+// Written out: a fold by tens waits for each product.
 fn seven_digits(s: &[u8], i: usize) -> Stride
     requires { (i + 7 ≤ length s.now) × (all_in Digit (part 7 i s.now) ≡ true) }
     ensures { Writes result (part 7 i s.now) × (result.digits ≤ 7) }

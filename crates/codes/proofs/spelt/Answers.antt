@@ -10,9 +10,9 @@ use Rattle.fields.proofs.FromFront.{to_end}
 use Rattle.codes.proofs.TwoEnds.{both_ends}
 use Rattle.codes.proofs.spelt.Goals as goal
 
-pub returns : goal.returns
-returns c =
+pub returns-in-16-to-32 : goal.returns-in-16-to-32
+returns-in-16-to-32 c =
     let s = c.args.s.now in
     let from = length s - 16 in
-    let last = c.all_in-3.ensures ∙ ap (all_in CapitalOrDigit) (to_end s from) in
-    ap₂ ◌&&◌ c.all_in-2.ensures last ∙ both_ends CapitalOrDigit s from 16 (omega arith)
+    let last = c.all_in-in-16-to-32.ensures ∙ ap (all_in CapitalOrDigit) (to_end s from) in
+    ap₂ ◌&&◌ c.all_in.ensures last ∙ both_ends CapitalOrDigit s from 16 (omega arith)
