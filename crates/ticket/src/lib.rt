@@ -23,6 +23,7 @@ pub struct Fields {
 }
 
 // The TxId without its padding, as the ticket's own bytes; the empty part where it is malformed or the ticket isn't 108 bytes.
+#[tactic(auto, unfolding(crate::specs::TicketReading::txid_part))]
 pub fn txid(t: &[u8]) -> &[u8]
     ensures { result.now ≡ txid_part t.now }
 {
