@@ -15,6 +15,7 @@ use dayfile::check::{Enrolled, Placed, Ranged, Routed};
 use dayfile::header::Header;
 
 // The header that the checks leave, or the refusal.
+#[tactic(auto, unfolding(dayfile::specs::DayFile::day_file))]
 fn checked(f: &[u8]) -> Result<Header, u8>
     ensures { (file_of f.now result ≡ day_file f.now)
         × IfOk result (λ h. RowsWithin h (length f.now)) }

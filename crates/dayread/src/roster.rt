@@ -1,16 +1,15 @@
 // The roster of a file whose rows are right. Rows of participants and of routes start where a header says, so that rows elsewhere can be
 // read by the same functions.
-ghost use Rattle.std.specs.Prelude.{◌≡◌, ◌+◌, ◌*◌, ◌≤◌, length};
+ghost use Rattle.std.specs.Prelude.{◌≡◌, ℕ, ◌+◌, ◌≤◌, ◌<◌, length};
 ghost use Rattle.fields.specs.Number.{part};
-ghost use Rattle.dayfile.specs.FileLimits.{most_participants, most_routes, participant_length, route_length};
+ghost use Rattle.fields.specs.UpTo.{rows_to};
+ghost use Rattle.dayfile.specs.FileLimits.{participant_length, route_length};
 ghost use Rattle.dayfile.specs.Roster.{
   kind_of,
   opening_of,
   target_of,
   participant_at,
   route_at,
-  participants_to,
-  routes_to,
   RowsWithin,
   roster_of,
   no_participant,
@@ -95,24 +94,15 @@ fn no_route() -> Route
     }
 }
 
-fn read_participants(start: usize, n: usize, f: &[u8]) -> [Participant; limits::MOST_PARTICIPANTS]
-    requires { (n ≤ most_participants) × (start + participant_length * n ≤ length f.now) }
-    ensures { result ≡ participants_to start n f.now }
+// A table whose first n rows are made of their numbers; the others are not in use.
+fn table<T: Copy, const N: usize, F: Fn(usize) -> T>(unused: T, n: usize, row: F) -> [T; N]
+    requires { (n ≤ N) × ((i : ℕ) → i < n → F.pre row i) }
+    ensures { (rows : ℕ → T) → ((i : ℕ) (r : T) → i < n → F.post row i r → r ≡ rows i)
+        → result ≡ rows_to N unused rows n }
 {
-    let mut all = [no_participant(); limits::MOST_PARTICIPANTS];
-    for p in 0..n {
-        all[p] = participant_at(f, start + limits::PARTICIPANT_LENGTH * p);
-    }
-    all
-}
-
-fn read_routes(start: usize, n: usize, f: &[u8]) -> [Route; limits::MOST_ROUTES]
-    requires { (n ≤ most_routes) × (start + route_length * n ≤ length f.now) }
-    ensures { result ≡ routes_to start n f.now }
-{
-    let mut all = [no_route(); limits::MOST_ROUTES];
+    let mut all = [unused; N];
     for i in 0..n {
-        all[i] = route_at(f, start + limits::ROUTE_LENGTH * i);
+        all[i] = row(i);
     }
     all
 }
@@ -122,10 +112,16 @@ pub fn read_roster(h: Header, f: &[u8]) -> Roster
     requires { RowsWithin h (length f.now) }
     ensures { result ≡ roster_of h f.now }
 {
+    let n = h.counts;
+    let at = h.offsets;
     Roster {
-        participants: read_participants(h.offsets.participants, h.counts.participants, f),
-        size: h.counts.participants,
-        routes: read_routes(h.offsets.routes, h.counts.routes, f),
-        rows: h.counts.routes,
+        participants: table(no_participant(), n.participants, |p| {
+            participant_at(f, at.participants + limits::PARTICIPANT_LENGTH * p)
+        }),
+        size: n.participants,
+        routes: table(no_route(), n.routes, |i| {
+            route_at(f, at.routes + limits::ROUTE_LENGTH * i)
+        }),
+        rows: n.routes,
     }
 }
