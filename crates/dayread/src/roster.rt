@@ -1,13 +1,9 @@
 // The roster of a file whose rows are right. Rows of participants and of routes start where a header says, so that rows elsewhere can be
 // read by the same functions.
 ghost use Rattle.std.specs.Prelude.{◌≡◌, ℕ, ◌+◌, ◌≤◌, ◌<◌, length};
-ghost use Rattle.fields.specs.Number.{part};
 ghost use Rattle.fields.specs.UpTo.{rows_to};
 ghost use Rattle.dayfile.specs.FileLimits.{participant_length, route_length};
 ghost use Rattle.dayfile.specs.Roster.{
-  kind_of,
-  opening_of,
-  target_of,
   participant_at,
   route_at,
   RowsWithin,
@@ -20,47 +16,18 @@ use dayfile::header::Header;
 use dayfile::limits;
 use dayfile::roster::{Participant, PartyKind, Roster, Route, Target};
 
-fn bic_at(f: &[u8], at: usize) -> [u8; 11]
-    requires { at + 11 ≤ length f.now }
-    ensures { result ≡ part 11 at f.now }
-{
-    f[at..at + 11].try_into().unwrap()
-}
-
-fn kind_of(b: u8) -> PartyKind
-    ensures { result ≡ kind_of b }
-{
-    if b == 1 {
-        PartyKind::Linked
-    } else {
-        PartyKind::Bank
-    }
-}
-
-fn opening_of(wish: u8, n: u64) -> Option<u64>
-    ensures { result ≡ opening_of wish n }
-{
-    if wish == 1 { Some(n) } else { None }
-}
-
-fn target_of(kind: u8, k: usize) -> Target
-    ensures { result ≡ target_of kind k }
-{
-    if kind == 1 {
-        Target::Row(k)
-    } else {
-        Target::To(k)
-    }
-}
-
 fn participant_at(f: &[u8], at: usize) -> Participant
     requires { at + participant_length ≤ length f.now }
     ensures { result ≡ participant_at at f.now }
 {
     Participant {
-        bic: bic_at(f, at),
-        kind: kind_of(f[at + 11]),
-        opening: opening_of(f[at + 20], fields::u64_at(f, at + 12)),
+        bic: f[at..at + 11].try_into().unwrap(),
+        kind: if f[at + 11] == 1 {
+            PartyKind::Linked
+        } else {
+            PartyKind::Bank
+        },
+        opening: (f[at + 20] == 1).then_some(fields::u64_at(f, at + 12)),
     }
 }
 
@@ -68,9 +35,14 @@ fn route_at(f: &[u8], at: usize) -> Route
     requires { at + route_length ≤ length f.now }
     ensures { result ≡ route_at at f.now }
 {
+    let k = fields::u16_at(f, at + 12) as usize;
     Route {
-        bic: bic_at(f, at),
-        target: target_of(f[at + 11], fields::u16_at(f, at + 12) as usize),
+        bic: f[at..at + 11].try_into().unwrap(),
+        target: if f[at + 11] == 1 {
+            Target::Row(k)
+        } else {
+            Target::To(k)
+        },
     }
 }
 
