@@ -19,6 +19,7 @@ pub fn byte(text: &[u8], at: usize) -> u8
 }
 
 // Where the run of a class's bytes from a place on ends. Bytes are looked at four a turn, and the last ones by themselves.
+#[inline]
 pub fn run_end<C: Class>(text: &[u8], at: usize, class: &C) -> usize
     ensures { result ≡ at + run_length C.is (drop at text.now) }
 {
