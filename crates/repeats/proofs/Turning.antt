@@ -39,9 +39,6 @@ module _ (name s : List ℕ) (n : ℕ) (h : 0 < n) where
   pub has-later : same name (name_in s) ≡ false → (t : List ℕ) → t ≡ behind s → has_name_in name n s ≡ has_name_in name (n - 1) t
   has-later e t q = has-next name s n h ∙ or-that _ _ e ∙ ap (has_name_in name (n - 1)) (sym q)
 
-pub has-none : (name s : List ℕ) (n : ℕ) → n ≡ 0 → has_name_in name n s ≡ false
-has-none name s n e = ap (λ (k : ℕ). has_name_in name k s) e
-
 pub has_last : (name s : List ℕ) (n : ℕ) → 0 < n → n ≤ 1 → has_name_in name n s ≡ same name (name_in s)
 has_last name s n h l =
     let one : n ≡ 1 = omega arith in ap (λ (k : ℕ). has_name_in name k s) one ∙ or-false (same name (name_in s))

@@ -2,16 +2,15 @@
 use mathlib.Core.Path.{◌≡◌, refl, sym, ◌∙◌, ap, ap₂}
 use mathlib.Core.Bool.{Bool, true, false, ◌&&◌, ◌||◌, cond}
 use mathlib.Core.List.{List}
-use Prim.Native.Nat.{ℕ, zero, suc, ◌+◌, ◌*◌, ◌-◌, ◌≤◌, ◌<◌}
+use Prim.Native.Nat.{ℕ, zero, suc, ◌+◌, ◌-◌, ◌≤◌, ◌<◌}
 use native.Mathlib.Omega.{arith}
 use borrow.Author.Tests.{eqb-true, eq-eqb, le-leb, lt-leb}
 use lib.Dec.{leb, eqb}
-use lib.ListN.{get_or}
 use Rattle.fields.specs.Text.{same}
 use Rattle.fields.proofs.Tests.{and_left, and_right}
 use Rattle.fields.proofs.Same.{same_true}
 use Rattle.repeats.specs.Repeats.{name_in, behind, has_name_in, repeats_in}
-use Rattle.repeats.specs.Tree.{bit, has_bit, link_for, last_of, numbered}
+use Rattle.repeats.specs.Tree.{bit, last_of, numbered}
 
 differs : (s t : List ℕ) → (s ≡ t → ⊥) → same s t ≡ false
 differs s t h = go (same s t) refl
@@ -23,12 +22,6 @@ differs s t h = go (same s t) refl
 pub bit-small : (b : Bool) → bit b ≤ 1
 bit-small true = omega arith
 bit-small false = omega arith
-
-pub link-is : (bytes masks name : List ℕ) (node at b on : ℕ) → at ≡ get_or bytes node 0 → b ≡ get_or name at 0
-    → on ≡ bit (has_bit b (get_or masks node 0)) → 2 * node + on ≡ link_for bytes masks name node
-unfolding link_for
-link-is bytes masks name node at b on at-is b-is on-is =
-    ap (◌+◌ (2 * node)) (on-is ∙ ap (λ (x : ℕ). bit (has_bit x (get_or masks node 0))) (b-is ∙ ap (λ (k : ℕ). get_or name k 0) at-is))
 
 -- a step: the link is a leaf, or the way goes on
 module _ (next : ℕ → ℕ) where

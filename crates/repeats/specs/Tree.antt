@@ -2,15 +2,16 @@
 -- to a leaf. A link below 13,104 is to that node, any other is a leaf. Whatever stands in the tree, a name leads to one leaf, so names that
 -- lead to different ones are different (`apart`); that it was grown well has to be believed by nobody.
 --     has_bit      a byte has one of the mask's bits
---     link_for     where the link is that a name takes at a node
+--     turn_of      which of its two links a name takes at a node
 --     next_of      that link
 --     last_of      the last node on a name's way of at most n steps
 --     leaf_of      where the name's way ends
 --     numbered    n attributes from a text's start on lead to the leaves i, i + 1 and so on
 -- Assumes nothing.
-use Rattle.std.specs.Prelude.{ℕ, zero, suc, ◌+◌, ◌*◌, Bool, true, false, ◌&&◌, not, cond, List, leb, eqb, get_or}
+use Rattle.std.specs.Prelude.{ℕ, zero, suc, ◌+◌, Bool, true, false, ◌&&◌, not, cond, List, [], leb, eqb, get_or}
 use Rattle.std.specs.Int.Bits.{bit_and}
 use Rattle.repeats.specs.Repeats.{name_in, behind}
+use Rattle.repeats.specs.declared.tree.Node.{Node}
 
 abbrev pub bit : Bool → ℕ
 bit true = 1
@@ -19,18 +20,21 @@ bit false = 0
 unfoldable pub has_bit : ℕ → ℕ → Bool
 has_bit b mask = not (eqb (bit_and b mask) 0)
 
-unfoldable pub link_for : List ℕ → List ℕ → List ℕ → ℕ → ℕ
-link_for bytes masks name node = 2 * node + bit (has_bit (get_or name (get_or bytes node 0) 0) (get_or masks node 0))
+abbrev pub turn_of : Node → List ℕ → ℕ
+turn_of n name = bit (has_bit (get_or name n.byte 0) n.mask)
 
-abbrev pub next_of : List ℕ → List ℕ → List ℕ → List ℕ → ℕ → ℕ
-next_of bytes masks links name node = get_or links (link_for bytes masks name node) 0
+abbrev no_node : Node
+no_node = record { byte = 0; mask = 0; links = [] }
+
+abbrev pub next_of : List Node → List ℕ → ℕ → ℕ
+next_of nodes name node = let n = get_or nodes node no_node in get_or n.links (turn_of n name) 0
 
 abbrev pub last_of : (ℕ → ℕ) → ℕ → ℕ → ℕ
 last_of next zero node = node
 last_of next (suc n) node = cond (leb 13_104 (next node)) node (last_of next n (next node))
 
-abbrev pub leaf_of : List ℕ → List ℕ → List ℕ → ℕ → List ℕ → ℕ
-leaf_of bytes masks links n name = next_of bytes masks links name (last_of (next_of bytes masks links name) n 0)
+abbrev pub leaf_of : List Node → ℕ → List ℕ → ℕ
+leaf_of nodes n name = next_of nodes name (last_of (next_of nodes name) n 0)
 
 abbrev pub numbered : (List ℕ → ℕ) → ℕ → ℕ → List ℕ → Bool
 numbered leaf i zero s = true

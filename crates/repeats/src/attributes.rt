@@ -1,41 +1,33 @@
-// Attributes in a text, each by a place before it: its name, and the place behind it. Where no attribute stands, the place is some place.
+// Attributes that a text begins with: the first one's name, and what stands behind it. Where no attribute stands, these are some part of
+// the text.
 ghost use Rattle.std.specs.Prelude.{◌≡◌, drop};
 ghost use Rattle.repeats.specs.Repeats.{name_in, behind};
 
-use scan::{Name, Space, Value};
+use scan::{Name, Space, Value, run_end};
 
-// The place behind a byte, the same place where the text has ended.
-fn past_byte(text: &[u8], at: usize) -> usize
-    ensures { drop result text.now ≡ drop 1 (drop at text.now) }
+// The text from a place on. Nothing is asked of the place.
+pub fn from_place(text: &[u8], at: usize) -> &[u8]
+    ensures { result.now ≡ drop at text.now }
 {
-    if at < text.len() {
-        return at + 1;
-    }
-    at
+    &text[at.min(text.len())..]
 }
 
-// The name of the attribute behind a place.
-pub fn name_at(text: &[u8], at: usize) -> &[u8]
-    ensures { result.now ≡ name_in (drop at text.now) }
+// The name of the first attribute.
+pub fn name_in(s: &[u8]) -> &[u8]
+    ensures { result.now ≡ name_in s.now }
 {
-    let from = scan::run_end(text, at, &Space);
-    let end = scan::run_end(text, from, &Name);
-    if end <= text.len() {
-        return &text[from..end];
-    }
-    &text[0..0]
+    let from = run_end(s, 0, &Space);
+    let end = run_end(s, from, &Name);
+    &s[from..end]
 }
 
-// The place behind the attribute that stands behind a place.
-pub fn end_at(text: &[u8], at: usize) -> usize
-    ensures { drop result text.now ≡ behind (drop at text.now) }
+// What stands behind the first attribute.
+pub fn behind(s: &[u8]) -> &[u8]
+    ensures { result.now ≡ behind s.now }
 {
-    let from = scan::run_end(text, at, &Space);
-    let end = scan::run_end(text, from, &Name);
-    let equals = scan::run_end(text, end, &Space);
-    let spaced = past_byte(text, equals);
-    let quote = scan::run_end(text, spaced, &Space);
-    let value = past_byte(text, quote);
-    let close = scan::run_end(text, value, &Value);
-    past_byte(text, close)
+    let name = run_end(s, 0, &Space);
+    let equals = run_end(s, run_end(s, name, &Name), &Space);
+    let quote = run_end(s, equals + 1, &Space);
+    let close = run_end(s, quote + 1, &Value);
+    from_place(s, close + 1)
 }

@@ -2,146 +2,78 @@
 // is only used where a second reading finds it right (`many` of lib.rt). A name's way through the tree ends at the leaf of a name before
 // it; the two get a node that asks for the first bit in which they differ. Nodes on a way ask for one bit after the other, so a way has at
 // most as many nodes as the name has bits, whatever names were chosen.
-ghost use Rattle.std.specs.Prelude.{◌≤◌, ◌<◌};
+ghost use Rattle.std.specs.Prelude.{◌≤◌, ◌<◌, IfSome};
 
-use crate::{attributes, tree};
+use crate::attributes::{behind, from_place, name_in};
+use crate::tree::{Node, Tree};
 
 // How many bytes two names begin with alike.
 fn alike(a: &[u8], b: &[u8]) -> usize {
-    let mut i = 0;
-    while i < a.len() {
-        if scan::byte(b, i) != a[i] {
-            return i;
-        }
-        i += 1;
-    }
-    i
-}
-
-// The highest bit of a byte that isn't 0.
-fn highest_bit(b: u8) -> u8 {
-    let mut bit = 128;
-    while b < bit {
-        bit = bit / 2;
-    }
-    bit
+    a.iter().zip(b).take_while(|(x, y)| x == y).count()
 }
 
 // The number of the name whose leaf a link is.
-fn name_of(link: usize) -> usize
-    ensures { result < 13104 }
+fn name_of(link: usize) -> Option<usize>
+    ensures { IfSome result (λ i. i < 13104) }
 {
-    if link < 13104 {
-        return 0;
-    }
-    if 26208 <= link {
-        return 0;
-    }
-    link - 13104
+    link.checked_sub(13104).filter(|&i| i < 13104)
 }
 
 // Whether a node asks for a bit behind the one of a byte and a mask.
-fn asks_behind(node_byte: usize, node_mask: u8, k: usize, mask: u8) -> bool {
-    (k < node_byte) | ((k == node_byte) & (node_mask < mask))
+fn asks_behind(node: Node, k: usize, mask: u8) -> bool {
+    let byte = node.byte as usize;
+    (k < byte) | ((k == byte) & (node.mask < mask))
 }
 
-// The last node on a name's way that doesn't ask for a bit behind that one.
-fn last_before(
-    name: &[u8],
-    bytes: &[u16; 13104],
-    masks: &[u8; 13104],
-    links: &[u16; 26208],
-    steps: usize,
-    k: usize,
-    mask: u8,
-) -> usize
-    ensures { result < 13104 }
-{
-    let mut node = 0;
-    let mut left = steps;
-    while 0 < left {
-        let next = tree::wide(links[tree::link_for(name, bytes, masks, node)]);
-        if 13104 <= next {
-            return node;
+impl Tree {
+    // Name i gets node i, which asks for the bit of byte k and the mask, on the name's way before all that ask for bits behind it.
+    fn part(&mut self, name: &[u8], i: usize, k: u16, mask: u8)
+        requires { i < 13104 }
+    {
+        let before = self.last_before(name, i, |node| asks_behind(node, k as usize, mask));
+        let turn = self.nodes[before].turn(name);
+        let link = self.nodes[before].links[turn];
+        let mut node = Node {
+            byte: k,
+            mask,
+            links: [link; 2],
+        };
+        node.links[node.turn(name)] = (13104 + i) as u16;
+        self.nodes[i] = node;
+        self.nodes[before].links[turn] = i as u16;
+    }
+
+    // The tree gets one name more, that of attribute i. Where the same name was in it, its leaf is now the later one's.
+    fn add(&mut self, text: &[u8], places: &[usize; 13104], i: usize)
+        requires { i < 13104 }
+    {
+        let name = name_in(from_place(text, places[i]));
+        let end = self.last(name, i);
+        let turn = self.nodes[end].turn(name);
+        let Some(met) = name_of(self.nodes[end].links[turn] as usize) else {
+            return;
+        };
+        let other = name_in(from_place(text, places[met]));
+        let k = alike(name, other);
+        let differing = scan::byte(name, k) ^ scan::byte(other, k);
+        match (u16::try_from(k), differing.checked_ilog2()) {
+            (Ok(k), Some(bit)) => self.part(name, i, k, 1 << bit),
+            (Ok(_), None) => self.nodes[end].links[turn] = (13104 + i) as u16,
+            (Err(_), _) => {}
         }
-        if asks_behind(tree::wide(bytes[next]), masks[next], k, mask) {
-            return node;
+    }
+
+    // The tree of all names. At its first node every name takes the first link.
+    pub fn grow(&mut self, text: &[u8], count: usize)
+        requires { count ≤ 13104 }
+    {
+        let mut places = [0; 13104];
+        self.nodes[0].links[0] = 13104;
+        let mut rest = text;
+        for i in 0..count {
+            places[i] = text.len() - rest.len();
+            self.add(text, &places, i);
+            rest = behind(rest);
         }
-        node = next;
-        left -= 1;
-    }
-    node
-}
-
-// Name i gets node i, which asks for the bit of byte k and the mask, on the name's way before all that ask for bits behind it.
-fn part(
-    name: &[u8],
-    i: usize,
-    k: usize,
-    mask: u8,
-    bytes: &mut [u16; 13104],
-    masks: &mut [u8; 13104],
-    links: &mut [u16; 26208],
-)
-    requires { (i < 13104) × (k ≤ 65535) }
-{
-    let node = last_before(name, bytes, masks, links, i, k, mask);
-    let at = tree::link_for(name, bytes, masks, node);
-    let link = links[at];
-    bytes[i] = k as u16;
-    masks[i] = mask;
-    links[2 * i] = link;
-    links[2 * i + 1] = link;
-    links[2 * i + tree::has_bit(scan::byte(name, k), mask)] = (13104 + i) as u16;
-    links[at] = i as u16;
-}
-
-// The tree gets one name more, that of attribute i. Where the same name was in it, its leaf is now the later one's.
-fn add(
-    text: &[u8],
-    places: &[usize; 13104],
-    i: usize,
-    bytes: &mut [u16; 13104],
-    masks: &mut [u8; 13104],
-    links: &mut [u16; 26208],
-)
-    requires { i < 13104 }
-{
-    let name = attributes::name_at(text, places[i]);
-    let end = tree::last(name, bytes, masks, links, i);
-    let leaf = tree::link_for(name, bytes, masks, end);
-    let other = attributes::name_at(text, places[name_of(tree::wide(links[leaf]))]);
-    let k = alike(name, other);
-    let differing = scan::byte(name, k) ^ scan::byte(other, k);
-    if 65535 < k {
-        return;
-    }
-    if differing == 0 {
-        links[leaf] = (13104 + i) as u16;
-        return;
-    }
-    part(name, i, k, highest_bit(differing), bytes, masks, links);
-}
-
-// The tree of all names. At its first node every name takes the first link.
-pub fn grow(
-    text: &[u8],
-    at: usize,
-    count: usize,
-    bytes: &mut [u16; 13104],
-    masks: &mut [u8; 13104],
-    links: &mut [u16; 26208],
-)
-    requires { count ≤ 13104 }
-{
-    let mut places = [0usize; 13104];
-    links[0] = 13104;
-    let mut place = at;
-    let mut i = 0;
-    while i < count {
-        places[i] = place;
-        add(text, &places, i, bytes, masks, links);
-        place = attributes::end_at(text, place);
-        i += 1;
     }
 }

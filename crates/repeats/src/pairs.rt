@@ -1,41 +1,37 @@
 // Names compared pairwise, each attribute being read again for each one before it. Behind the last one nothing is read.
-ghost use Rattle.std.specs.Prelude.{◌≡◌, drop};
+ghost use Rattle.std.specs.Prelude.{◌≡◌};
 ghost use Rattle.repeats.specs.Repeats.{has_name_in, repeats_in};
 
-use crate::attributes;
+use crate::attributes::{behind, name_in};
 
-// Whether one of the count attributes from a place on has the name.
-pub fn has_name(text: &[u8], at: usize, count: usize, name: &[u8]) -> bool
-    ensures { result ≡ has_name_in name.now count (drop at text.now) }
+// Whether one of the count attributes that a text begins with has the name.
+pub fn has_name(s: &[u8], count: usize, name: &[u8]) -> bool
+    ensures { result ≡ has_name_in name.now count s.now }
 {
     if count == 0 {
         return false;
     }
-    let mut place = at;
-    let mut left = count;
-    while 1 < left {
-        if fields::same_bytes(name, attributes::name_at(text, place)) {
+    let mut rest = s;
+    for _ in 1..count {
+        if fields::same_bytes(name, name_in(rest)) {
             return true;
         }
-        place = attributes::end_at(text, place);
-        left -= 1;
+        rest = behind(rest);
     }
-    fields::same_bytes(name, attributes::name_at(text, place))
+    fields::same_bytes(name, name_in(rest))
 }
 
 // Whether two of them have the same name.
-pub fn repeats(text: &[u8], at: usize, count: usize) -> bool
-    ensures { result ≡ repeats_in count (drop at text.now) }
+pub fn repeats(s: &[u8], count: usize) -> bool
+    ensures { result ≡ repeats_in count s.now }
 {
-    let mut place = at;
-    let mut left = count;
-    while 1 < left {
-        let next = attributes::end_at(text, place);
-        if has_name(text, next, left - 1, attributes::name_at(text, place)) {
+    let mut rest = s;
+    for left in (1..count).rev() {
+        let next = behind(rest);
+        if has_name(next, left, name_in(rest)) {
             return true;
         }
-        place = next;
-        left -= 1;
+        rest = next;
     }
     false
 }

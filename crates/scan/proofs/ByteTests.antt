@@ -1,6 +1,6 @@
 -- The code's tests of a byte where they are others than the definitions', compared at each of the 256. Assumes nothing.
 use mathlib.Core.Path.{◌≡◌, refl, ap, ◌∙◌}
-use mathlib.Core.Bool.{Bool, true, false, ◌&&◌, not, cond, beq}
+use mathlib.Core.Bool.{Bool, true, false, ◌&&◌, cond, beq}
 use Prim.Native.Nat.{ℕ, ◌/◌, ◌%◌, ◌^◌, ◌<◌}
 use mathlib.Core.List.{List}
 use borrow.Author.Tests.{eqb-true}
@@ -8,7 +8,7 @@ use lib.Dec.{ltb, eqb}
 use lib.ListN.{get_or}
 use Rattle.fields.specs.UpTo.{all_to}
 use Rattle.fields.proofs.UpTo.{all-at}
-use Rattle.xml.specs.Bytes.{is_letter, is_encoding_byte, is_name, is_text, is_value}
+use Rattle.xml.specs.Bytes.{is_letter, is_encoding_byte, is_name}
 use Rattle.scan.specs.Names.{NameTable}
 
 same : (a b : Bool) → beq a b ≡ true → a ≡ b
@@ -24,25 +24,11 @@ name_tested w b = ltb b 128 && eqb (w / 2 ^ (b % 64) % 2) 1
 abbrev around : ℕ → ℕ
 around b = cond (ltb b 64) 0x07ff600000000000 0x07fffffe87fffffe
 
-abbrev text_tested : ℕ → Bool
-text_tested b = not (eqb b 60) && not (eqb b 38)
-
-abbrev value_tested : ℕ → Bool
-value_tested b = not (eqb b 60) && not (eqb b 38) && not (eqb b 34)
-
 pub name-tested : (b : ℕ) {w : ℕ} → w ≡ around b → b < 256 → name_tested w b ≡ is_name b
 unfolding is_letter is_encoding_byte is_name
 name-tested b {w} e h =
     ap (λ (n : ℕ). name_tested n b) e
     ∙ same (name_tested (around b) b) (is_name b) (all-at (λ n. beq (name_tested (around n) n) (is_name n)) 256 b refl h)
-
-pub text-tested : (b : ℕ) → b < 256 → text_tested b ≡ is_text b
-unfolding is_text
-text-tested b h = same (text_tested b) (is_text b) (all-at (λ n. beq (text_tested n) (is_text n)) 256 b refl h)
-
-pub value-tested : (b : ℕ) → b < 256 → value_tested b ≡ is_value b
-unfolding is_value
-value-tested b h = same (value_tested b) (is_value b) (all-at (λ n. beq (value_tested n) (is_value n)) 256 b refl h)
 
 -- a table that has 1 or 0 for a test has it at each byte
 pub table-tested : {n : ℕ} (b : Bool) → n ≡ cond b 1 0 → eqb n 1 ≡ b

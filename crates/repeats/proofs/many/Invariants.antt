@@ -2,21 +2,17 @@
 use mathlib.Core.Path.{◌≡◌}
 use mathlib.Core.Bool.{true}
 use mathlib.Core.List.{List}
-use Prim.Native.Nat.{ℕ, ◌+◌, ◌≤◌}
-use lib.ListN.{drop}
+use Prim.Native.Nat.{ℕ, ◌+◌, ◌-◌, ◌≤◌}
 use Rattle.repeats.specs.Repeats.{repeats_in}
 use Rattle.repeats.specs.Tree.{leaf_of, numbered}
 use Rattle.repeats.proofs.many.Given as goal
 
 -- so far each attribute led to its own leaf; a name that stands twice among those left does so among all
-pub record Told (text : List ℕ) (at count : ℕ) (way : List ℕ → ℕ) (place left leaf : ℕ) : Type 0 where
-  pub own : numbered way 13_104 count (drop at text) ≡ numbered way leaf left (drop place text)
-  pub again : repeats_in left (drop place text) ≡ true → repeats_in count (drop at text) ≡ true
-  pub counted : leaf + left ≡ 13_104 + count
+pub record Told (s : List ℕ) (count : ℕ) (way : List ℕ → ℕ) (rest : List ℕ) (i : ℕ) : Type 0 where
+  pub own : numbered way 13_104 count s ≡ numbered way (13_104 + i) (count - i) rest
+  pub again : repeats_in (count - i) rest ≡ true → repeats_in count s ≡ true
+  pub counted : i ≤ count
   pub fits : count ≤ 13_104
 
-abbrev pub invariant-loop-left : goal.invariant-loop-left
-invariant-loop-left l = Told l.text l.at l.count (leaf_of l.bytes l.masks l.links l.count) l.place l.left l.leaf
-
-abbrev pub decreases-loop-left : goal.decreases-loop-left
-decreases-loop-left l = l.left
+abbrev pub invariant-loop-i : goal.invariant-loop-i
+invariant-loop-i l = Told l.s l.count (leaf_of l.tree.nodes l.count) l.rest l.i

@@ -29,19 +29,22 @@ told-first s most count found more found-is e =
 
 pub returns-then-count-le16 : goal.returns-then-count-le16
 returns-then-count-le16 c =
-    let a = c.args in told a.text.now a.at a.count _ c.repeats.ensures
+    let a = c.args in
+    told a.text.now a.at a.count _ (c.repeats.ensures ∙ ap (repeats_in a.count) c.from_place-s.ensures)
 
 pub returns-then-count-le13104 : goal.returns-then-count-le13104
 returns-then-count-le13104 c =
-    let a = c.args in told a.text.now a.at a.count _ c.many.ensures
+    let a = c.args in
+    told a.text.now a.at a.count _ (c.many.ensures ∙ ap (repeats_in a.count) c.from_place-s.ensures)
 
 pub returns-then-many : goal.returns-then-many
 returns-then-many c =
     let a = c.args in
-    told a.text.now a.at a.count true
-    (told-first (drop a.at a.text.now) 13_104 a.count _ c.if-count-le13104.false c.many-2.ensures c.if-many.true)
+    let first = c.many-2.ensures ∙ ap (repeats_in 13_104) c.from_place-s.ensures in
+    told a.text.now a.at a.count _
+    (c.if-many.true ∙ told-first (drop a.at a.text.now) 13_104 a.count _ c.if-count-le13104.false first c.if-many.true)
 
-pub returns : goal.returns
-returns c =
+pub returns-else-many : goal.returns-else-many
+returns-else-many c =
     let a = c.args in
-    told a.text.now a.at a.count _ c.repeats-2.ensures
+    told a.text.now a.at a.count _ (c.repeats-else-many.ensures ∙ ap (repeats_in a.count) c.from_place-s.ensures)

@@ -1,12 +1,8 @@
 -- `repeats::pairs::repeats` meets its contract. The loop's invariant: two of all have the same name where two of those left have.
 -- Assumes nothing.
 use mathlib.Core.Path.{◌≡◌}
-use lib.ListN.{drop}
 use Rattle.repeats.specs.Repeats.{repeats_in}
 use Rattle.repeats.proofs.pairs.repeats.Given as goal
 
 abbrev pub invariant-loop-left : goal.invariant-loop-left
-invariant-loop-left l = repeats_in l.count (drop l.at l.text) ≡ repeats_in l.left (drop l.place l.text)
-
-abbrev pub decreases-loop-left : goal.decreases-loop-left
-decreases-loop-left l = l.left
+invariant-loop-left l = repeats_in l.count l.s ≡ repeats_in l.left l.rest

@@ -1,6 +1,5 @@
 -- `scan::attributes::attribute_at` meets its contract: each way out is a law about the parts of an attribute. Assumes nothing.
-use Rattle.std.proofs.Common.{rules, ◌≡◌, false, Ok, None, is_ok, subst}
-use Rattle.scan.specs.AttributeParts.{AttributeRead}
+use Rattle.std.proofs.Common.{rules, ◌≡◌, false, Ok, is_ok}
 use Rattle.scan.proofs.AttributeParts.{no_name, no_value, no-close, is_one}
 use Rattle.scan.proofs.attributes.attribute_at.Goals as goal
 
