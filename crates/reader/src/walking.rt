@@ -5,7 +5,7 @@ ghost use Rattle.reader.specs.Walks.{RootOpened, WalkedTo};
 
 use crate::endings::EndTag;
 use crate::{endings, meeting};
-use scan::{Names, Text};
+use scan::{Name, Text};
 use tags::{TagEnd, TagFault};
 
 // Where the walk ends: behind the root; or what is wrong and where.
@@ -22,14 +22,7 @@ const DEEPEST: usize = 16;
 
 // What the root holds, from behind its start tag to behind its end tag. Of each open element the places of its name and its row are kept,
 // the outermost first.
-fn within(
-    text: &[u8],
-    start: usize,
-    behind: usize,
-    next: usize,
-    names: &Names,
-    kept: &mut [usize; 40],
-) -> WalkEnd
+fn within(text: &[u8], start: usize, behind: usize, next: usize, kept: &mut [usize; 40]) -> WalkEnd
     requires { RootOpened text.now start behind next × Kept text.now [] kept.old × (length kept.old ≡ 40) }
     ensures { WalkedTo text.now start kept.new result }
 {
@@ -64,7 +57,7 @@ fn within(
         if depth == DEEPEST {
             return WalkEnd::Astray(9, tag);
         }
-        let end = scan::run_end(text, name, names);
+        let end = scan::run_end(text, name, &Name);
         let tag_end = match tags::tag_end(text, end) {
             Ok(e) => e,
             Err(TagFault::Broken(p)) => return WalkEnd::Astray(6, p),
@@ -100,10 +93,9 @@ pub fn walk(text: &[u8], start: usize, kept: &mut [usize; 40]) -> WalkEnd
     if !scan::is_first(scan::byte(text, name)) {
         return WalkEnd::Astray(5, start);
     }
-    let names = Names::new();
-    let end = scan::run_end(text, name, &names);
+    let end = scan::run_end(text, name, &Name);
     match tags::long_tag_end(text, end) {
-        Ok(TagEnd::Opens(p)) => within(text, start, end, p, &names, kept),
+        Ok(TagEnd::Opens(p)) => within(text, start, end, p, kept),
         Ok(TagEnd::Closes(p)) => {
             meeting::meet(text, OUTSIDE, name, end, p, false, start, kept);
             WalkEnd::Arrived(p)

@@ -1,2 +1,1 @@
 pub mod AttributeParts
-pub mod Names

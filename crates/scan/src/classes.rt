@@ -1,7 +1,6 @@
 // The classes of bytes: each has a test that tells its bytes.
-ghost use Rattle.std.specs.Prelude.{◌≡◌, ℕ, Bool, cond, ltb};
+ghost use Rattle.std.specs.Prelude.{◌≡◌, ℕ, Bool};
 ghost use Rattle.xml.specs.Bytes.{is_space, is_first, is_name, is_text, is_value};
-ghost use Rattle.scan.specs.Names.{NameTable};
 
 // A class of bytes.
 pub trait Class {
@@ -32,31 +31,8 @@ pub fn is_first(b: u8) -> bool
     b.is_ascii_alphabetic() | (b == b'_')
 }
 
-// The bytes of a name.
-#[derive(Clone, Copy)]
-pub struct Name;
-
-// These bytes as the bits of two words: -, . and the digits up to : before 64, the letters and _ behind it.
-fn names_around(b: u8) -> u64
-    ensures { result ≡ cond (ltb b 64) 0x07ff600000000000 0x07fffffe87fffffe }
-{
-    if b < 64 {
-        return 0x07ff600000000000;
-    }
-    0x07fffffe87fffffe
-}
-
-impl Class for Name {
-    ghost is = { is_name };
-
-    fn has(&self, b: u8) -> bool {
-        let bit = (names_around(b) >> (b % 64)) % 2;
-        (b < 128) & (bit == 1)
-    }
-}
-
 // 1 at each byte of a name.
-const NAMES: [u8; 256] = [
+static NAMES: [u8; 256] = [
     0, 0, 0, 0, 0, 0, 0, 0, 0, 0, 0, 0, 0, 0, 0, 0, 0, 0, 0, 0, 0, 0, 0, 0, 0, 0, 0, 0, 0, 0, 0, 0,
     0, 0, 0, 0, 0, 0, 0, 0, 0, 0, 0, 0, 0, 1, 1, 0, 1, 1, 1, 1, 1, 1, 1, 1, 1, 1, 1, 0, 0, 0, 0, 0,
     0, 1, 1, 1, 1, 1, 1, 1, 1, 1, 1, 1, 1, 1, 1, 1, 1, 1, 1, 1, 1, 1, 1, 1, 1, 1, 1, 0, 0, 0, 0, 1,
@@ -67,24 +43,15 @@ const NAMES: [u8; 256] = [
     0, 0, 0, 0, 0, 0, 0, 0, 0, 0, 0, 0, 0, 0, 0, 0, 0, 0, 0, 0, 0, 0, 0, 0, 0, 0, 0, 0, 0, 0, 0, 0,
 ];
 
-// The same class by a table, for who looks for many names.
-#[derive(Drop)]
-pub struct Names {
-    table: [u8; 256],
-    ghost is: { NameTable table },
-}
+// The bytes of a name.
+#[derive(Clone, Copy)]
+pub struct Name;
 
-impl Names {
-    pub fn new() -> Names {
-        Names { table: NAMES }
-    }
-}
-
-impl Class for Names {
+impl Class for Name {
     ghost is = { is_name };
 
     fn has(&self, b: u8) -> bool {
-        self.table[b as usize] == 1
+        NAMES[b as usize] == 1
     }
 }
 

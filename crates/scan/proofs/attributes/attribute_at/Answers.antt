@@ -1,19 +1,19 @@
 -- `scan::attributes::attribute_at` meets its contract: each way out is a law about the parts of an attribute. Assumes nothing.
-use Rattle.std.proofs.Common.{rules, ◌≡◌, false, Ok, is_ok}
+use Rattle.std.proofs.Common.{ap, not, rules, ◌≡◌, false, Ok, is_ok}
 use Rattle.scan.proofs.AttributeParts.{no_name, no_value, no-close, is_one}
 use Rattle.scan.proofs.attributes.attribute_at.Goals as goal
 
 pub returns-then-not-begins : goal.returns-then-not-begins
 returns-then-not-begins c =
     let a = c.args in
-    no_name a.text.now a.at c.run_end-name.ensures c.begins.ensures c.if-not-begins.true-raw
+    no_name a.text.now a.at c.run_end-name.ensures c.begins.ensures (ap not c.if-not-begins.true)
 
 pub returns-in_err-value : goal.returns-in_err-value
 returns-in_err-value c =
     let a = c.args in
     let failed : is_ok c.value_at.result ≡ false = search rules in
     rw c.from_residual.ensures
-    (no_value a.text.now a.at c.run_end-name.ensures c.begins.ensures c.if-not-begins.false-raw c.value_at.result c.value_at.ensures failed)
+    (no_value a.text.now a.at c.run_end-name.ensures c.begins.ensures (ap not c.if-not-begins.false) c.value_at.result c.value_at.ensures failed)
 
 pub returns-then-byte-ne34 : goal.returns-then-byte-ne34
 returns-then-byte-ne34 c =
@@ -24,7 +24,7 @@ returns-then-byte-ne34 c =
     a.at
     c.run_end-name.ensures
     c.begins.ensures
-    c.if-not-begins.false-raw
+    (ap not c.if-not-begins.false)
     c.value_at.ensures
     valued
     c.run_end-close.ensures
@@ -40,7 +40,7 @@ returns c =
     a.at
     c.run_end-name.ensures
     c.begins.ensures
-    c.if-not-begins.false-raw
+    (ap not c.if-not-begins.false)
     c.value_at.ensures
     valued
     c.run_end-close.ensures
