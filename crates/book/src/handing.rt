@@ -9,7 +9,7 @@ use rules::refusal::Buffer;
 use rules::{Book, constants};
 use ticket::layout;
 
-// The answer, and the book afterwards.
+// The answer, and the book afterwards. It is no Result, since a refused ticket leaves a book as well (`Hands`).
 #[derive(Clone, Copy)]
 pub struct Handed {
     pub refusal: u8,
@@ -54,11 +54,10 @@ pub fn hand_in(b: Book, ticket: &[u8], buffer: &mut [u8]) -> Handed
     let mut answers = [0u8; 4];
     let batch = engine::run(b, ticket, &mut answers, buffer);
     let a = answer::answer_at(&answers, 0);
-    let book = batch.book;
     Handed {
         refusal: a.refusal,
         reports: a.reports,
         rows: a.rows,
-        book,
+        book: batch.book,
     }
 }

@@ -33,7 +33,7 @@ fn fresh(roster: Roster) -> Book
 }
 
 // The refusal, 0 if none, and the fresh book, which has no participants if the file is refused; how many tickets the file has and where
-// the first lies.
+// the first lies. It is no Result, since a refused file opens a book as well (`Opens`).
 #[derive(Clone, Copy)]
 pub struct Opened {
     pub refusal: u8,
@@ -46,10 +46,9 @@ pub fn open(file: &[u8]) -> Opened
     ensures { Opens file.now result }
 {
     let d = dayread::read_day_file(file);
-    let roster = d.roster;
     Opened {
         refusal: d.refusal,
-        book: fresh(roster),
+        book: fresh(d.roster),
         tickets: d.tickets,
         first: d.first,
     }

@@ -3,8 +3,8 @@ use mathlib.Core.Path.{◌≡◌, refl, sym, ◌∙◌, ap, ap₂}
 use mathlib.Core.Bool.{true, false}
 use mathlib.Core.List.{List, [], ◌++◌, append-nil, append_assoc}
 use mathlib.Core.Logic.{⊎_elim}
-use Prim.Native.Nat.{ℕ, ◌+◌, ◌-◌, ◌*◌, ◌≤◌, ◌<◌}
-use native.Mathlib.Nat.{zero-add, sub-zero}
+use Prim.Native.Nat.{ℕ, ◌+◌, ◌*◌, ◌≤◌, ◌<◌}
+use native.Mathlib.Nat.{zero-add}
 use native.Mathlib.Omega.{arith}
 use lib.ListN.{length, take, drop, length-append}
 use Rattle.fields.proofs.Stores.{sets-part}
@@ -15,7 +15,6 @@ use Rattle.fields.proofs.Compared.{below_or_not}
 use Rattle.output.specs.Batch.{most_text}
 use Rattle.output.specs.Pieces.{begun, Under, to_print, piece_text, day_after, turns_left, PieceOf}
 use Rattle.output.specs.declared.piece.Day.{Day}
-use Rattle.output.specs.declared.piece.Piece.{Piece}
 use Rattle.output.proofs.Piecewise.{begun-under, begun-prints, ended-prints, Next, piece-goes-on}
 use Rattle.foreign_day.specs.LentText.{lent}
 use Rattle.foreign_day.proofs.LentText.{lent-more}
@@ -58,26 +57,25 @@ module _ (file buffer : List ℕ) where
       next = piece-goes-on file d g.under going
 
       -- as the piece was left in its own buffer
-      module _ (spare₀ spare : List ℕ) (p : Piece) (q : PieceOf file d spare₀ p spare) (room : length spare₀ ≡ most_text) where
-        long : p.length ≡ length piece
+      module _ (spare₀ spare : List ℕ) (n : ℕ) (d' : Day) (q : PieceOf file d spare₀ n d' spare) (room : length spare₀ ≡ most_text) where
+        long : n ≡ length piece
         long = q.text.end ∙ zero-add (length piece)
 
-        piece-left : take p.length spare ≡ piece
+        piece-left : take n spare ≡ piece
         piece-left =
-            ap₂ {C = List ℕ} take long q.text.text ∙ sets-part piece spare₀ 0 (let n = long in let w = q.within in omega arith)
+            ap₂ {C = List ℕ} take long q.text.text ∙ sets-part piece spare₀ 0 (let l = long in let w = q.within in omega arith)
 
-        pub piece-fits : at + p.length ≤ most_text * 513
+        pub piece-fits : at + n ≤ most_text * 513
         piece-fits = let r = g.room in let l = next.less in let w = q.within in omega arith
 
-        pub piece-more : (text' : List ℕ) → text' ≡ take at text ++ lent (take (p.length - 0) spare) (drop at text)
-            → BetweenPieces file buffer text' p.day (at + p.length)
+        pub piece-more : (text' : List ℕ) → text' ≡ take at text ++ lent (take n spare) (drop at text)
+            → BetweenPieces file buffer text' d' (at + n)
         piece-more text' e =
             record {
               printed = g.printed ++ piece;
               under = q.under;
               has =
                   e
-                  ∙ ap (λ (n : ℕ). take at text ++ lent (take n spare) (drop at text)) (sub-zero p.length)
                   ∙ ap (λ (x : List ℕ). take at text ++ lent x (drop at text)) piece-left
                   ∙ ap₂ (λ (n : ℕ) (t : List ℕ). take n t ++ lent piece (drop n t)) g.end g.has
                   ∙ lent-more g.printed piece buffer;
@@ -94,7 +92,7 @@ module _ (file buffer : List ℕ) where
                   rw q.day (omega arith);
             }
 
-        pub fewer : turns_left p.day < turns_left d
+        pub fewer : turns_left d' < turns_left d
         fewer = rw q.day next.less
 
     -- at the end all is there

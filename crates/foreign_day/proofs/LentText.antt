@@ -1,24 +1,12 @@
 -- Laws of text in a buffer that is lent for it. Assumes nothing.
 use mathlib.Core.Path.{◌≡◌, refl, sym, ap, ◌∙◌}
 use mathlib.Core.List.{List, [], ◌∷◌, ◌++◌, append-nil}
-use Prim.Native.Nat.{ℕ, zero, suc, ◌-◌, ◌≤◌}
+use Prim.Native.Nat.{ℕ, zero, suc, min, ◌-◌, ◌≤◌}
+use native.Mathlib.Omega.{arith}
 use native.Mathlib.Nat.{le_of_suc-le-suc, not-suc-le-zero}
 use lib.ListN.{length, take, drop, length-drop}
 use lib.Seq.{take-length, drop-length}
 use Rattle.foreign_day.specs.LentText.{lent}
-
--- all of it where there is room
-pub lent-whole : (p t : List ℕ) → length p ≤ length t → p ++ drop (length p) t ≡ lent p t
-lent-whole [] t room = refl
-lent-whole (x ∷ p) [] room = absurd (not-suc-le-zero room)
-lent-whole (x ∷ p) (y ∷ t) room = ap {B = List ℕ} (λ r. x ∷ r) (lent-whole p t (le_of_suc-le-suc room))
-
--- else its beginning
-pub lent-part : (p t : List ℕ) → length t ≤ length p → take (length t) p ≡ lent p t
-lent-part [] [] room = refl
-lent-part [] (y ∷ t) room = absurd (not-suc-le-zero room)
-lent-part (x ∷ p) [] room = refl
-lent-part (x ∷ p) (y ∷ t) room = ap {B = List ℕ} (λ r. x ∷ r) (lent-part p t (le_of_suc-le-suc room))
 
 lent_none : (p : List ℕ) → lent p [] ≡ []
 lent_none [] = refl
@@ -50,3 +38,10 @@ lent-beyond zero p [] room = sym (lent_none p)
 lent-beyond zero p (y ∷ t) room = absurd (not-suc-le-zero room)
 lent-beyond (suc at) p [] room = sym (lent_none p)
 lent-beyond (suc at) p (y ∷ t) room = ap {B = List ℕ} (λ r. y ∷ r) (lent-beyond at p t (le_of_suc-le-suc room))
+
+-- as far as both reach
+pub lent-both : (p t : List ℕ) (n : ℕ) → n ≡ min (length p) (length t) → take n p ++ drop n t ≡ lent p t
+lent-both [] t n e = let none : n ≡ 0 = omega arith in rw none refl
+lent-both (x ∷ p) [] n e = let none : n ≡ 0 = omega arith in rw none refl
+lent-both (x ∷ p) (y ∷ t) zero e = absurd (omega arith)
+lent-both (x ∷ p) (y ∷ t) (suc n) e = ap {B = List ℕ} (λ r. x ∷ r) (lent-both p t n (omega arith))

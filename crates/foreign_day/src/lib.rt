@@ -5,19 +5,14 @@ ghost use Rattle.std.specs.Prelude.{◌≡◌, ◌++◌, length, take, drop};
 ghost use Rattle.rules.specs.Program.{output};
 ghost use Rattle.foreign_day.specs.LentText.{lent};
 
-use output::batch;
+use output::{Day, batch};
 
 // Fills room with the piece, as far as it reaches.
 fn fill(piece: &[u8], room: &mut [u8])
     ensures { room.new ≡ lent piece.now room.old }
 {
-    if piece.len() <= room.len() {
-        let n = piece.len();
-        fields::copy(piece, &mut room[0..n]);
-    } else {
-        let n = room.len();
-        fields::copy(&piece[0..n], room);
-    }
+    let n = piece.len().min(room.len());
+    room[..n].copy_from_slice(&piece[..n]);
 }
 
 // The piece in the text from a place on, as far as the text reaches.
@@ -36,15 +31,11 @@ pub extern "C" fn zolfigar_day(file: &[u8], text: &mut [u8]) -> usize
     ensures { (result ≡ length (output file.now)) × (text.new ≡ lent (output file.now) text.old) }
 {
     let mut piece = [0u8; batch::MOST_TEXT];
-    let mut d = output::begin(file);
+    let mut day = Day::begin(file);
     let mut at = 0;
-    while !d.ended {
-        let p = output::next_piece(d, file, &mut piece);
-        let length = p.length;
-        put_piece(&piece[0..length], text, at);
+    while let Some(length) = day.next_piece(file, &mut piece) {
+        put_piece(&piece[..length], text, at);
         at += length;
-        let after = p.day;
-        d = after;
     }
     at
 }

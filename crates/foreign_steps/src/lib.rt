@@ -34,8 +34,5 @@ pub extern "C" fn zolfigar_steps(file: &[u8], answers: &mut [u8], reports: &mut 
     if lacks_room(o.tickets, answers.len(), reports.len()) {
         return NO_ROOM;
     }
-    let book = o.book;
-    let first = o.first;
-    let ran = engine::run(book, &file[first..], answers, reports);
-    ran.taken
+    engine::run(o.book, &file[o.first..], answers, reports).taken
 }

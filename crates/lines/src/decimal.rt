@@ -1,5 +1,6 @@
 // A number in decimal, written at a place. Its digits are counted, and then filled from the last to the first: `decimal` has the digits
-// of a tenth and then the last, so a turn of that loop is its own step.
+// of a tenth and then the last, so a turn of that loop is its own step. std's Display writes to a writer, which a part of a lent slice is
+// not; without heap its text would go through a buffer of its own and be copied.
 ghost use Rattle.std.specs.Prelude.{◌≡◌, ◌+◌, ◌≤◌, length};
 ghost use Rattle.lines.specs.Written.{Written};
 ghost use Rattle.rules.specs.Program.{decimal};

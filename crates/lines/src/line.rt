@@ -20,10 +20,8 @@ fn put_numbers(text: &mut [u8], at: usize, ns: &[u64]) -> usize
     ensures { Written text.old text.new at (numbers ns.now) result }
 {
     let mut end = at;
-    let mut i = 0;
-    while i < ns.len() {
-        end = put_number(text, end, ns[i]);
-        i += 1;
+    for &n in ns {
+        end = put_number(text, end, n);
     }
     text[end] = b'\n';
     end + 1

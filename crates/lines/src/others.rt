@@ -11,8 +11,7 @@ fn put_cover(text: &mut [u8], at: usize, p: usize, c: Cover) -> usize
     requires { at + longest_cover_line ≤ length text.old }
     ensures { Written text.old text.new at (cover_line p c) result × (result ≤ at + longest_cover_line) }
 {
-    let ns = [p as u64, c.available, c.reserved, c.held];
-    line::put_line(text, at, b'C', &ns)
+    line::put_line(text, at, b'C', &[p as u64, c.available, c.reserved, c.held])
 }
 
 pub fn put_covers(covers: [Cover; 32], size: usize, text: &mut [u8]) -> usize
@@ -20,10 +19,8 @@ pub fn put_covers(covers: [Cover; 32], size: usize, text: &mut [u8]) -> usize
     ensures { Written text.old text.new 0 (covers_to covers size) result × (result ≤ length text.old) }
 {
     let mut at = 0;
-    let mut p = 0;
-    while p < size {
+    for p in 0..size {
         at = put_cover(text, at, p, covers[p]);
-        p += 1;
     }
     at
 }
@@ -32,6 +29,5 @@ pub fn put_refusal(refusal: u8, text: &mut [u8]) -> usize
     requires { longest_refusal_line ≤ length text.old }
     ensures { Written text.old text.new 0 (refusal_line refusal) result × (result ≤ length text.old) }
 {
-    let ns = [refusal as u64];
-    line::put_line(text, 0, b'F', &ns)
+    line::put_line(text, 0, b'F', &[refusal as u64])
 }

@@ -12,16 +12,24 @@ fn put_answer_line(text: &mut [u8], at: usize, n: usize, a: Answer) -> usize
     requires { at + longest_line ≤ length text.old }
     ensures { Written text.old text.new at (answer_line n a) result × (result ≤ at + longest_line) }
 {
-    let ns = [n as u64, a.refusal as u64, a.reports as u64, a.rows as u64];
-    line::put_line(text, at, b'T', &ns)
+    line::put_line(
+        text,
+        at,
+        b'T',
+        &[n as u64, a.refusal as u64, a.reports as u64, a.rows as u64],
+    )
 }
 
 fn put_report_line(text: &mut [u8], at: usize, r: Report) -> usize
     requires { at + longest_line ≤ length text.old }
     ensures { Written text.old text.new at (report_line r) result × (result ≤ at + longest_line) }
 {
-    let ns = [r.to as u64, r.code as u64, r.order as u64, r.amount];
-    line::put_line(text, at, b'R', &ns)
+    line::put_line(
+        text,
+        at,
+        b'R',
+        &[r.to as u64, r.code as u64, r.order as u64, r.amount],
+    )
 }
 
 // Those of n reports, from number from on.
@@ -30,10 +38,8 @@ fn put_reports(text: &mut [u8], at: usize, reports: &[u8], from: usize, n: usize
     ensures { Written text.old text.new at (reports_to reports.now from n) result × (result ≤ at + longest_line * n) }
 {
     let mut end = at;
-    let mut i = 0;
-    while i < n {
+    for i in 0..n {
         end = put_report_line(text, end, report::report_at(reports, from + i));
-        i += 1;
     }
     end
 }
@@ -56,12 +62,10 @@ pub fn put_lines(k: usize, taken: usize, answers: &[u8], reports: &[u8], text: &
 {
     let mut at = 0;
     let mut from = 0;
-    let mut i = 0;
-    while i < taken {
+    for i in 0..taken {
         let a = report::answer::answer_at(answers, i);
         at = put_ticket(text, at, k + i, a, reports, from);
         from += a.reports as usize;
-        i += 1;
     }
     at
 }

@@ -162,7 +162,7 @@ module _ (file : List ℕ) (d : Day) (u : Under file d) where
 
     pub batch-piece : d.taken < d.tickets → {c : Book} {n end : ℕ} {text₀ text' : List ℕ}
         → Batched d.book (drop (d.first + ticket_length * d.taken) file) d.taken text₀ c n text' end
-        → PieceOf file d text₀ (record { day = advanced d c n; length = end }) text'
+        → PieceOf file d text₀ end (advanced d c n) text'
     batch-piece more {c} {n} {end} {text₀} {text'} h =
         record {
           day = ap₂ (advanced d) h.book h.taken ∙ sym (batch-day file d accepted more);
@@ -180,7 +180,7 @@ module _ (file : List ℕ) (d : Day) (u : Under file d) where
 
     pub covers-piece : d.tickets ≤ d.taken → {text₀ text' : List ℕ} {end : ℕ}
         → Written text₀ text' 0 (covers_to d.book.covers d.book.roster.size) end → end ≤ length text₀
-        → PieceOf file d text₀ (record { day = ended_day d; length = end }) text'
+        → PieceOf file d text₀ end (ended_day d) text'
     covers-piece none {text₀} {text'} {end} w within =
         record {
           day = sym (covers-day file d accepted none);
@@ -193,7 +193,7 @@ module _ (file : List ℕ) (d : Day) (u : Under file d) where
 
   pub refusal-piece : (d.refusal ≡ 0 → ⊥) → {text₀ text' : List ℕ} {end : ℕ}
       → Written text₀ text' 0 (refusal_line d.refusal) end → end ≤ length text₀
-      → PieceOf file d text₀ (record { day = ended_day d; length = end }) text'
+      → PieceOf file d text₀ end (ended_day d) text'
   refusal-piece refused {text₀} {text'} {end} w within =
       record {
         day = sym (refusal-day file d refused);

@@ -7,9 +7,10 @@
 --     piece_text   the next piece: the lines of that batch, at the end the participants', or the one line of a refused day file
 --     day_after    the day when that is printed
 --     pieces_to    at most n pieces, one after the other; turns_left: how many there are at most
---     PieceOf     what is left behind by the next piece: the day, and every byte of the text
+--     PieceOf     what is left behind by the next piece of n bytes: the day, and every byte of the text
+--     NextPiece   that, of a day that has not ended; else nothing is done, and all stays as it was
 -- Assumes nothing.
-use Rattle.std.specs.Prelude.{◌≡◌, ℕ, zero, suc, ◌+◌, ◌-◌, ◌*◌, ◌≤◌, true, false, cond, List, [], ◌∷◌, ◌++◌, length, drop, ◌==◌, nat_lt}
+use Rattle.std.specs.Prelude.{◌≡◌, ℕ, zero, suc, ◌+◌, ◌-◌, ◌*◌, ◌≤◌, true, false, cond, Option, Some, None, List, [], ◌∷◌, ◌++◌, length, drop, ◌==◌, nat_lt}
 use Rattle.ticket.specs.TicketLayout.{ticket_length}
 use Rattle.dayfile.specs.FileLimits.{most_tickets}
 use Rattle.dayfile.specs.DayFile.{day_file}
@@ -22,7 +23,6 @@ use Rattle.rules.specs.declared.Book.{Book}
 use Rattle.lines.specs.Written.{Written}
 use Rattle.output.specs.Batch.{batch}
 use Rattle.output.specs.declared.piece.Day.{Day}
-use Rattle.output.specs.declared.piece.Piece.{Piece}
 
 abbrev pub begun : List ℕ → Day
 begun file =
@@ -81,8 +81,12 @@ abbrev pub pieces_to : ℕ → List ℕ → Day → List (List ℕ)
 pieces_to zero file d = []
 pieces_to (suc n) file d = cond d.ended [] (piece_text file d ∷ pieces_to n file (day_after file d))
 
-pub record PieceOf (file : List ℕ) (d : Day) (text₀ : List ℕ) (p : Piece) (text' : List ℕ) : Type 0 where
-  pub day : p.day ≡ day_after file d
-  pub text : Written text₀ text' 0 (piece_text file d) p.length
-  pub within : p.length ≤ length text₀
-  pub under : Under file p.day
+pub record PieceOf (file : List ℕ) (d : Day) (text₀ : List ℕ) (n : ℕ) (d' : Day) (text' : List ℕ) : Type 0 where
+  pub day : d' ≡ day_after file d
+  pub text : Written text₀ text' 0 (piece_text file d) n
+  pub within : n ≤ length text₀
+  pub under : Under file d'
+
+abbrev pub NextPiece : List ℕ → Day → List ℕ → Option ℕ → Day → List ℕ → Type 0
+NextPiece file d text₀ (Some n) d' text' = (d.ended ≡ false) × PieceOf file d text₀ n d' text'
+NextPiece file d text₀ None d' text' = (d.ended ≡ true) × (d' ≡ d) × (text' ≡ text₀)

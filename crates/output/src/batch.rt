@@ -25,12 +25,9 @@ pub fn take_batch(b: Book, tickets: &[u8], k: usize, text: &mut [u8]) -> Printed
     let mut answers = [0u8; 2048];
     let mut reports = [0u8; 12288];
     let batch = engine::run(b, tickets, &mut answers, &mut reports);
-    let book = batch.book;
-    let taken = batch.taken;
-    let length = lines::put_lines(k, taken, &answers, &reports, text);
     Printed {
-        book,
-        taken,
-        length,
+        book: batch.book,
+        taken: batch.taken,
+        length: lines::put_lines(k, batch.taken, &answers, &reports, text),
     }
 }

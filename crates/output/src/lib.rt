@@ -7,5 +7,5 @@ mod piece;
 mod stdout;
 
 pub use batch::{Printed, take_batch};
-pub use piece::{Day, Piece, begin, next_piece};
+pub use piece::Day;
 pub use stdout::print_day;

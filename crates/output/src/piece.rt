@@ -2,7 +2,7 @@
 // (`PieceOf`), and all together are `output` of the rules (`day-printed`).
 ghost use Rattle.std.specs.Prelude.{◌≡◌, ◌<◌, ◌≤◌, false, length, ◌≢◌};
 ghost use Rattle.output.specs.Batch.{most_text};
-ghost use Rattle.output.specs.Pieces.{begun, Under, ended_day, PieceOf};
+ghost use Rattle.output.specs.Pieces.{begun, Under, PieceOf, NextPiece};
 
 use super::batch;
 use book::opening;
@@ -20,101 +20,68 @@ pub struct Day {
     pub ended: bool,
 }
 
-// The day afterwards, and where the text ends.
-#[derive(Clone, Copy)]
-pub struct Piece {
-    pub day: Day,
-    pub length: usize,
-}
+impl Day {
+    pub fn begin(file: &[u8]) -> Day
+        ensures { (result ≡ begun file.now) × Under file.now result }
+    {
+        let o = opening::open(file);
+        Day {
+            refusal: o.refusal,
+            book: o.book,
+            tickets: o.tickets,
+            first: o.first,
+            taken: 0,
+            ended: false,
+        }
+    }
 
-pub fn begin(file: &[u8]) -> Day
-    ensures { (result ≡ begun file.now) × Under file.now result }
-{
-    let o = opening::open(file);
-    let book = o.book;
-    Day {
-        refusal: o.refusal,
-        book,
-        tickets: o.tickets,
-        first: o.first,
-        taken: 0,
-        ended: false,
+    // The lines of the next batch of tickets.
+    fn tickets_piece(&mut self, file: &[u8], text: &mut [u8]) -> usize
+        requires { Under file.now self.old × (self.old.ended ≡ false) × (self.old.refusal ≡ 0)
+            × (self.old.taken < self.old.tickets) × (most_text ≤ length text.old) }
+        ensures { PieceOf file.now self.old text.old result self.new text.new }
+    {
+        let at = self.first + layout::LENGTH * self.taken;
+        let p = batch::take_batch(self.book, &file[at..], self.taken, text);
+        self.book = p.book;
+        self.taken += p.taken;
+        p.length
     }
-}
 
-// The lines of the next batch of tickets.
-fn tickets_piece(d: Day, file: &[u8], text: &mut [u8]) -> Piece
-    requires { Under file.now d × (d.ended ≡ false) × (d.refusal ≡ 0) × (d.taken < d.tickets) × (most_text ≤ length text.old) }
-    ensures { PieceOf file.now d text.old result text.new }
-{
-    let at = d.first + layout::LENGTH * d.taken;
-    let book = d.book;
-    let p = batch::take_batch(book, &file[at..], d.taken, text);
-    let after = p.book;
-    let day = Day {
-        refusal: d.refusal,
-        book: after,
-        tickets: d.tickets,
-        first: d.first,
-        taken: d.taken + p.taken,
-        ended: false,
-    };
-    Piece {
-        day,
-        length: p.length,
+    // The lines of the participants, when all tickets are taken.
+    fn covers_piece(&mut self, file: &[u8], text: &mut [u8]) -> usize
+        requires { Under file.now self.old × (self.old.ended ≡ false) × (self.old.refusal ≡ 0)
+            × (self.old.tickets ≤ self.old.taken) × (most_text ≤ length text.old) }
+        ensures { PieceOf file.now self.old text.old result self.new text.new }
+    {
+        self.ended = true;
+        lines::put_covers(self.book.covers, self.book.roster.size, text)
     }
-}
 
-fn ended(d: Day) -> Day
-    ensures { result ≡ ended_day d }
-{
-    let book = d.book;
-    Day {
-        refusal: d.refusal,
-        book,
-        tickets: d.tickets,
-        first: d.first,
-        taken: d.taken,
-        ended: true,
+    // The one line of a refused day file.
+    fn refusal_piece(&mut self, file: &[u8], text: &mut [u8]) -> usize
+        requires { Under file.now self.old × (self.old.ended ≡ false) × (self.old.refusal ≢ 0)
+            × (most_text ≤ length text.old) }
+        ensures { PieceOf file.now self.old text.old result self.new text.new }
+    {
+        self.ended = true;
+        lines::put_refusal(self.refusal, text)
     }
-}
 
-// The lines of the participants, when all tickets are taken.
-fn covers_piece(d: Day, file: &[u8], text: &mut [u8]) -> Piece
-    requires { Under file.now d × (d.ended ≡ false) × (d.refusal ≡ 0) × (d.tickets ≤ d.taken) × (most_text ≤ length text.old) }
-    ensures { PieceOf file.now d text.old result text.new }
-{
-    let book = d.book;
-    let covers = book.covers;
-    let roster = book.roster;
-    let length = lines::put_covers(covers, roster.size, text);
-    Piece {
-        day: ended(d),
-        length,
+    // The next piece, at the start of the text, and how long it is. None where the day has ended: then all stays as it was.
+    pub fn next_piece(&mut self, file: &[u8], text: &mut [u8]) -> Option<usize>
+        requires { Under file.now self.old × (most_text ≤ length text.old) }
+        ensures { NextPiece file.now self.old text.old result self.new text.new }
+    {
+        if self.ended {
+            return None;
+        }
+        if self.refusal != 0 {
+            return Some(self.refusal_piece(file, text));
+        }
+        if self.taken < self.tickets {
+            return Some(self.tickets_piece(file, text));
+        }
+        Some(self.covers_piece(file, text))
     }
-}
-
-// The one line of a refused day file.
-fn refusal_piece(d: Day, file: &[u8], text: &mut [u8]) -> Piece
-    requires { Under file.now d × (d.ended ≡ false) × (d.refusal ≢ 0) × (most_text ≤ length text.old) }
-    ensures { PieceOf file.now d text.old result text.new }
-{
-    let length = lines::put_refusal(d.refusal, text);
-    Piece {
-        day: ended(d),
-        length,
-    }
-}
-
-pub fn next_piece(d: Day, file: &[u8], text: &mut [u8]) -> Piece
-    requires { Under file.now d × (d.ended ≡ false) × (most_text ≤ length text.old) }
-    ensures { PieceOf file.now d text.old result text.new }
-{
-    if d.refusal != 0 {
-        return refusal_piece(d, file, text);
-    }
-    if d.taken < d.tickets {
-        return tickets_piece(d, file, text);
-    }
-    covers_piece(d, file, text)
 }

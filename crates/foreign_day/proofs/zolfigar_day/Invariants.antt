@@ -5,8 +5,8 @@ use Rattle.output.specs.Pieces.{turns_left}
 use Rattle.foreign_day.proofs.BetweenPieces.{BetweenPieces}
 use Rattle.foreign_day.proofs.zolfigar_day.Given as goal
 
-abbrev pub invariant-loop-d : goal.invariant-loop-d
-invariant-loop-d l = BetweenPieces l.file l.initial.text l.text l.d l.at × (length l.piece ≡ 56832)
+abbrev pub invariant-loop-length : goal.invariant-loop-length
+invariant-loop-length l = BetweenPieces l.file l.initial.text l.text l.day l.at × (length l.piece ≡ 56832)
 
-abbrev pub decreases-loop-d : goal.decreases-loop-d
-decreases-loop-d l = turns_left l.d
+abbrev pub decreases-loop-length : goal.decreases-loop-length
+decreases-loop-length l = turns_left l.day

@@ -6,6 +6,3 @@ use Rattle.lines.proofs.others.put_covers.Given as goal
 
 abbrev pub invariant-loop-p : goal.invariant-loop-p
 invariant-loop-p l = (l.p ≤ l.size) × Filled l.initial.text l.text 0 (covers_to l.covers l.p) l.at × (l.at ≤ longest_cover_line * l.p)
-
-abbrev pub decreases-loop-p : goal.decreases-loop-p
-decreases-loop-p l = l.size - l.p

@@ -10,6 +10,3 @@ invariant-loop-i l = (l.i ≤ l.taken)
     × (l.from ≡ start_of l.answers l.i)
     × Filled l.initial.text l.text 0 (lines_to l.k l.i l.answers l.reports) l.at
     × (l.at ≤ longest_line * (l.i + start_of l.answers l.i))
-
-abbrev pub decreases-loop-i : goal.decreases-loop-i
-decreases-loop-i l = l.taken - l.i

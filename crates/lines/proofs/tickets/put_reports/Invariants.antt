@@ -6,6 +6,3 @@ use Rattle.lines.proofs.tickets.put_reports.Given as goal
 
 abbrev pub invariant-loop-i : goal.invariant-loop-i
 invariant-loop-i l = (l.i ≤ l.n) × Filled l.initial.text l.text l.at (reports_to l.reports l.from l.i) l.end × (l.end ≤ l.at + longest_line * l.i)
-
-abbrev pub decreases-loop-i : goal.decreases-loop-i
-decreases-loop-i l = l.n - l.i

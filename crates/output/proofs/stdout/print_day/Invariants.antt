@@ -4,8 +4,8 @@ use Rattle.std.specs.Prelude.{◌≡◌, length}
 use Rattle.output.specs.Pieces.{Under, turns_left}
 use Rattle.output.proofs.stdout.print_day.Given as goal
 
-abbrev pub invariant-loop-d : goal.invariant-loop-d
-invariant-loop-d g l = Under l.file l.d × (length l.text ≡ 56832)
+abbrev pub invariant-loop-length : goal.invariant-loop-length
+invariant-loop-length g l = Under l.file l.day × (length l.text ≡ 56832)
 
-abbrev pub decreases-loop-d : goal.decreases-loop-d
-decreases-loop-d g l = turns_left l.d
+abbrev pub decreases-loop-length : goal.decreases-loop-length
+decreases-loop-length g l = turns_left l.day
