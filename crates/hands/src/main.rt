@@ -23,88 +23,66 @@
 #![tactic(auto)]
 
 mod input;
-mod print;
 mod state;
 
 ghost use Rattle.rules.specs.Sound.{Sound};
 
 use book::opening;
+use dayfile::limits;
 use rules::Book;
+use std::io;
 use std::io::Read;
 
-// A case's book after its inputs, and whether all were there.
-#[derive(Clone, Copy)]
-struct Handed {
-    book: Book,
-    whole: bool,
-}
+const MOST_NAME: usize = 256;
 
-fn hand_all(rt: &impl Print, input: &mut impl Read, fresh: Book, inputs: u64) -> Handed
-    requires { Sound fresh }
-    ensures { Sound result.book }
+// The book after a case's inputs, up to the first that isn't there.
+fn hand_all(rt: &impl Print, input: &mut impl Read, b: &mut Book, inputs: u32) -> io::Result<()>
+    requires { Sound b.old }
+    ensures { Sound b.new }
 {
-    let mut b = fresh;
-    let mut whole = true;
-    let mut number: u64 = 0;
-    while whole & (number < inputs) {
-        let n = input::hand_next(rt, input, b, number);
-        let after = n.book;
-        b = after;
-        whole = n.whole;
-        number += 1;
+    for number in 0..inputs {
+        input::hand_next(rt, input, b, number)?;
     }
-    Handed { book: b, whole }
+    Ok(())
 }
 
-// The lines of a case, and whether all its inputs were there and its name could be written.
+// The lines of a case. What can't be written is left out. The error is that its name is, or that not all its inputs are there.
 fn print_case(
     rt: &impl Print,
     input: &mut impl Read,
     name: &[u8],
     file: &[u8],
-    inputs: u64,
-) -> bool {
+    inputs: u32,
+) -> io::Result<()> {
+    let named = streams::write_name(&mut io::writer(rt), name);
     let opened = opening::open(file);
-    let named = print::print_name(rt, name);
-    print::print_line(rt, b"F", &[opened.refusal as u64]);
-    let fresh = opened.book;
-    let handed = hand_all(rt, input, fresh, inputs);
-    let b = handed.book;
-    state::print_book(rt, b);
-    handed.whole & named
+    let _ = println!(rt; "F {}", opened.refusal);
+    let mut b = opened.book;
+    let handed = hand_all(rt, input, &mut b, inputs);
+    let _ = state::print_book(rt, &b);
+    handed.and(named)
 }
 
-// One case, and whether there may be another.
-fn print_next(rt: &impl Print, input: &mut impl Read) -> bool {
+// One case. An error says that it is the last.
+fn print_next(rt: &impl Print, input: &mut impl Read) -> io::Result<()> {
     let mut head = [0u8; 12];
-    if !input::fill(input, &mut head, 12) {
-        return false;
-    }
+    input.read_exact(&mut head)?;
+    let mut name = [0u8; MOST_NAME];
     let named = fields::u32_at(&head, 0) as usize;
+    let name = name.get_mut(..named).ok_or(io::ErrorKind::InvalidData)?;
+    let mut file = [0u8; limits::MOST_READ];
     let n = fields::u32_at(&head, 4) as usize;
-    let inputs = fields::u32_at(&head, 8) as u64;
-    if named > 256 {
-        return false;
-    }
-    if n > 57101 {
-        return false;
-    }
-    let mut name = [0u8; 256];
-    if !input::fill(input, &mut name, named) {
-        return false;
-    }
-    let mut file = [0u8; 57101];
-    if !input::fill(input, &mut file, n) {
-        return false;
-    }
-    print_case(rt, input, &name[0..named], &file[0..n], inputs)
+    let file = file.get_mut(..n).ok_or(io::ErrorKind::InvalidData)?;
+    input.read_exact(name)?;
+    input.read_exact(file)?;
+    print_case(rt, input, name, file, fields::u32_at(&head, 8))
 }
 
 // A proved loop has to end, and nothing says that the input does: so it takes at most a number of turns that no run uses up.
 fn main(rt: HostRuntime) {
     let mut input = rt.stdin();
     for _ in 0..u64::MAX {
-        if !print_next(&rt, &mut input) {
+        if print_next(&rt, &mut input).is_err() {
             break;
         }
     }
