@@ -22,19 +22,13 @@ mod print;
 mod tickets;
 mod words;
 
-ghost use Rattle.std.specs.Prelude.{◌≤◌, length};
+use std::io;
 
-use std::io::Read;
-
-fn run_line(rt: &impl Print, line: &[u8]) {
-    if line.len() < 5 {
-        print::put(rt, line);
-        print::put(rt, b" ?\n");
-        return;
-    }
-    let rest = &line[5..];
-    let asked = line[0];
-    match asked {
+fn run_line(rt: &impl Print, line: &[u8]) -> io::Result<()> {
+    let Some((first, rest)) = line.split_first_chunk::<5>() else {
+        return print::print_unknown(rt, line);
+    };
+    match first[0] {
         b'b' => print::print_answer(rt, line, codes::zolfigar_bic_ok(rest)),
         b'i' => print::print_answer(rt, line, codes::zolfigar_iban_ok(rest)),
         b'g' => print::print_answer(rt, line, codes::zolfigar_iban_groups(rest)),
@@ -44,39 +38,15 @@ fn run_line(rt: &impl Print, line: &[u8]) {
         b'f' => files::run_file(rt, rest),
         b'w' => files::run_way(rt, rest),
         b'h' => hands::run_hand(rt, rest),
-        _ => {
-            print::put(rt, line);
-            print::put(rt, b" ?\n")
-        }
+        _ => print::print_unknown(rt, line),
     }
 }
 
-fn run_lines(rt: &impl Print, s: &[u8]) {
-    let mut at = 0;
-    while at < s.len() {
-        let end = words::find(s, at, b'\n');
-        run_line(rt, &s[at..end]);
-        at = end + 1;
-    }
-}
-
-// Fills the buffer from the input, as far as there is any. Answers how many bytes that are.
-fn read_full(input: &mut impl Read, buffer: &mut [u8]) -> usize
-    ensures { result ≤ length buffer.new }
-{
-    let mut n = 0;
-    while n < buffer.len() {
-        let got = input.read(&mut buffer[n..]).unwrap_or(0);
-        if got == 0 {
-            break;
-        }
-        n += got;
-    }
-    n
-}
-
+// What can't be written of a line is left out, and nothing tells.
 fn main(rt: HostRuntime) {
     let mut buffer = [0u8; 65536];
-    let n = read_full(&mut rt.stdin(), &mut buffer);
-    run_lines(&rt, &buffer[..n])
+    let n = streams::read_full(&mut rt.stdin(), &mut buffer);
+    for line in buffer[..n].split_inclusive(|c| *c == b'\n') {
+        let _ = run_line(&rt, line.strip_suffix(b"\n").unwrap_or(line));
+    }
 }

@@ -1,24 +1,21 @@
-// Lines on standard output. What can't be written is left out, and nothing tells.
+// Lines on standard output.
 use std::io;
 
-// What became of a print is of no interest.
-pub fn shown(_became: io::Result<()>) {}
-
-pub fn put(rt: &impl Print, s: &[u8]) {
-    shown(rt.write_all(s))
-}
-
-pub fn print_number(rt: &impl Print, n: u64) {
-    shown(print!(rt; " {n}"))
-}
-
-pub fn print_end(rt: &impl Print) {
-    put(rt, b"\n")
+// What is asked, and the name of the case.
+pub fn print_case(rt: &impl Print, asked: &[u8], name: &[u8]) -> io::Result<()> {
+    rt.write_all(asked)?;
+    rt.write_all(b" ")?;
+    rt.write_all(name)
 }
 
 // A line, and the answer behind it.
-pub fn print_answer(rt: &impl Print, line: &[u8], answer: u8) {
-    put(rt, line);
-    print_number(rt, answer as u64);
-    print_end(rt)
+pub fn print_answer(rt: &impl Print, line: &[u8], answer: u8) -> io::Result<()> {
+    rt.write_all(line)?;
+    println!(rt; " {answer}")
+}
+
+// A line that asks nothing that is known.
+pub fn print_unknown(rt: &impl Print, line: &[u8]) -> io::Result<()> {
+    rt.write_all(line)?;
+    rt.write_all(b" ?\n")
 }

@@ -2,11 +2,12 @@
 use super::{bytes, print, words};
 use index::Index;
 use sight::Seen;
+use std::io;
 use ticket::kinds::Kind;
 use ticket::layout;
 
 // 01's number of a kind; a yes is 41 here and a no 42.
-fn kind_number(kind: Kind) -> u64 {
+fn kind_number(kind: Kind) -> u8 {
     match kind {
         Kind::CoverIn => 1,
         Kind::CoverOut => 2,
@@ -31,36 +32,22 @@ fn seen(t: &[u8]) -> Result<Seen, u8> {
     sight::see(0, t, &Index::new(), &Index::new(), &Index::new())
 }
 
-fn print_fields(rt: &impl Print, s: Seen) {
-    print::print_number(rt, 0);
-    let kind = s.kind;
-    print::print_number(rt, kind_number(kind));
-    print::print_number(rt, s.time as u64);
-    print::print_number(rt, s.amount)
-}
-
-pub fn run_read(rt: &impl Print, line: &[u8]) {
-    let name = words::find(line, 0, b' ');
-    print::put(rt, b"read ");
-    print::put(rt, &line[0..name]);
-    let mut buffer = [0u8; 4096];
-    let n = bytes::put_bytes(line, name, &mut buffer);
-    match seen(&buffer[0..n]) {
-        Ok(s) => print_fields(rt, s),
-        Err(r) => print::print_number(rt, r as u64),
+pub fn run_read(rt: &impl Print, line: &[u8]) -> io::Result<()> {
+    let (name, groups) = words::split_first(line);
+    print::print_case(rt, b"read", name)?;
+    let mut room = [0u8; 4096];
+    match seen(bytes::put_bytes(groups, &mut room)) {
+        Ok(s) => println!(rt; " 0 {} {} {}", kind_number(s.kind), s.time, s.amount),
+        Err(r) => println!(rt; " {r}"),
     }
-    print::print_end(rt)
 }
 
-pub fn run_part(rt: &impl Print, line: &[u8]) {
-    let name = words::find(line, 0, b' ');
-    print::put(rt, b"part ");
-    print::put(rt, &line[0..name]);
-    let mut buffer = [0u8; 4096];
-    let n = bytes::put_bytes(line, name, &mut buffer);
-    let part = ticket::txid(&buffer[0..n]);
-    print::print_number(rt, part.len() as u64);
-    print::put(rt, b" ");
-    print::put(rt, part);
-    print::print_end(rt)
+pub fn run_part(rt: &impl Print, line: &[u8]) -> io::Result<()> {
+    let (name, groups) = words::split_first(line);
+    print::print_case(rt, b"part", name)?;
+    let mut room = [0u8; 4096];
+    let part = ticket::txid(bytes::put_bytes(groups, &mut room));
+    print!(rt; " {} ", part.len())?;
+    rt.write_all(part)?;
+    rt.write_all(b"\n")
 }

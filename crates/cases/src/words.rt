@@ -1,42 +1,33 @@
 // Words and numbers of a line.
-ghost use Rattle.std.specs.Prelude.{◌≤◌, length};
+ghost use Rattle.std.specs.Prelude.{◌≤◌};
 
-// Where the byte c stands first in s, at from or after it; the end of s where it doesn't.
-pub fn find(s: &[u8], from: usize, c: u8) -> usize
-    requires { from ≤ length s.now }
-    ensures { (from ≤ result) × (result ≤ length s.now) }
-{
-    let mut at = from;
-    while at < s.len() {
-        if s[at] == c {
-            return at;
-        }
-        at += 1;
-    }
-    at
+// What stands before the first space and what behind it; nothing where there is no space.
+pub fn split_once(line: &[u8]) -> Option<(&[u8], &[u8])> {
+    let at = line.iter().position(|c| *c == b' ')?;
+    Some((&line[..at], &line[at + 1..]))
+}
+
+// The first word, which may be all, and what stands behind it.
+pub fn split_first(line: &[u8]) -> (&[u8], &[u8]) {
+    split_once(line).unwrap_or((line, &[]))
 }
 
 fn digit(c: u8) -> u64
     ensures { result ≤ 9 }
 {
-    if c < b'0' {
-        return 0;
+    match c {
+        b'0'..=b'9' => (c - b'0') as u64,
+        _ => 0,
     }
-    if b'9' < c {
-        return 0;
-    }
-    (c - b'0') as u64
 }
 
 // The number that the digits of s are, of which the last five count.
 pub fn number(s: &[u8]) -> u64
     ensures { result ≤ 99999 }
 {
-    let mut n: u64 = 0;
-    let mut i = 0;
-    while i < s.len() {
-        n = n % 10000 * 10 + digit(s[i]);
-        i += 1;
+    let mut n = 0;
+    for &c in s {
+        n = n % 10000 * 10 + digit(c);
     }
     n
 }

@@ -1,9 +1,12 @@
--- The loop of `cases::bytes::put_bytes`. The measure is the number of places that are left. Assumes nothing.
-use Rattle.std.specs.Prelude.{◌+◌, ◌-◌, ◌≤◌, length}
+-- The loops of `cases::bytes::put_bytes`: what is put stays within the room. Assumes nothing.
+use Rattle.std.specs.Prelude.{◌≤◌, length}
 use Rattle.cases.proofs.bytes.put_bytes.Given as goal
 
-abbrev pub invariant-loop-at : goal.invariant-loop-at
-invariant-loop-at l = (l.at ≤ length l.s + 1) × (l.n ≤ length l.out)
+abbrev pub invariant-loop-pair : goal.invariant-loop-pair
+invariant-loop-pair l = l.n ≤ length l.room
 
-abbrev pub decreases-loop-at : goal.decreases-loop-at
-decreases-loop-at l = length l.s + 1 - l.at
+abbrev pub invariant-loop : goal.invariant-loop
+invariant-loop l = l.n ≤ length l.room
+
+abbrev pub invariant-loop-group : goal.invariant-loop-group
+invariant-loop-group l = l.n ≤ length l.room

@@ -1,9 +1,0 @@
--- The loop of `cases::read_full`: what is read lies within the buffer. The measure is the room that is left. Assumes nothing.
-use Rattle.std.specs.Prelude.{◌-◌, ◌≤◌, length}
-use Rattle.cases.proofs.read_full.Given as goal
-
-abbrev pub invariant-loop-n : goal.invariant-loop-n
-invariant-loop-n g l = l.n ≤ length l.buffer
-
-abbrev pub decreases-loop-n : goal.decreases-loop-n
-decreases-loop-n g l = length l.buffer - l.n
