@@ -37,7 +37,7 @@ pub struct Route {
     pub target: Target,
 }
 
-// The first size participants and the first rows route rows are in use.
+// The first size participants and the first rows route rows are in use. Arrays with a count beside, since there is no heap.
 #[derive(Clone, Copy)]
 pub struct Roster {
     pub participants: [Participant; limits::MOST_PARTICIPANTS],

@@ -93,7 +93,7 @@ module _ (start width n : ℕ) (f : List ℕ) (bytes : Bytes f) (wide : 11 ≤ w
       }
 
   -- what a search among them finds
-  pub seen-before : (i : ℕ) → i < n → is_some (first_with (bic_row i) (rows_of bic_row i)) ≡ bic_among start width i (bic_in start width f i) f
+  seen-before : (i : ℕ) → i < n → is_some (first_with (bic_row i) (rows_of bic_row i)) ≡ bic_among start width i (bic_in start width f i) f
   seen-before i l =
       ap (λ (m : ℕ). is_some (first_to (λ j. same (row_at (rows_of bic_row i) j) (bic_row i)) m)) (rows-count bic_row i)
       ∙ ap is_some
