@@ -1,5 +1,5 @@
-pub mod Heading
-pub mod LoopKeeping
-pub mod Passing
 pub mod Searching
 pub mod SeenEntry
+pub mod Expiring
+pub mod Passing
+pub mod Heading

@@ -26,13 +26,10 @@ use Rattle.index.specs.LentRows.{KeyRows}
 use Rattle.index.proofs.Comparing.{part_bytes}
 use Rattle.index.proofs.LentRows.{bic-found, key-found, key-rows}
 use Rattle.sight.specs.Sight.{sight_of}
-use Rattle.turns.proofs.Index.{KeyIndex}
+use Rattle.turns.specs.Index.{KeyIndex}
 use Rattle.engine.specs.Directory.{Directs}
+use Rattle.engine.specs.Turns.{words_in}
 use Rattle.engine.specs.declared.directory.Directory.{Directory}
-
--- the words of an order's key: those of its payer's BIC and of its TxId
-abbrev pub words_in : Roster → ℕ × List ℕ → List ℕ
-words_in r key = key_words (participant_of r key.0).bic key.1
 
 -- two participants have one BIC exactly where they are one
 one-bic : (r : Roster) → Guaranteed r → (p q : ℕ) → p < r.size → q < r.size

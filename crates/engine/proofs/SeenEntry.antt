@@ -1,5 +1,4 @@
 -- What was seen of a ticket is how it is entered: refused, or its fields with what is sought for it. Assumes nothing.
---     entry_by        the entry of a ticket that passes
 --     Sighted         it is the ticket's, and what was found is what is sought
 --     sight-read      of a ticket that passes
 --     sight-refused   of one that 7 to 11 refuse
@@ -14,10 +13,8 @@ use Rattle.course.specs.Seeking.{sought_sender, sought_order}
 use Rattle.course.specs.declared.Entry.{Entry}
 use Rattle.sight.specs.Sight.{seen_as, sight_of}
 use Rattle.sight.specs.declared.Seen.{Seen}
-use Rattle.turns.proofs.Facts.{sought_route}
-
-abbrev pub entry_by : Seen → Entry
-entry_by y = record { refusal = 0; kind = y.kind; time = y.time; amount = y.amount }
+use Rattle.turns.specs.Facts.{sought_route}
+use Rattle.engine.specs.Turns.{entry_by}
 
 abbrev seen_in : Seen → Result Seen ℕ → Seen
 seen_in y (Ok x) = x

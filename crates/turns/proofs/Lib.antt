@@ -3,5 +3,5 @@ pub mod Turn
 pub mod Facts
 pub mod VerdictFitting
 pub mod CarryingOut
-pub mod Done
 pub mod TurnEnds
+pub mod Done

@@ -1,12 +1,13 @@
 -- A turn up to its verdict: a ticket that is refused by 7 to 11 changes nothing; of another, the expiries, and then the step of the rules
 -- is that of the verdict on what is sought in the book after them. Assumes nothing.
 --     refused-turn    the step of a ticket that 7 to 11 refuse
---     TakenUp         a ticket that they do not refuse
---     Expired         the expiries of such a ticket are done, all of them
+--     clocked-sound   the book of a ticket that they do not refuse is sound at its time
+--     loop-begun      the loop over orders begins
 --     expiries-done   the loop over orders has ended: at the last order, or at one that is young
+--     after-sound ..  of the book after the expiries: it is sound, and has the keys, the index and all cover that it had
 --     turn            its step, for any verdict that is the one on what is sought
-use Rattle.std.specs.Prelude.{Err, Ok, Result, ℕ}
-use mathlib.Core.Path.{◌≡◌, sym, ◌∙◌, ap, subst}
+use Rattle.std.specs.Prelude.{Err, Ok, Result}
+use mathlib.Core.Path.{◌≡◌, sym, ◌∙◌, ap, ap₂, subst}
 use mathlib.Core.Bool.{false}
 use mathlib.Core.List.{List, ◌++◌}
 use mathlib.Core.Logic.{◌⊎◌}
@@ -14,14 +15,16 @@ use Prim.Native.Nat.{ℕ, ◌+◌, ◌-◌, ◌*◌, ◌≤◌, ◌<◌}
 use native.Mathlib.Omega.{arith}
 use borrow.Author.Tests.{eqb-false}
 use lib.Dec.{eqb}
-use lib.ListN.{length}
+use lib.ListN.{length, length-append}
 use lib.Seq.{sets, length-sets}
 use Rattle.ticket.specs.TicketReading.{reading}
 use Rattle.ticket.specs.declared.Fields.{Fields}
 use Rattle.report.specs.ReportLayout.{reports_bytes}
+use Rattle.report.specs.declared.Report.{Report}
+use Rattle.report.proofs.ReportLaws.{put-further}
 use Rattle.rules.specs.Book.{order_of, key_of}
 use Rattle.rules.specs.Cover.{most_total}
-use Rattle.rules.specs.Tick.{Step, sweep_to, at_time}
+use Rattle.rules.specs.Tick.{Step, at_time}
 use Rattle.rules.specs.Decision.{applied, told_by}
 use Rattle.rules.specs.Refusal.{timing_of}
 use Rattle.rules.specs.Step.{untouched, step_timed, step_read, step_of}
@@ -30,7 +33,7 @@ use Rattle.rules.specs.declared.refusal.Timing.{Timing}
 use Rattle.rules.specs.declared.refusal.Timing.TheVariants.{InTime, Early}
 use Rattle.rules.specs.declared.verdict.Verdict.{Verdict}
 use Rattle.rules.specs.declared.Book.{Book}
-use Rattle.rules.proofs.SweepSound.{swept}
+use Rattle.rules.proofs.SweepSound.{Swept, swept}
 use Rattle.rules.proofs.Reporting.{swept-few}
 use Rattle.course.specs.Room.{Applicable}
 use Rattle.course.specs.Entry.{timed_entry, read_entry, entry_of}
@@ -49,7 +52,9 @@ use Rattle.course.proofs.Summing.{all_of, all-total, swept_all}
 use Rattle.verdict.specs.Judgement.{verdict_of}
 use Rattle.verdict.specs.Meaning.{facts_of, decision_by, judged_by}
 use Rattle.verdict.proofs.Meaning.{judged-verdict}
-use Rattle.turns.proofs.Index.{KeyIndex, same_index}
+use Rattle.turns.specs.Index.{KeyIndex}
+use Rattle.turns.specs.Turn.{swept_at, Written, TakenUp, Expired}
+use Rattle.turns.proofs.Index.{same_index}
 
 -- refused by 7 to 11: book and reports stay as they are
 pub refused-turn : (b : Book) (t : List ℕ) (n : ℕ) → (entry_of b.clock t).refusal ≡ n → eqb n 0 ≡ false → step_of b t ≡ untouched b n
@@ -64,87 +69,77 @@ refused-turn b t n refusal refused = from-reading (reading t) refusal
     from-reading (Ok f) e = from-timing f (timing_of b.clock f.time) e
     from-reading (Err m) e = ap (untouched b) e
 
--- a ticket that is not refused by 7 to 11, entered as e
-pub record TakenUp (b : Book) (t : List ℕ) (e : Entry) : Type 0 where
-  pub sound : Sound b
-  pub is : e ≡ entry_of b.clock t
-  pub passes : e.refusal ≡ 0
+pub clocked-sound : {b : Book} {t : List ℕ} {e : Entry} → TakenUp b t e → Sound (at_time b e.time)
+clocked-sound {b} {t} h = subst (λ (x : Entry). Sound (at_time b x.time)) (sym h.is) (turning.start-sound b h.sound t)
 
-module _ {b : Book} {t : List ℕ} {e : Entry} (h : TakenUp b t e) where
-  pub clocked-sound : Sound (at_time b e.time)
-  clocked-sound = subst (λ (x : Entry). Sound (at_time b x.time)) (sym h.is) (turning.start-sound b h.sound t)
+-- the loop over orders begins at order m
+pub loop-begun : {b : Book} (time : ℕ) → Sound (at_time b time) → {n : ℕ} {text : List ℕ} {m : ℕ} → Passed m b
+    → Sweeping (at_time b time) n text (at_time b time) m n text
+loop-begun {b} time s {n} {text} {m} p = sweep-begun (at_time b time) s n text m (record { none = λ i l. p.none i l })
 
-  -- the loop over orders begins at order m; in it and behind it no order comes or goes
-  pub loop-begun : {n : ℕ} {text : List ℕ} {m : ℕ} → Passed m b → Sweeping (at_time b e.time) n text (at_time b e.time) m n text
-  loop-begun {n} {text} {m} p = sweep-begun (at_time b e.time) clocked-sound n text m (record { none = λ i l. p.none i l })
+-- no order is left to be looked at, or the next one is young: c is the book of all expiries, and so are the reports
+pub expiries-done : {b : Book} (time : ℕ) → Sound (at_time b time) → {n₀ : ℕ} {text₀ : List ℕ} {c : Book} {m₀ m n : ℕ} {text : List ℕ}
+    → Passed m₀ b → Sweeping (at_time b time) n₀ text₀ c m n text → m₀ ≤ m → m ≤ b.count
+    → (b.count ≤ m) ⊎ (c.clock - (order_of c.orders m).time < 20)
+    → (c ≡ (swept_at b time).book) × Written (swept_at b time).reports n₀ text₀ n text
+expiries-done {b} time s {n₀} {text₀} first w low high stops =
+    let all = all-swept (at_time b time) s n₀ text₀ 0 w (record { none = λ i l. first.none i l }) low high stops (omega arith) in (
+      w.book ∙ ap (λ (x : Step). x.book) all,
+      record {
+        told = w.told ∙ ap (λ (x : Step). n₀ + length x.reports) all;
+        reports = w.reports ∙ ap (λ (x : Step). sets text₀ (12 * n₀) (reports_bytes x.reports)) all;
+      },
+    )
 
-  pub loop-count : {n₀ : ℕ} {text₀ : List ℕ} {c : Book} {m n : ℕ} {text : List ℕ} → Sweeping (at_time b e.time) n₀ text₀ c m n text
-      → m ≤ b.count → c.count ≡ b.count
-  loop-count {m = m} w few = ap (λ (d : Book). d.count) w.book ∙ (swept (at_time b e.time) clocked-sound m few).count
+-- they are at most 512
+pub swept-few-at : (b : Book) (time : ℕ) → Sound (at_time b time) → length (swept_at b time).reports ≤ 512
+swept-few-at b time s = let f = (swept-few (at_time b time) s b.count (omega arith)).few in let l = s.orders.count in omega arith
 
--- the expiries are done: c is the book, m the order to look at next, n reports stand in the text then, n₀ before them
-pub record Expired (b : Book) (t : List ℕ) (e : Entry) (n₀ : ℕ) (text₀ : List ℕ) (c : Book) (m n : ℕ) (text : List ℕ) : Type 0 where
-  pub taken : TakenUp b t e
-  pub sweeping : Sweeping (at_time b e.time) n₀ text₀ c m n text
-  pub few : m ≤ b.count
-  pub all : sweep_to (at_time b e.time) m ≡ sweep_to (at_time b e.time) b.count
+pub written-as : {rs : List Report} {n : ℕ} {text : List ℕ} {n' : ℕ} {text' : List ℕ} → text' ≡ sets text (12 * n) (reports_bytes rs)
+    → n' ≡ n + length rs → Written rs n text n' text'
+written-as reports told = record { told = told; reports = reports }
 
--- no order is left to be looked at, or the next one is young
-pub expiries-done : {b : Book} {t : List ℕ} {e : Entry} {n₀ : ℕ} {text₀ : List ℕ} {c : Book} {m₀ m n : ℕ} {text : List ℕ} → TakenUp b t e
-    → Passed m₀ b → Sweeping (at_time b e.time) n₀ text₀ c m n text → m₀ ≤ m → m ≤ b.count
-    → (c.count ≤ m) ⊎ (c.clock - (order_of c.orders m).time < 20) → Expired b t e n₀ text₀ c m n text
-expiries-done {b} {t} {e} {n₀} {text₀} {c} {m₀} {m} h first w low high stops =
+-- reports behind others are all of them
+pub written-on : {rs more : List Report} {n n' n″ : ℕ} {text text' text″ : List ℕ} → Written rs n text n' text'
+    → Written more n' text' n″ text″ → Written (rs ++ more) n text n″ text″
+written-on {rs} {more} {n} {text = text} w x =
     record {
-      taken = h;
-      sweeping = w;
-      few = high;
-      all =
-          all-swept (at_time b e.time) (clocked-sound h) n₀ text₀ 0 w (record { none = λ i l. first.none i l }) low high
-          (subst (λ (x : ℕ). (x ≤ m) ⊎ (c.clock - (order_of c.orders m).time < 20)) (loop-count h w high) stops) (omega arith);
+      told = let a = w.told in let b = x.told in let l = length-append rs more in omega arith;
+      reports =
+          x.reports
+          ∙ ap₂ (λ (l : List ℕ) (k : ℕ). sets l (12 * k) (reports_bytes more)) w.reports w.told
+          ∙ put-further text n rs more;
     }
 
-module _ {b : Book} {t : List ℕ} {e : Entry} {n₀ : ℕ} {text₀ : List ℕ} {c : Book} {m n : ℕ} {text : List ℕ}
-    (w : Expired b t e n₀ text₀ c m n text) where
+-- what is written behind others leaves the text as long as it was
+pub written-long : {rs : List Report} {n : ℕ} {text : List ℕ} {n' : ℕ} {text' : List ℕ} → Written rs n text n' text'
+    → length text' ≡ length text
+written-long w = simp length-sets at (ap length w.reports)
+
+module _ {b : Book} {t : List ℕ} {e : Entry} {c : Book} (w : Expired b t e c) where
   abbrev start : Book
   start = at_time b e.time
 
   -- the expiries of the rules
   abbrev pub swept_step : Step
-  swept_step = sweep_to start b.count
+  swept_step = swept_at b e.time
 
-  book-is : c ≡ swept_step.book
-  book-is = w.sweeping.book ∙ ap (λ (x : Step). x.book) w.all
-
-  pub told_is : n ≡ n₀ + length swept_step.reports
-  told_is = w.sweeping.told ∙ ap (λ (x : Step). n₀ + length x.reports) w.all
-
-  pub text-is : text ≡ sets text₀ (12 * n₀) (reports_bytes swept_step.reports)
-  text-is = w.sweeping.reports ∙ ap (λ (x : Step). sets text₀ (12 * n₀) (reports_bytes x.reports)) w.all
-
-  -- at most 512 reports stand behind those of earlier tickets, and the text has its length
-  pub told-few : n ≤ n₀ + 512
-  told-few =
-      let f = (swept-few start (clocked-sound w.taken) b.count (omega arith)).few in
-      let l = w.taken.sound.orders.count in
-      let e = told_is in
-      omega arith
-
-  pub text-long : length text ≡ length text₀
-  text-long = simp length-sets at (ap length text-is)
+  sweeps : Swept start swept_step
+  sweeps = swept start (clocked-sound w.taken) b.count (omega arith)
 
   pub after-sound : Sound c
-  after-sound = subst Sound (sym book-is) (swept start (clocked-sound w.taken) b.count (omega arith)).sound
+  after-sound = subst Sound (sym w.book) sweeps.sound
 
   pub after-count : c.count ≡ b.count
-  after-count = loop-count w.taken w.sweeping w.few
+  after-count = ap (λ (d : Book). d.count) w.book ∙ sweeps.count
 
   pub after-roster : c.roster ≡ b.roster
-  after-roster = ap (λ (d : Book). d.roster) book-is ∙ (swept start (clocked-sound w.taken) b.count (omega arith)).roster
+  after-roster = ap (λ (d : Book). d.roster) w.book ∙ sweeps.roster
 
   -- no key changes, and so the index stays
   pub after-key : (i : ℕ) → key_of (order_of c.orders i) ≡ key_of (order_of b.orders i)
   after-key i =
-      ap (λ (d : Book). key_of (order_of d.orders i)) w.sweeping.book ∙ swept-key start (clocked-sound w.taken) m w.few i
+      ap (λ (d : Book). key_of (order_of d.orders i)) w.book ∙ swept-key start (clocked-sound w.taken) b.count (omega arith) i
 
   pub after-index : {words_of : ℕ × List ℕ → List ℕ} {keys : List (List ℕ)}
       → KeyIndex words_of b keys → KeyIndex words_of c keys
@@ -152,7 +147,7 @@ module _ {b : Book} {t : List ℕ} {e : Entry} {n₀ : ℕ} {text₀ : List ℕ}
 
   -- all cover together stays, and is within the limit
   pub after-all : all_of c.covers ≡ all_of b.covers
-  after-all = ap (λ (d : Book). all_of d.covers) book-is ∙ swept_all start (clocked-sound w.taken) b.count (omega arith)
+  after-all = ap (λ (d : Book). all_of d.covers) w.book ∙ swept_all start (clocked-sound w.taken) b.count (omega arith)
 
   pub all-few : all_of c.covers ≤ most_total
   all-few = let e = all-total c after-sound in let l = after-sound.limited in omega arith
@@ -186,7 +181,7 @@ module _ {b : Book} {t : List ℕ} {e : Entry} {n₀ : ℕ} {text₀ : List ℕ}
           rows = j.decision.rows;
           book = applied d j.decision;
         })
-        (sym book-is)
+        (sym w.book)
         ∙ ap
         (λ (j : Judged).
         record {

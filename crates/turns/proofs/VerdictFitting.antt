@@ -1,5 +1,4 @@
 -- A verdict can be carried out as it stands: its numbers are in range, and there is room for what it moves. Assumes nothing.
---     moved_by           the covers after a move
 --     verdict_reports    what is told
 --     Fits              what the code needs of a verdict, so that no index, sum or difference of it leaves its range
 --     fits              the verdict on what is sought has it
@@ -7,18 +6,16 @@ use mathlib.Core.Path.{◌≡◌, refl, sym, ◌∙◌, ap, ap₂, subst}
 use mathlib.Core.List.{List}
 use Prim.Native.Nat.{ℕ, ◌≤◌, ◌<◌}
 use native.Mathlib.Omega.{arith}
-use lib.ListN.{set}
 use Rattle.dayfile.specs.FileLimits.{most_participants}
 use Rattle.report.specs.declared.Report.{Report}
 use Rattle.rules.specs.Book.{most_orders, cover_of}
-use Rattle.rules.specs.Cover.{moved, transferred, most_total}
+use Rattle.rules.specs.Cover.{transferred, most_total}
 use Rattle.rules.specs.Tell.{listed}
 use Rattle.rules.specs.Terms.{terms_of, opens_order}
 use Rattle.rules.specs.declared.finding.Finding.{Finding}
 use Rattle.rules.specs.declared.decision.Transfer.{Transfer}
 use Rattle.rules.specs.declared.verdict.Does.{Does}
 use Rattle.rules.specs.declared.verdict.Does.TheVariants.{Nothing, Opens, Becomes, Cuts}
-use Rattle.rules.specs.declared.verdict.Mover.{Mover}
 use Rattle.rules.specs.declared.verdict.Verdict.{Verdict}
 use Rattle.rules.specs.declared.Cover.{Cover}
 use Rattle.rules.specs.declared.Book.{Book}
@@ -31,11 +28,9 @@ use Rattle.verdict.specs.Judgement.{verdict_of}
 use Rattle.verdict.specs.Meaning.{Gains, ToldBelow, facts_of, transfer_by, notices_told, decided_by}
 use Rattle.verdict.proofs.VerdictLaws.{VerdictInRange, verdict-in-range, verdict-gains, cuts-alone, told-below-more}
 use Rattle.verdict.proofs.VerdictMoving.{Put, stays_put, room_by, who-by, transferred-by}
-use Rattle.turns.proofs.Turn.{Expired, after-sound, verdict-applicable}
-
--- the covers after a move, as the code has them
-abbrev pub moved_by : Mover → ℕ → List Cover → List Cover
-moved_by m n cs = set cs m.who (moved m.how n (cover_of cs m.who))
+use Rattle.turns.specs.Kept.{moved_by}
+use Rattle.turns.specs.Turn.{Expired}
+use Rattle.turns.proofs.Turn.{after-sound, verdict-applicable}
 
 -- the reports of a verdict
 abbrev pub verdict_reports : Verdict → List Report
@@ -70,8 +65,7 @@ second-as Opens x v = refl
 second-as (Becomes s) x v = refl
 second-as Cuts x v = refl
 
-module _ {b : Book} {t : List ℕ} {e : Entry} {n₀ : ℕ} {text₀ : List ℕ} {c : Book} {m n : ℕ} {text : List ℕ}
-    (w : Expired b t e n₀ text₀ c m n text) {v : Verdict} (is : v ≡ verdict_of (facts_of (sought c e t))) where
+module _ {b : Book} {t : List ℕ} {e : Entry} {c : Book} (w : Expired b t e c) {v : Verdict} (is : v ≡ verdict_of (facts_of (sought c e t))) where
   put : Put v
   put = subst Put (sym is) (stays_put (facts_of (sought c e t)))
 

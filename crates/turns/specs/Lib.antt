@@ -1,0 +1,4 @@
+pub mod Index
+pub mod Turn
+pub mod Facts
+pub mod Kept
