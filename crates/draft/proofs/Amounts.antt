@@ -1,13 +1,13 @@
 -- An amount by its parts, as the code looks at them. Assumes nothing.
-use mathlib.Core.Path.{◌≡◌, sym, ◌∙◌, ap, ap₂}
+use mathlib.Core.Path.{◌≡◌, sym, ◌∙◌, ap}
 use mathlib.Core.Bool.{true, false, and-false}
 use mathlib.Core.List.{List}
 use Prim.Native.Nat.{ℕ, ◌-◌, ◌≤◌, ◌<◌}
-use native.Mathlib.Nat.{sub-zero}
 use native.Mathlib.Omega.{arith}
 use borrow.Author.Tests.{le-leb, lt-leb, eq-eqb, ne_eqb}
 use lib.ListN.{length, get_or, take, drop, length-drop}
 use lib.Seq.{length-take-le}
+use Rattle.std.specs.Prelude.{Some, None}
 use Rattle.fields.proofs.FromFront.{to_end}
 use Rattle.classes.specs.Class.{all_in}
 use Rattle.classes.specs.declared.Class.TheVariants.{Digit}
@@ -19,38 +19,35 @@ use Rattle.draft.proofs.Cents.{digits-class}
 
 -- the digits before the point and those behind it
 abbrev pub whole_part : List ℕ → List ℕ
-whole_part s = take (length s - 3 - 0) s
+whole_part s = take (length s - 3) s
 
 abbrev pub last_part : List ℕ → List ℕ
 last_part s = take (length s - (length s - 2)) (drop (length s - 2) s)
-
-whole_is : (s : List ℕ) → whole_part s ≡ take (length s - 3) s
-whole_is s = ap (λ (k : ℕ). take k s) (sub-zero (length s - 3))
 
 last-is : (s : List ℕ) → last_part s ≡ drop (length s - 2) s
 last-is s = to_end s (length s - 2)
 
 whole-digits : (s : List ℕ) → all_of is_digit (take (length s - 3) s) ≡ all_in Digit (whole_part s)
-whole-digits s = ap (all_of is_digit) (sym (whole_is s)) ∙ digits-class (whole_part s)
+whole-digits s = digits-class (whole_part s)
 
 last_digits : (s : List ℕ) → all_of is_digit (drop (length s - 2) s) ≡ all_in Digit (last_part s)
 last_digits s = ap (all_of is_digit) (sym (last-is s)) ∙ digits-class (last_part s)
 
 -- what is no amount
 module _ (s : List ℕ) where
-  pub too_short : length s < 4 → 0 ≡ amount_in s
+  pub too_short : length s < 4 → None ≡ amount_in s
   too_short h = simp (lt-leb 4 (length s) h)
 
-  pub too_long : 12 < length s → 0 ≡ amount_in s
+  pub too_long : 12 < length s → None ≡ amount_in s
   too_long h = simp (lt-leb (length s) 12 h, and-false)
 
-  pub no-point : (get_or s (length s - 3) 0 ≡ 46 → ⊥) → 0 ≡ amount_in s
+  pub no-point : (get_or s (length s - 3) 0 ≡ 46 → ⊥) → None ≡ amount_in s
   no-point h = simp (ne_eqb (get_or s (length s - 3) 0) 46 h, and-false)
 
-  pub whole-wrong : all_in Digit (whole_part s) ≡ false → 0 ≡ amount_in s
+  pub whole-wrong : all_in Digit (whole_part s) ≡ false → None ≡ amount_in s
   whole-wrong e = simp (whole-digits s ∙ e, and-false)
 
-  pub last-wrong : all_in Digit (last_part s) ≡ false → 0 ≡ amount_in s
+  pub last-wrong : all_in Digit (last_part s) ≡ false → None ≡ amount_in s
   last-wrong e = simp (last_digits s ∙ e, and-false)
 
 -- what is
@@ -65,7 +62,7 @@ module _ (s : List ℕ) (p : Parts s) where
   pub whole-few : length (whole_part s) ≤ 9
   whole-few =
       let most = p.most in
-      let l = length-take-le (length s - 3 - 0) s (omega arith) in
+      let l = length-take-le (length s - 3) s (omega arith) in
       omega arith
 
   pub last-few : length (last_part s) ≤ 2
@@ -77,13 +74,13 @@ module _ (s : List ℕ) (p : Parts s) where
   pub whole_below : digits_behind 0 (whole_part s) < 1000000000
   whole_below = digits-below 9 0 1 (whole_part s) whole-few (omega arith) p.whole
 
-  pub cents-are : amount_in s ≡ digits_behind (digits_behind 0 (whole_part s)) (last_part s)
+  pub cents-are : amount_in s ≡ Some (digits_behind (digits_behind 0 (whole_part s)) (last_part s))
   cents-are =
       simp (
         le-leb 4 (length s) p.least,
         le-leb (length s) 12 p.most,
         eq-eqb (get_or s (length s - 3) 0) 46 p.point,
-        ap (all_of is_digit) (sym (whole_is s)) ∙ p.whole,
+        p.whole,
         ap (all_of is_digit) (sym (last-is s)) ∙ p.last,
       )
-      (ap₂ (λ (a b : List ℕ). digits_behind (digits_behind 0 a) b) (sym (whole_is s)) (sym (last-is s)))
+      (ap (λ (b : List ℕ). Some (digits_behind (digits_behind 0 (whole_part s)) b)) (sym (last-is s)))

@@ -4,16 +4,26 @@ use Prim.Native.String.{String}
 use mathlib.Core.Path.{refl}
 use mathlib.Core.List.{List, [], ◌∷◌, ◌++◌}
 use lib.ListN.{replicate}
+use Rattle.std.specs.Prelude.{Option, Some, None}
 use Rattle.fields.specs.Text.{text}
 use Rattle.fields.proofs.CaseRows.{Row, AllMet, all-met}
 use Rattle.pacs.specs.Judged.{is_digit}
 use Rattle.draft.specs.Drafting.{amount_in, bic_field}
 
+-- an amount, 0 where there is none; and a field, zeroes where there is none
+abbrev amount_or_none : Option ℕ → ℕ
+amount_or_none (Some n) = n
+amount_or_none None = 0
+
+abbrev field_or_zeroes : Option (List ℕ) → List ℕ
+field_or_zeroes (Some s) = s
+field_or_zeroes None = replicate 11 0
+
 abbrev amount_row : String → String → ℕ → Row
-amount_row shows given due = record { shows = shows; rule = λ s. amount_in s ∷ []; given = text given; due = due ∷ [] }
+amount_row shows given due = record { shows = shows; rule = λ s. amount_or_none (amount_in s) ∷ []; given = text given; due = due ∷ [] }
 
 abbrev field_row : String → String → List ℕ → Row
-field_row shows given due = record { shows = shows; rule = bic_field; given = text given; due = due }
+field_row shows given due = record { shows = shows; rule = λ s. field_or_zeroes (bic_field s); given = text given; due = due }
 
 abbrev pub amounts : List Row
 amounts =

@@ -1,12 +1,11 @@
 -- What is written into a buffer, field by field, is an order ticket. Assumes nothing.
 use mathlib.Core.Path.{◌≡◌, refl, sym, ◌∙◌, ap, ap₂}
 use mathlib.Core.List.{List, [], ◌∷◌, ◌++◌, append_assoc}
-use Prim.Native.Nat.{ℕ, suc, ◌+◌, ◌-◌, ◌^◌, ◌≤◌, ◌<◌}
+use Prim.Native.Nat.{ℕ, ◌+◌, ◌-◌, ◌^◌, ◌≤◌, ◌<◌}
 use native.Mathlib.Nat.{zero-add}
-use native.Mathlib.Numerals.{add-one}
 use native.Mathlib.Omega.{arith}
-use lib.ListN.{length, set, take, drop, replicate, length-append}
-use lib.Seq.{sets, sets-eq, drop-drop}
+use lib.ListN.{length, set, take, drop, replicate, length-append, length-take, length-drop, length-replicate}
+use lib.Seq.{sets, sets-eq, length-sets, drop-drop}
 use Rattle.fields.specs.Number.{bytes_of}
 use Rattle.fields.specs.Text.{padded}
 use Rattle.fields.proofs.Stores.{sets-append}
@@ -23,25 +22,31 @@ part-set s l at h e =
     ∙ ap (λ (u : List ℕ). take at l ++ (s ++ u)) (drop-drop (length s) at l)
     ∙ sym (sets-eq s l at h ∙ append_assoc (take at l) s (drop (at + length s) l))
 
--- zeroes up to i
-pub zero_more : (l l₀ : List ℕ) (at n i : ℕ) → i < at + n → sets l i (replicate (at + n - i) 0) ≡ sets l₀ at (replicate n 0)
-    → sets (set l i 0) (i + 1) (replicate (at + n - (i + 1)) 0) ≡ sets l₀ at (replicate n 0)
-zero_more l l₀ at n i h e =
-    let one : at + n - i ≡ suc (at + n - (i + 1)) = omega arith in
-    ap (λ (k : ℕ). sets (set l i 0) k (replicate (at + n - (i + 1)) 0)) (add-one i)
-    ∙ ap (λ (k : ℕ). sets l i (replicate k 0)) (sym one)
-    ∙ e
-
-pub zero-all : (l l₀ : List ℕ) (at n i : ℕ) → at + n ≤ i → sets l i (replicate (at + n - i) 0) ≡ sets l₀ at (replicate n 0)
-    → l ≡ sets l₀ at (replicate n 0)
-zero-all l l₀ at n i h e = let none : 0 ≡ at + n - i = omega arith in ap (λ (k : ℕ). sets l i (replicate k 0)) none ∙ e
-
 -- bytes, and zeroes behind them
-pub padded-set : {l₁ l₂ : List ℕ} (l s : List ℕ) (at width : ℕ) → l₁ ≡ sets l at s
+padded-set : {l₁ l₂ : List ℕ} (l s : List ℕ) (at width : ℕ) → l₁ ≡ sets l at s
     → l₂ ≡ sets l₁ (at + length s) (replicate (width - length s) 0) → l₂ ≡ sets l at (padded width s)
 padded-set l s at width e f =
     f ∙ ap (λ (u : List ℕ). sets u (at + length s) (replicate (width - length s) 0)) e
     ∙ sym (sets-append l at s (replicate (width - length s) 0))
+
+-- the same, as the zeroes are filled into the part behind the bytes
+pub padded-filled : {l₁ v : List ℕ} (l s : List ℕ) (at width : ℕ) → length s ≤ width → at + width ≤ length l → l₁ ≡ sets l at s
+    → v ≡ replicate (length (take (at + width - (at + length s)) (drop (at + length s) l₁))) 0
+    → take (at + length s) l₁ ++ (v ++ drop (at + width - (at + length s)) (drop (at + length s) l₁)) ≡ sets l at (padded width s)
+padded-filled {l₁} {v} l s at width few fits e f =
+    let left = width - length s in
+    let long : length l₁ ≡ length l = ap length e ∙ simp length-sets in
+    let n : at + width - (at + length s) ≡ left = omega arith in
+    let all : length (take (at + width - (at + length s)) (drop (at + length s) l₁)) ≡ left =
+    simp (length-take, length-drop) (omega arith)
+    in
+    let zeroes : v ≡ replicate left 0 = f ∙ ap (λ (k : ℕ). replicate k 0) all in
+    let m : at + width - (at + length s) ≡ at + length s + length (replicate left 0) - (at + length s) =
+    omega (arith, length-replicate {A = ℕ} left 0)
+    in
+    padded-set l s at width e
+    (ap (λ (k : ℕ). take (at + length s) l₁ ++ (v ++ drop k (drop (at + length s) l₁))) m
+    ∙ part-set (replicate left 0) l₁ (at + length s) (omega (arith, length-replicate {A = ℕ} left 0)) zeroes)
 
 -- kind 3, flag 0, two zeroes and the time as one number
 head_bytes : (t : ℕ) → t < 256 ^ 4 → bytes_of 8 (216172782113783808 + t) ≡ (3 ∷ 0 ∷ 0 ∷ 0 ∷ []) ++ bytes_of 4 t

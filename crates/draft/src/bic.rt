@@ -1,19 +1,32 @@
 // A BIC of a message as it stands in a ticket: eleven bytes, a short one filled with XXX.
 ghost use Rattle.std.specs.Prelude.{◌≡◌};
-ghost use Rattle.draft.specs.Drafting.{bic_field};
+ghost use Rattle.draft.specs.Drafting.{bic_field, BicOf};
 
-pub fn bic_field(s: &[u8]) -> [u8; 11]
+use pacs::notes::Text;
+use pacs::refusals::{Refused, Wrong};
+
+// None where a text has neither eight bytes nor eleven.
+fn bic_field(s: &[u8]) -> Option<[u8; 11]>
     ensures { result ≡ bic_field s.now }
 {
+    let mut field = [b'X'; 11];
     if s.len() == 8 {
-        let mut field = [b'X'; 11];
-        fields::copy(s, &mut field[0..8]);
-        return field;
+        field[..8].copy_from_slice(s);
+        return Some(field);
     }
     if s.len() == 11 {
-        let mut field = [0u8; 11];
-        fields::copy(s, &mut field);
-        return field;
+        field.copy_from_slice(s);
+        return Some(field);
     }
-    [0u8; 11]
+    None
+}
+
+// The eleven bytes of a text that is a BIC; else what is wrong is the one given.
+pub fn bic_of(text: Text<'_>, wrong: Wrong) -> Result<[u8; 11], Refused>
+    ensures { BicOf text.entry.bytes.now wrong result }
+{
+    match bic_field(text.bytes) {
+        Some(field) if codes::zolfigar_bic_ok(&field) != 0 => Ok(field),
+        _ => Err(wrong.at(text.place)),
+    }
 }

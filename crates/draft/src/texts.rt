@@ -1,85 +1,57 @@
 // The five texts of a message judged, and the ticket written where they are right.
 ghost use Rattle.std.specs.Prelude.{◌≤◌, length};
 ghost use Rattle.ticket.specs.TicketLayout.{ticket_length};
+ghost use Rattle.pacs.specs.Wrongs.{refusal_in};
 ghost use Rattle.draft.specs.Drafting.{judged_on, JudgedTo};
 
-use super::{Answer, amount, bic, writing};
+use super::{amount, bic, writing};
+use pacs::notes::Text;
+use pacs::refusals::{Refused, Wrong};
 
-// Euro is whether the amount's attributes are right. Of what was kept only the places are taken, for people.
+#[derive(Clone, Copy)]
+pub struct Texts<'a> {
+    pub amount: Text<'a>,
+    pub sender: Text<'a>,
+    pub payee: Text<'a>,
+    pub txid: Text<'a>,
+    pub iban: Text<'a>,
+}
+
+// Euro is whether the amount's attributes are right.
 pub fn judge_texts(
     time: u32,
     euro: bool,
-    kept: &[usize; 40],
-    amount: &[u8],
-    sender: &[u8],
-    payee: &[u8],
-    txid: &[u8],
-    iban: &[u8],
+    texts: &Texts<'_>,
     ticket: &mut [u8],
-) -> Answer
+) -> Result<(), Refused>
     requires { ticket_length ≤ length ticket.old }
     ensures { JudgedTo
         (judged_on
         time
         euro
-        amount.now
-        sender.now
-        payee.now
-        txid.now
-        iban.now)
+        texts.now.amount.bytes.now
+        texts.now.sender.bytes.now
+        texts.now.payee.bytes.now
+        texts.now.txid.bytes.now
+        texts.now.iban.bytes.now)
         ticket.old
         ticket.new
-        result.refusal }
+        (refusal_in result) }
 {
     if !euro {
-        return Answer {
-            refusal: 25,
-            what: 14,
-            place: kept[9],
-        };
+        return Err(Wrong::Attributes.at(texts.amount.place));
     }
-    let cents = amount::amount_of(amount);
-    if cents == 0 {
-        return Answer {
-            refusal: 25,
-            what: 15,
-            place: kept[9],
-        };
-    }
-    let payer = bic::bic_field(sender);
-    if codes::zolfigar_bic_ok(&payer) == 0 {
-        return Answer {
-            refusal: 7,
-            what: 16,
-            place: kept[5],
-        };
-    }
-    let paid = bic::bic_field(payee);
-    if codes::zolfigar_bic_ok(&paid) == 0 {
-        return Answer {
-            refusal: 7,
-            what: 17,
-            place: kept[12],
-        };
-    }
+    let cents = amount::cents_of(texts.amount)?;
+    let payer = bic::bic_of(texts.sender, Wrong::Sender)?;
+    let paid = bic::bic_of(texts.payee, Wrong::Payee)?;
+    let txid = texts.txid.bytes;
     if codes::zolfigar_txid_ok(txid) == 0 {
-        return Answer {
-            refusal: 7,
-            what: 18,
-            place: kept[8],
-        };
+        return Err(Wrong::Txid.at(texts.txid.place));
     }
+    let iban = texts.iban.bytes;
     if codes::zolfigar_iban_ok(iban) == 0 {
-        return Answer {
-            refusal: 8,
-            what: 19,
-            place: kept[15],
-        };
+        return Err(Wrong::Iban.at(texts.iban.place));
     }
     writing::put_ticket(ticket, time, cents, &payer, &paid, txid, iban);
-    Answer {
-        refusal: 0,
-        what: 0,
-        place: 0,
-    }
+    Ok(())
 }

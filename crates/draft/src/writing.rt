@@ -1,5 +1,5 @@
 // An order ticket written into a buffer, field by field from its first byte to its last.
-ghost use Rattle.std.specs.Prelude.{◌≡◌, ◌++◌, ◌+◌, ◌≤◌, length, drop, replicate};
+ghost use Rattle.std.specs.Prelude.{◌≡◌, ◌++◌, ◌+◌, ◌≤◌, length, drop};
 ghost use Rattle.std.proofs.lemmas.List.Edits.{sets};
 ghost use Rattle.fields.specs.Text.{padded};
 ghost use Rattle.ticket.specs.TicketLayout.{ticket_length};
@@ -10,28 +10,16 @@ fn put_bytes(ticket: &mut [u8], at: usize, s: &[u8])
     ensures { ticket.new ≡ sets ticket.old at s.now }
 {
     let end = at + s.len();
-    fields::copy(s, &mut ticket[at..end]);
-}
-
-fn put_zeros(ticket: &mut [u8], at: usize, n: usize)
-    requires { at + n ≤ length ticket.old }
-    ensures { ticket.new ≡ sets ticket.old at (replicate n 0) }
-{
-    let end = at + n;
-    let mut i = at;
-    while i < end {
-        ticket[i] = 0;
-        i += 1;
-    }
+    ticket[at..end].copy_from_slice(s);
 }
 
 fn put_padded(ticket: &mut [u8], at: usize, width: usize, s: &[u8])
     requires { (length s.now ≤ width) × (at + width ≤ length ticket.old) }
     ensures { ticket.new ≡ sets ticket.old at (padded width s.now) }
 {
-    let n = s.len();
     put_bytes(ticket, at, s);
-    put_zeros(ticket, at + n, width - n);
+    let end = at + width;
+    ticket[at + s.len()..end].fill(0);
 }
 
 // The first eight bytes are one number: kind 3, flag 0, two zeroes, and the time.

@@ -1,6 +1,5 @@
 pub mod ByParent
 pub mod Appending
-pub mod Written
 pub mod Plain
 pub mod Noting
 pub mod EuroRead

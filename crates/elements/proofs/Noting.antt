@@ -1,5 +1,4 @@
 -- One turn of `note` on plain values: what is kept before it and after it, by what each call has answered.
---     KeptWith       what is kept behind the element: 40 numbers, and what they are
 --     stays-wrong    something was wrong before
 --     Looked         what the calls have answered where nothing was
 --     found-wrong    the element has a fault
@@ -9,24 +8,29 @@ use mathlib.Core.Path.{◌≡◌, refl, sym, ◌∙◌, ap, ap₂, subst}
 use mathlib.Core.Logic.{inl, inr, ⊎_elim}
 use mathlib.Core.Bool.{Bool, true, false, ◌&&◌, ◌||◌, not, cond}
 use mathlib.Core.List.{List, [], ◌∷◌, ◌++◌}
-use Prim.Native.Nat.{ℕ, ◌+◌, ◌≤◌, ◌<◌}
+use Prim.Native.Nat.{ℕ, suc, ◌+◌, ◌≤◌, ◌<◌}
+use native.Mathlib.Numerals.{add-one}
 use native.Mathlib.Omega.{arith}
 use borrow.Author.Tests.{eqb-true, eq-eqb, ne_eqb}
 use lib.Dec.{eqb, ltb}
-use lib.ListN.{length, get_or, set, drop, length-set}
+use lib.ListN.{length, get_or, drop, length-set}
 use lib.Seq.{get_or-set_same, get_or-set_other}
+use Rattle.std.specs.Prelude.{Option, Some, None}
 use Rattle.fields.proofs.Tests.{and_left}
 use Rattle.xml.specs.Bytes.{is_text, run}
 use Rattle.xml.specs.Tree.{Attribute}
 use Rattle.xml.specs.Scanning.{attributes_in, attributed}
 use Rattle.scan.proofs.Runs.{run_end}
+use Rattle.pacs.specs.declared.notes.Text.{Text}
+use Rattle.pacs.specs.declared.notes.Notes.{Notes}
+use Rattle.pacs.specs.declared.refusals.Refused.{Refused}
+use Rattle.pacs.specs.declared.refusals.Wrong.{Wrong}
 use Rattle.pacs.specs.Named.{Named, is_text_row}
 use Rattle.pacs.specs.Judged.{is_euro}
 use Rattle.pacs.specs.Kept.{placed_text, KeptRight, KeptWrong}
-use Rattle.elements.specs.Noted.{met_at, fault_of, keeping, Noted}
+use Rattle.elements.specs.Noted.{met_at, fault_of, told_fault, keeping, Noted}
 use Rattle.elements.proofs.Appending.{is_due, wrong_stays, goes-wrong, Added, goes_on}
 use Rattle.elements.proofs.Plain.{plain-read, text-read}
-use Rattle.elements.proofs.Written.{euro-written, due-written, end-written, begin-written, other-written, written-long}
 
 -- the row that is due is the element's own, where that is asked
 due-own : (n : ℕ) (m : Named) → is_due n m ≡ (eqb m.row n && (not (is_text_row m.row) || m.plain))
@@ -46,40 +50,34 @@ no-fault row due plain = go (eqb row due) plain (ltb row due)
     go false p true e = absurd (omega arith)
     go false p false e = absurd (omega arith)
 
-some-fault : (row due : ℕ) (plain : Bool) → (fault_of row due plain ≡ 0 → ⊥) → (eqb row due && plain) ≡ false
+some-fault : (row due : ℕ) (plain : Bool) → 32 ≤ fault_of row due plain → (eqb row due && plain) ≡ false
 some-fault row due plain = go (eqb row due) plain (ltb row due)
   where
-    go : (b p l : Bool) → (cond b (cond p 0 (48 + row)) (cond l (64 + row) (32 + due)) ≡ 0 → ⊥) → (b && p) ≡ false
-    go true true l e = absurd (e refl)
+    go : (b p l : Bool) → 32 ≤ cond b (cond p 0 (48 + row)) (cond l (64 + row) (32 + due)) → (b && p) ≡ false
+    go true true l e = absurd (omega arith)
     go true false l e = refl
     go false p l e = refl
 
-abbrev KeptWith : List ℕ → ℕ → ℕ → ℕ → Bool → List ℕ → List ℕ → Type 0
-KeptWith t row behind at nests kept after = (length after ≡ 40) × (Noted t row behind at nests kept after)
-
-pub stays-wrong : (t : List ℕ) (row behind at : ℕ) (nests : Bool) (kept : List ℕ) → length kept ≡ 40 → (get_or kept 33 0 ≡ 0 → ⊥)
-    → KeptWith t row behind at nests kept kept
-stays-wrong t row behind at nests kept few h = (
-  few,
-  λ seen fuel more space z e k.
-      ⊎_elim
-      (λ (r : KeptRight t seen kept). absurd (h r.fault))
-      (λ (w : KeptWrong seen kept). inr (wrong_stays t seen (met_at t row more at nests) kept w))
-      k,
-)
+pub stays-wrong : (t : List ℕ) (row behind at : ℕ) (nests : Bool) (kept : Notes) → (kept.fault ≡ None → ⊥)
+    → Noted t row behind at nests kept kept
+stays-wrong t row behind at nests kept h = λ seen fuel more space z e k.
+    ⊎_elim
+    (λ (r : KeptRight seen kept). absurd (h r.fault))
+    (λ (w : KeptWrong seen kept). inr (wrong_stays seen (met_at t row more at nests) kept w))
+    k
 
 -- what the calls have answered where nothing was wrong before
-pub record Looked (t : List ℕ) (row at : ℕ) (nests : Bool) (kept : List ℕ) (ends fault : ℕ) : Type 0 where
-  pub few : length kept ≡ 40
-  pub right : get_or kept 33 0 ≡ 0
+pub record Looked (t : List ℕ) (row at : ℕ) (nests : Bool) (kept : Notes) (ends : ℕ) (fault : Option Wrong) : Type 0 where
+  pub right : kept.fault ≡ None
   pub reads : Bool
   pub plain : Bool
   pub asked : reads ≡ (nests && is_text_row row)
   pub ended : ends ≡ cond reads (run_end is_text t at) at
   pub tested : plain ≡ (not reads || eqb (get_or t (ends + 1) 0) 47)
-  pub told : fault ≡ fault_of row (get_or kept 32 0) plain
+  pub told : told_fault fault (fault_of row kept.due plain)
 
-module _ {t : List ℕ} {row at : ℕ} {nests : Bool} {kept : List ℕ} {ends fault : ℕ} (l : Looked t row at nests kept ends fault) where
+module _ {t : List ℕ} {row at : ℕ} {nests : Bool} {kept : Notes} {ends : ℕ} {fault : Option Wrong}
+    (l : Looked t row at nests kept ends fault) where
   where-ended : ends ≡ cond (nests && is_text_row row) (run_end is_text t at) at
   where-ended = l.ended ∙ ap (λ (b : Bool). cond b (run_end is_text t at) at) l.asked
 
@@ -90,105 +88,82 @@ module _ {t : List ℕ} {row at : ℕ} {nests : Bool} {kept : List ℕ} {ends fa
       ∙ plain-read t at nests (is_text_row row)
 
   -- the fault is by whether the element is the one that is due
-  due-told : (seen : List Named) (more : List Attribute) → KeptRight t seen kept
-      → is_due (length seen) (met_at t row more at nests) ≡ (eqb row (get_or kept 32 0) && l.plain)
+  due-told : (seen : List Named) (more : List Attribute) → KeptRight seen kept
+      → is_due (length seen) (met_at t row more at nests) ≡ (eqb row kept.due && l.plain)
   due-told seen more k =
       due-own (length seen) (met_at t row more at nests) ∙ ap₂ (λ (n : ℕ) (b : Bool). eqb row n && b) (sym k.due) (sym plain-told)
 
-  pub found-wrong : (behind place : ℕ) → (fault ≡ 0 → ⊥)
-      → KeptWith t row behind at nests kept (set (set kept 33 fault) 34 place)
-  found-wrong behind place h =
-      let after = set (set kept 33 fault) 34 place in
-      let few = l.few in
-      let written : get_or after 33 0 ≡ fault =
-      get_or-set_other (set kept 33 fault) 34 33 place 0 (omega arith) ∙ get_or-set_same kept 33 fault 0 (omega arith) in (
-        length-set (set kept 33 fault) 34 place ∙ length-set kept 33 fault ∙ few,
-        λ seen fuel more space z e k.
-            ⊎_elim
-            (λ (r : KeptRight t seen kept).
-            inr
-            (goes-wrong
-            t
-            seen
-            (met_at t row more at nests)
-            kept
-            after
-            r
-            (omega arith)
-            (due-told seen more r ∙ some-fault row (get_or kept 32 0) l.plain (λ (q : _). h (l.told ∙ q)))))
-            (λ (w : KeptWrong seen kept). absurd (w.fault l.right))
-            k,
-      )
+  pub found-wrong : (behind : ℕ) {wrong : Wrong} {place : ℕ} → fault ≡ Some wrong → {after : Notes}
+      → after.fault ≡ Some (record { wrong = wrong; place = place }) → Noted t row behind at nests kept after
+  found-wrong behind {wrong} {place} is {after} written = λ seen fuel more space z e k.
+      ⊎_elim
+      (λ (r : KeptRight seen kept).
+      let told = subst (λ (f : Option Wrong). told_fault f (fault_of row kept.due l.plain)) is l.told in
+      inr
+      (goes-wrong
+      seen
+      (met_at t row more at nests)
+      kept
+      after
+      (record { wrong = wrong; place = place })
+      r
+      written
+      told.2
+      (due-told seen more r ∙ some-fault row kept.due l.plain told.1)))
+      (λ (w : KeptWrong seen kept). let none : ◌≡◌ {A = Option Refused} None (Some w.refused) = sym l.right ∙ w.fault in cc)
+      k
 
-  module _ (euro : ℕ) (h : row < 16) (o : at ≤ ends) (w : ends ≤ length t) (none : fault ≡ 0) where
-    abbrev noted : List ℕ
-    noted = keeping row at ends euro kept
+  module _ (euro : Bool) (found : Text) (is-found : found.bytes.now ≡ placed_text t at ends) (none : fault ≡ None) where
+    abbrev noted : Notes
+    noted = keeping row found euro kept
 
-    matched : (eqb row (get_or kept 32 0) && l.plain) ≡ true
-    matched = no-fault row (get_or kept 32 0) l.plain (sym l.told ∙ none)
+    matched : (eqb row kept.due && l.plain) ≡ true
+    matched =
+        no-fault row kept.due l.plain
+        (subst (λ (f : Option Wrong). told_fault f (fault_of row kept.due l.plain)) none l.told)
 
-    begun : get_or noted row 0 ≡ at
-    begun = begin-written kept row at ends euro l.few h
-
-    over : get_or noted (16 + row) 0 ≡ ends
-    over = end-written kept row at ends euro l.few h
-
-    other : (j : ℕ) → (j ≡ 35 → ⊥) → (j ≡ 32 → ⊥) → (j ≡ 16 + row → ⊥) → (j ≡ row → ⊥) → get_or noted j 0 ≡ get_or kept j 0
-    other = other-written kept row at ends euro l.few h
-
-    same_text : is_text_row row ≡ true
-        → cond nests (run is_text (drop at t)) [] ≡ placed_text t (get_or noted row 0) (get_or noted (16 + row) 0)
-    same_text x =
+    same_text : row < length kept.texts → is_text_row row ≡ true → (blank : Text)
+        → cond nests (run is_text (drop at t)) [] ≡ (get_or noted.texts row blank).bytes.now
+    same_text h x blank =
         text-read t at nests
         ∙ ap (λ (b : Bool). placed_text t at (cond (nests && b) (run_end is_text t at) at)) (sym x)
-        ∙ ap₂ (placed_text t) (sym begun) (sym (over ∙ where-ended))
+        ∙ ap (placed_text t at) (sym where-ended)
+        ∙ sym is-found
+        ∙ ap (λ (y : Text). y.bytes.now) (sym (get_or-set_same kept.texts row found blank h))
 
-    module _ (more : List Attribute) (paid : euro ≡ cond (eqb row 9) (cond (is_euro more) 1 0) (get_or kept 35 0)) where
-      euro-by : (b : Bool) → eqb row 9 ≡ b → get_or noted 35 0 ≡ cond b (cond (is_euro more) 1 0) (get_or kept 35 0)
-      euro-by b e =
-          euro-written kept row at ends euro l.few h
-          ∙ paid
-          ∙ ap (λ (x : Bool). cond x (cond (is_euro more) 1 0) (get_or kept 35 0)) e
+    module _ (more : List Attribute) (paid : euro ≡ cond (eqb row 9) (is_euro more) kept.euro) where
+      euro-by : (b : Bool) → eqb row 9 ≡ b → noted.euro ≡ cond b (is_euro more) kept.euro
+      euro-by b e = paid ∙ ap (λ (x : Bool). cond x (is_euro more) kept.euro) e
 
-      added : (seen : List Named) → row ≡ length seen → Added t seen (met_at t row more at nests) kept noted
-      added seen q =
+      added : row < length kept.texts → (seen : List Named) → row ≡ length seen → Added seen (met_at t row more at nests) kept noted
+      added h seen q =
           record {
-            fault = other 33 (omega arith) (omega arith) (omega arith) (omega arith) ∙ l.right;
-            due = due-written kept row at ends euro l.few h ∙ omega arith;
-            begins = λ j b. other j (omega arith) (omega arith) (omega arith) (omega arith);
-            ends = λ j b. other (16 + j) (omega arith) (omega arith) (omega arith) (omega arith);
-            ordered = subst (λ (n : ℕ). get_or noted n 0 ≤ get_or noted (16 + n) 0) q (omega (arith, begun, over));
-            within = subst (λ (n : ℕ). get_or noted (16 + n) 0 ≤ length t) q (omega (arith, over));
+            rows = length-set kept.texts row found;
+            fault = l.right;
+            due = add-one row ∙ ap suc q;
+            texts = λ j b blank. get_or-set_other kept.texts row j found blank (λ (e : j ≡ row). omega arith);
             holds =
                 subst
-                (λ (n : ℕ). is_text_row n ≡ true
-                → cond nests (run is_text (drop at t)) [] ≡ placed_text t (get_or noted n 0) (get_or noted (16 + n) 0))
+                (λ (n : ℕ). is_text_row n ≡ true → (blank : Text)
+                → cond nests (run is_text (drop at t)) [] ≡ (get_or noted.texts n blank).bytes.now)
                 q
-                same_text;
+                (same_text h);
             euro = λ b. euro-by false (ne_eqb row 9 (omega arith));
             now = λ b. euro-by true (eq-eqb row 9 (q ∙ b));
           }
 
-      right-on : (seen : List Named) → KeptRight t seen kept → KeptRight t (seen ++ (met_at t row more at nests ∷ [])) noted
-      right-on seen k =
+      right-on : row < 16 → (seen : List Named) → KeptRight seen kept → KeptRight (seen ++ (met_at t row more at nests ∷ [])) noted
+      right-on few seen k =
           let q : row ≡ length seen =
-          eqb-true row (get_or kept 32 0) (and_left (eqb row (get_or kept 32 0)) l.plain matched) ∙ k.due in
-          goes_on t seen (met_at t row more at nests) kept noted k (added seen q) (omega arith) (due-told seen more k ∙ matched)
+          eqb-true row kept.due (and_left (eqb row kept.due) l.plain matched) ∙ k.due in
+          goes_on seen (met_at t row more at nests) kept noted k (added (omega (arith, k.rows)) seen q) (omega arith) (due-told seen more k ∙ matched)
 
-    pub kept_on : (behind : ℕ)
+    pub kept_on : (behind : ℕ) → row < 16
         → ((fuel : ℕ) (more : List Attribute) (space z : List ℕ) → attributes_in fuel (drop behind t) ≡ attributed more space z
-        → euro ≡ cond (eqb row 9) (cond (is_euro more) 1 0) (get_or kept 35 0))
-        → (after : List ℕ) → after ≡ noted → KeptWith t row behind at nests kept after
-    kept_on behind paid after a = (
-      ap length a ∙ written-long kept row at ends euro l.few h,
-      λ seen fuel more space z e k.
-          ⊎_elim
-          (λ (r : KeptRight t seen kept).
-          inl
-          (subst
-          (λ (x : List ℕ). KeptRight t (seen ++ (met_at t row more at nests ∷ [])) x)
-          (sym a)
-          (right-on more (paid fuel more space z e) seen r)))
-          (λ (x : KeptWrong seen kept). absurd (x.fault l.right))
-          k,
-    )
+        → euro ≡ cond (eqb row 9) (is_euro more) kept.euro)
+        → Noted t row behind at nests kept noted
+    kept_on behind few paid = λ seen fuel more space z e k.
+        ⊎_elim
+        (λ (r : KeptRight seen kept). inl (right-on more (paid fuel more space z e) few seen r))
+        (λ (x : KeptWrong seen kept). let some : ◌≡◌ {A = Option Refused} None (Some x.refused) = sym l.right ∙ x.fault in cc)
+        k

@@ -1,5 +1,5 @@
-// The named elements of a message, as its reader meets them: the row of an element by its parent's row and its name, and what is kept of
-// an element until all are judged.
+// The named elements of a message, as its reader meets them: the role of an element by that of the element around it and its name, and
+// what is kept of an element until all are judged.
 #![tactic(auto)]
 
 mod currency;
@@ -8,3 +8,12 @@ mod rows;
 
 pub use keeping::note;
 pub use rows::row_of;
+
+// A tag of a text: where its < stands, where its name and it itself end, and whether it is a start tag, in which others may nest.
+#[derive(Clone, Copy)]
+pub struct Tag {
+    pub start: usize,
+    pub name_end: usize,
+    pub end: usize,
+    pub nests: bool,
+}

@@ -15,6 +15,7 @@
 
 ghost use Rattle.std.specs.Prelude.{◌≤◌, length};
 
+use pacs::refusals::Refused;
 use std::io;
 use std::io::Read;
 
@@ -34,10 +35,6 @@ fn print(rt: &impl Print, s: &[u8]) -> io::Result<()> {
     rt.write_all(s)
 }
 
-fn print_number(rt: &impl Print, n: u64) -> io::Result<()> {
-    print!(rt; " {n}")
-}
-
 // The last hexadecimal digit of a number.
 fn digit(n: u8) -> u8 {
     let d = n % 16;
@@ -49,12 +46,9 @@ fn digit(n: u8) -> u8 {
 
 fn print_ticket(rt: &impl Print, ticket: &[u8; TICKET]) -> io::Result<()> {
     let mut digits = [0u8; 2 * TICKET];
-    let mut i: usize = 0;
-    while i < TICKET {
-        let b = ticket[i];
+    for (i, &b) in ticket.iter().enumerate() {
         digits[2 * i] = digit(b / 16);
         digits[2 * i + 1] = digit(b);
-        i += 1;
     }
     print(rt, b" ")?;
     print(rt, &digits)
@@ -62,16 +56,15 @@ fn print_ticket(rt: &impl Print, ticket: &[u8; TICKET]) -> io::Result<()> {
 
 fn print_answer(rt: &impl Print, text: &[u8], time: u32) -> io::Result<()> {
     let mut ticket = [0u8; TICKET];
-    let answer = reader::read(text, time, &mut ticket);
-    let refusal = answer.refusal;
-    print(rt, b"M")?;
-    print_number(rt, refusal as u64)?;
-    if refusal == 0 {
-        print_ticket(rt, &ticket)?;
-        return print(rt, b"\n");
+    match reader::read(text, time, &mut ticket) {
+        Ok(()) => {
+            print!(rt; "M 0")?;
+            print_ticket(rt, &ticket)?;
+        }
+        Err(Refused { wrong, place }) => {
+            print!(rt; "M {} {place} {}", wrong.refusal(), wrong.number())?;
+        }
     }
-    print_number(rt, answer.place as u64)?;
-    print_number(rt, answer.what as u64)?;
     print(rt, b"\n")
 }
 

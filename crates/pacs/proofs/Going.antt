@@ -36,8 +36,11 @@ use Rattle.xml.specs.Scanning.{
   tag_of,
 }
 use Rattle.xml.proofs.Places.{first-at, byte-within}
+use Rattle.pacs.specs.declared.notes.Notes.{Notes}
+use Rattle.pacs.specs.declared.open.Open.{Open}
 use Rattle.pacs.specs.Named.{Named, named, row_of, outside}
 use Rattle.pacs.specs.Kept.{placed_text, Kept}
+use Rattle.pacs.specs.Wrongs.{role_number}
 use Rattle.pacs.specs.Walk.{
   Frame,
   Onward,
@@ -56,11 +59,6 @@ use Rattle.pacs.specs.Walk.{
   root_walked,
 }
 use Rattle.pacs.specs.Going.{StackedAt, Stacked, Walking, Going}
-
-two-behind : (t : List ℕ) (p : ℕ) → drop 2 (drop p t) ≡ drop (p + 1 + 1) t
-two-behind t p =
-    let two : p + 2 ≡ p + 1 + 1 = omega arith in
-    drop-drop 2 p t ∙ ap (λ (k : ℕ). drop k t) two
 
 -- a name between its places
 name-placed : (t : List ℕ) (q : ℕ) {behind : ℕ} → behind ≡ q + run_length is_name (drop q t)
@@ -87,18 +85,18 @@ started-deep onward fs parent s seen (opens u z) h = rw (le-ltb (length fs) deep
 started-deep onward fs parent s seen (closes u z) h = rw (le-ltb (length fs) deepest h)
 
 -- open elements and what stands behind the last of them, where the reader has not come to the root's end
-abbrev Turning : List ℕ → ℕ → ℕ → ℕ → List ℕ → List ℕ → List ℕ → List Named → Type 0 → Type 0
-Turning t start at depth starts ends rows seen R = (f : Frame) (fs : List Frame) (n : ℕ) → depth ≡ suc (length fs)
+abbrev Turning : List ℕ → ℕ → ℕ → ℕ → List Open → List Named → Type 0 → Type 0
+Turning t start at depth stack seen R = (f : Frame) (fs : List Frame) (n : ℕ) → depth ≡ suc (length fs)
     → length (drop at t) < suc n → root_walked (drop start t) ≡ walk (suc n) (f ∷ fs) seen (drop at t)
-    → StackedAt t f (length fs) starts ends rows → Stacked t fs starts ends rows → R
+    → StackedAt f (length fs) stack → Stacked fs stack → R
 
-pub turned : {R : Type 0} {t : List ℕ} {start at depth : ℕ} {starts ends rows kept : List ℕ}
-    (g : Going t start at depth starts ends rows kept) → 0 < depth → Turning t start at depth starts ends rows g.seen R → R
-turned {R} {t} {start} {at} {depth} {starts} {ends} {rows} g pos k =
+pub turned : {R : Type 0} {t : List ℕ} {start at depth : ℕ} {stack : List Open} {kept : Notes}
+    (g : Going t start at depth stack kept) → 0 < depth → Turning t start at depth stack g.seen R → R
+turned {R} {t} {start} {at} {depth} {stack} g pos k =
     go g.frames g.fuel g.deep g.enough g.walking g.stacked
   where
     go : (fs : List Frame) (n : ℕ) → depth ≡ length fs → length (drop at t) < n → Walking t start n fs g.seen at
-        → Stacked t fs starts ends rows → R
+        → Stacked fs stack → R
     go [] n d e w s = absurd (omega arith)
     go (f ∷ fs) zero d e w s = absurd (omega arith)
     go (f ∷ fs) (suc n) d e w s = k f fs n d e w s.top s.rest
@@ -154,60 +152,40 @@ after-walking : (t : List ℕ) (start n : ℕ) (fs : List Frame) (s : List ℕ) 
 after-walking t start n [] s e seen at h = (e, h)
 after-walking t start n (f ∷ fs) s e seen at h = h
 
-after-stacked : (t : List ℕ) (fs : List Frame) (s : List ℕ) (e : Element) (starts ends rows : List ℕ) → Stacked t fs starts ends rows
-    → Stacked t (after fs s e) starts ends rows
-after-stacked t [] s e starts ends rows h = tt
-after-stacked t (f ∷ fs) s e starts ends rows h =
-    record {
-      top =
-          record {
-            ordered = h.top.ordered;
-            within = h.top.within;
-            name = h.top.name;
-            row = h.top.row;
-          };
-      rest = h.rest;
-    }
+after-stacked : (fs : List Frame) (s : List ℕ) (e : Element) (stack : List Open) → Stacked fs stack → Stacked (after fs s e) stack
+after-stacked [] s e stack h = tt
+after-stacked (f ∷ fs) s e stack h = record { top = record { name = h.top.name; row = h.top.row }; rest = h.rest }
 
 -- an element more on the stack leaves the others
-set-stacked : (t : List ℕ) (fs : List Frame) (starts ends rows : List ℕ) (i a b c : ℕ) → length fs ≤ i
-    → Stacked t fs starts ends rows → Stacked t fs (set starts i a) (set ends i b) (set rows i c)
-set-stacked t [] starts ends rows i a b c h s = tt
-set-stacked t (f ∷ fs) starts ends rows i a b c h s =
+set-stacked : (fs : List Frame) (stack : List Open) (i : ℕ) (o : Open) → length fs ≤ i → Stacked fs stack → Stacked fs (set stack i o)
+set-stacked [] stack i o h s = tt
+set-stacked (f ∷ fs) stack i o h s =
     let other : length fs ≡ i → ⊥ = λ e. omega arith in
-    let x = get_or-set_other starts i (length fs) a 0 other in
-    let y = get_or-set_other ends i (length fs) b 0 other in
-    let z = get_or-set_other rows i (length fs) c 0 other in
     record {
       top =
           record {
-            ordered = rw (x, y) s.top.ordered;
-            within = rw y s.top.within;
-            name = rw (x, y) s.top.name;
-            row = rw z s.top.row;
+            name =
+                λ none. s.top.name none ∙ ap (λ (x : Open). x.name.now) (sym (get_or-set_other stack i (length fs) o none other));
+            row = λ none. s.top.row none ∙ ap (λ (x : Open). role_number x.role) (sym (get_or-set_other stack i (length fs) o none other));
           };
-      rest = set-stacked t fs starts ends rows i a b c (omega arith) s.rest;
+      rest = set-stacked fs stack i o (omega arith) s.rest;
     }
 
-pushed : (t : List ℕ) (f : Frame) (fs : List Frame) (starts ends rows : List ℕ) (i a b c : ℕ) → length fs ≡ i → i < length starts
-    → i < length ends → i < length rows → a ≤ b → b ≤ length t → f.tag.name ≡ placed_text t a b → f.row ≡ c
-    → StackedAt t f (length fs) (set starts i a) (set ends i b) (set rows i c)
-pushed t f fs starts ends rows i a b c e x y z ordered within name row =
-    let p : get_or (set starts i a) (length fs) 0 ≡ a = ap (λ (k : ℕ). get_or (set starts i a) k 0) e ∙ get_or-set_same starts i a 0 x in
-    let q : get_or (set ends i b) (length fs) 0 ≡ b = ap (λ (k : ℕ). get_or (set ends i b) k 0) e ∙ get_or-set_same ends i b 0 y in
-    let r : get_or (set rows i c) (length fs) 0 ≡ c = ap (λ (k : ℕ). get_or (set rows i c) k 0) e ∙ get_or-set_same rows i c 0 z in
+pushed : (f : Frame) (fs : List Frame) (stack : List Open) (i : ℕ) (o : Open) → length fs ≡ i → i < length stack
+    → f.tag.name ≡ o.name.now → f.row ≡ role_number o.role → StackedAt f (length fs) (set stack i o)
+pushed f fs stack i o e x name row =
+    let there = λ (none : Open). ap (λ (k : ℕ). get_or (set stack i o) k none) e ∙ get_or-set_same stack i o none x in
     record {
-      ordered = rw (p, q) ordered;
-      within = rw q within;
-      name = rw (p, q) name;
-      row = rw r row;
+      name = λ none. name ∙ ap (λ (p : Open). p.name.now) (sym (there none));
+      row = λ none. row ∙ ap (λ (p : Open). role_number p.role) (sym (there none));
     }
 
 module _
     {t : List ℕ}
     {start at depth : ℕ}
-    {starts ends rows kept : List ℕ}
-    (g : Going t start at depth starts ends rows kept)
+    {stack : List Open}
+    {kept : Notes}
+    (g : Going t start at depth stack kept)
     (pos : 0 < depth)
     -- where the text from here on ends
     {p : ℕ}
@@ -228,12 +206,12 @@ module _
       w ∙ stepped-at f fs n ∙ rw (first-at t p, ne_eqb (get_or t p 0) 0x3c h)
 
   module _ (less : get_or t p 0 ≡ 0x3c) where
-    module _ (slash : get_or t (p + 1) 0 ≡ 0x2f) (top : ℕ) (is-top : top ≡ depth - 1) where
+    module _ (slash : get_or t (p + 1) 0 ≡ 0x2f) (top : ℕ) (is-top : top ≡ depth - 1) (none : Open) where
       abbrev name : List ℕ
-      name = placed_text t (get_or starts top 0) (get_or ends top 0)
+      name = (get_or stack top none).name.now
 
       ending_at : (f : Frame) (fs : List Frame) (n : ℕ)
-          → walk (suc n) (f ∷ fs) g.seen (drop at t) ≡ ending (walk n) f fs before g.seen (drop (p + 1 + 1) t)
+          → walk (suc n) (f ∷ fs) g.seen (drop at t) ≡ ending (walk n) f fs before g.seen (drop (p + 2) t)
       ending_at f fs n =
           stepped-at f fs n
           ∙ rw (
@@ -242,37 +220,37 @@ module _
             drop-drop 1 p t,
             first-at t (p + 1),
             eq-eqb (get_or t (p + 1) 0) 0x2f slash,
-            two-behind t p,
+            drop-drop 2 p t,
           )
 
-      top-name : (f : Frame) (fs : List Frame) → depth ≡ suc (length fs) → StackedAt t f (length fs) starts ends rows
+      top-name : (f : Frame) (fs : List Frame) → depth ≡ suc (length fs) → StackedAt f (length fs) stack
           → f.tag.name ≡ name
       top-name f fs d s =
           let i : length fs ≡ top = omega arith in
-          s.name ∙ ap (λ (k : ℕ). placed_text t (get_or starts k 0) (get_or ends k 0)) i
+          s.name none ∙ ap (λ (k : ℕ). (get_or stack k none).name.now) i
 
-      pub no_end : is_end name (drop (p + 1 + 1) t) ≡ false → root_walked (drop start t) ≡ astray
+      pub no_end : is_end name (drop (p + 2) t) ≡ false → root_walked (drop start t) ≡ astray
       no_end h =
           turned g pos λ f fs n d e w s rest.
-          let other : is_end f.tag.name (drop (p + 1 + 1) t) ≡ false =
-          ap (λ (x : List ℕ). is_end x (drop (p + 1 + 1) t)) (top-name f fs d s) ∙ h
+          let other : is_end f.tag.name (drop (p + 2) t) ≡ false =
+          ap (λ (x : List ℕ). is_end x (drop (p + 2) t)) (top-name f fs d s) ∙ h
           in
           w ∙ ending_at f fs n ∙ rw other
 
       -- behind the end tag
-      pub going-ends : (q : ℕ) → is_end name (drop (p + 1 + 1) t) ≡ true
-          → drop 1 (past is_space (from_space name (drop (p + 1 + 1) t))) ≡ drop q t → p < q
-          → Going t start q top starts ends rows kept
+      pub going-ends : (q : ℕ) → is_end name (drop (p + 2) t) ≡ true
+          → drop 1 (past is_space (from_space name (drop (p + 2) t))) ≡ drop q t → p < q
+          → Going t start q top stack kept
       going-ends q h behind later =
           turned g pos λ f fs n d e w s rest.
           let same_name = top-name f fs d s in
-          let right : is_end f.tag.name (drop (p + 1 + 1) t) ≡ true =
-          ap (λ (x : List ℕ). is_end x (drop (p + 1 + 1) t)) same_name ∙ h
+          let right : is_end f.tag.name (drop (p + 2) t) ≡ true =
+          ap (λ (x : List ℕ). is_end x (drop (p + 2) t)) same_name ∙ h
           in
-          let rest_of = from_space f.tag.name (drop (p + 1 + 1) t) in
+          let rest_of = from_space f.tag.name (drop (p + 2) t) in
           let element = nesting f.tag (content_of f.pieces before) (run is_space rest_of) in
           let on : drop 1 (past is_space rest_of) ≡ drop q t =
-          ap (λ (x : List ℕ). drop 1 (past is_space (from_space x (drop (p + 1 + 1) t)))) same_name ∙ behind
+          ap (λ (x : List ℕ). drop 1 (past is_space (from_space x (drop (p + 2) t)))) same_name ∙ behind
           in
           let within = byte-within t p 0x3c less (omega arith) in
           let here : root_walked (drop start t) ≡ ended (walk n) fs f.before element g.seen (drop q t) =
@@ -286,7 +264,7 @@ module _
             few = let few = g.few in omega arith;
             enough = omega (arith, length-drop at t, length-drop q t);
             walking = after-walking t start n fs f.before element g.seen q here;
-            stacked = after-stacked t fs f.before element starts ends rows rest;
+            stacked = after-stacked fs f.before element stack rest;
             keeps = g.keeps;
           }
 
@@ -332,22 +310,23 @@ module _
             w ∙ tag_at f fs n ∙ started-deep (walk n) (f ∷ fs) f.row before g.seen read (omega arith)
 
         -- a tag's row, by the row of the element around it
-        abbrev row_in : ℕ
-        row_in = row_of (get_or rows (depth - 1) 0) (placed_text t q behind)
+        abbrev row_in : Open → ℕ
+        row_in none = row_of (role_number (get_or stack (depth - 1) none).role) (placed_text t q behind)
 
-        row_at : (f : Frame) (fs : List Frame) (u : Tag) → depth ≡ suc (length fs) → StackedAt t f (length fs) starts ends rows
-            → u.name ≡ run is_name (drop q t) → row_of f.row u.name ≡ row_in
-        row_at f fs u d s e =
+        row_at : (none : Open) (f : Frame) (fs : List Frame) (u : Tag) → depth ≡ suc (length fs) → StackedAt f (length fs) stack
+            → u.name ≡ run is_name (drop q t) → row_of f.row u.name ≡ row_in none
+        row_at none f fs u d s e =
             let i : length fs ≡ depth - 1 = omega arith in
-            ap₂ row_of (s.row ∙ ap (λ (k : ℕ). get_or rows k 0) i) (e ∙ name-placed t q is-behind)
+            ap₂ row_of (s.row none ∙ ap (λ (k : ℕ). role_number (get_or stack k none).role) i) (e ∙ name-placed t q is-behind)
 
-        pub going-closes : (r : ℕ) (u : Tag) (kept' : List ℕ) {row : ℕ} → row ≡ row_in → read ≡ closes u (drop r t) → depth < deepest → p < r
-            → ((seen : List Named) → Kept t seen kept → Kept t (seen ++ named row u [] true) kept')
-            → Going t start r depth starts ends rows kept'
-        going-closes r u kept' {row} is_row h few later keeps =
+        pub going-closes : (r : ℕ) (u : Tag) (kept' : Notes) (none : Open) {row : ℕ} → row ≡ row_in none → read ≡ closes u (drop r t)
+            → depth < deepest → p < r
+            → ((seen : List Named) → Kept seen kept → Kept (seen ++ named row u [] true) kept')
+            → Going t start r depth stack kept'
+        going-closes r u kept' none {row} is_row h few later keeps =
             turned g pos λ f fs n d e w s rest.
             let of = closes-of (run is_name (drop q t)) (attributes_of (drop behind t)) u (drop r t) h in
-            let its-row : row_of f.row u.name ≡ row = row_at f fs u d s of.named ∙ sym is_row in
+            let its-row : row_of f.row u.name ≡ row = row_at none f fs u d s of.named ∙ sym is_row in
             let within = byte-within t p 0x3c less (omega arith) in
             let shallow : suc (length fs) < deepest = omega arith in
             let onto : List Named = g.seen ++ named row u [] true in
@@ -369,19 +348,19 @@ module _
               few = omega arith;
               enough = omega (arith, length-drop at t, length-drop r t);
               walking = here;
-              stacked = after-stacked t (f ∷ fs) before (self_closing u) starts ends rows (record { top = s; rest = rest });
+              stacked = after-stacked (f ∷ fs) before (self_closing u) stack (record { top = s; rest = rest });
               keeps = keeps g.seen g.keeps;
             }
 
-        pub going-opens : (r : ℕ) (u : Tag) (kept' : List ℕ) {row : ℕ} → row ≡ row_in → read ≡ opens u (drop r t) → depth < deepest → p < r
-            → behind ≤ length t → depth < length starts → depth < length ends → depth < length rows
-            → ((seen : List Named) → Kept t seen kept
-            → Kept t (seen ++ named row u (run is_text (drop r t)) (end_follows (drop r t))) kept')
-            → Going t start r (depth + 1) (set starts depth q) (set ends depth behind) (set rows depth row) kept'
-        going-opens r u kept' {row} is_row h few later in-text x y z keeps =
+        pub going-opens : (r : ℕ) (u : Tag) (kept' : Notes) (none o : Open) {row : ℕ} → row ≡ row_in none → row ≡ role_number o.role
+            → placed_text t q behind ≡ o.name.now → read ≡ opens u (drop r t) → depth < deepest → p < r → depth < length stack
+            → ((seen : List Named) → Kept seen kept
+            → Kept (seen ++ named row u (run is_text (drop r t)) (end_follows (drop r t))) kept')
+            → Going t start r (depth + 1) (set stack depth o) kept'
+        going-opens r u kept' none o {row} is_row its-role its_name h few later room keeps =
             turned g pos λ f fs n d e w s rest.
             let of = opens_of (run is_name (drop q t)) (attributes_of (drop behind t)) u (drop r t) h in
-            let its-row : row_of f.row u.name ≡ row = row_at f fs u d s of.named ∙ sym is_row in
+            let its-row : row_of f.row u.name ≡ row = row_at none f fs u d s of.named ∙ sym is_row in
             let within = byte-within t p 0x3c less (omega arith) in
             let shallow : suc (length fs) < deepest = omega arith in
             let onto : List Named = g.seen ++ named row u (run is_text (drop r t)) (end_follows (drop r t)) in
@@ -412,38 +391,9 @@ module _
               stacked =
                   record {
                     top =
-                        pushed
-                        t
-                        frame
-                        (f ∷ fs)
-                        starts
-                        ends
-                        rows
-                        depth
-                        q
-                        behind
-                        row
-                        (sym d)
-                        x
-                        y
-                        z
-                        (omega arith)
-                        in-text
-                        (of.named ∙ name-placed t q is-behind)
-                        refl;
-                    rest =
-                        set-stacked
-                        t
-                        (f ∷ fs)
-                        starts
-                        ends
-                        rows
-                        depth
-                        q
-                        behind
-                        row
-                        (omega arith)
-                        (record { top = s; rest = rest });
+                        pushed frame (f ∷ fs) stack depth o (sym d) room (of.named ∙ name-placed t q is-behind ∙ its_name)
+                        its-role;
+                    rest = set-stacked (f ∷ fs) stack depth o (omega arith) (record { top = s; rest = rest });
                   };
               keeps = keeps g.seen g.keeps;
             }
@@ -490,12 +440,11 @@ module _ (t : List ℕ) (start : ℕ) where
           (λ (x : List ℕ). arrived (self_closing u) ([] ++ named (row_of outside x) u [] true) (drop r t))
           (of.named ∙ name-placed t root_name is-behind)
 
-      pub root-opens : (r : ℕ) (u : Tag) (starts ends rows kept : List ℕ) {row : ℕ} → row ≡ root_row → root_read ≡ opens u (drop r t)
-          → start < r
-          → root_behind ≤ length t → 0 < length starts → 0 < length ends → 0 < length rows
-          → Kept t ([] ++ named row u (run is_text (drop r t)) (end_follows (drop r t))) kept
-          → Going t start r 1 (set starts 0 root_name) (set ends 0 root_behind) (set rows 0 row) kept
-      root-opens r u starts ends rows kept {row} is_row h later in-text x y z keeps =
+      pub root-opens : (r : ℕ) (u : Tag) (kept : Notes) (o : Open) (os : List Open) {row : ℕ} → row ≡ root_row → row ≡ role_number o.role
+          → placed_text t root_name root_behind ≡ o.name.now → root_read ≡ opens u (drop r t) → start < r
+          → Kept ([] ++ named row u (run is_text (drop r t)) (end_follows (drop r t))) kept
+          → Going t start r 1 (o ∷ os) kept
+      root-opens r u kept o os {row} is_row its-role its_name h later keeps =
           let of = opens_of (run is_name (drop root_name t)) (attributes_of (drop root_behind t)) u (drop r t) h in
           let within = byte-within t start 0x3c less (omega arith) in
           let frame : Frame = record { before = []; tag = u; row = row; pieces = [] } in
@@ -520,39 +469,20 @@ module _ (t : List ℕ) (start : ℕ) where
                 (ap (row_of outside) named-so ∙ sym is_row);
             stacked =
                 record {
-                  top =
-                      pushed
-                      t
-                      frame
-                      []
-                      starts
-                      ends
-                      rows
-                      0
-                      root_name
-                      root_behind
-                      row
-                      refl
-                      x
-                      y
-                      z
-                      (omega arith)
-                      in-text
-                      named-so
-                      refl;
+                  top = record { name = λ none. named-so ∙ its_name; row = λ none. its-role };
                   rest = tt;
                 };
             keeps = keeps;
           }
 
 -- the root's end
-pub record Arriving (t : List ℕ) (start at : ℕ) (kept : List ℕ) : Type 0 where
+pub record Arriving (t : List ℕ) (start at : ℕ) (kept : Notes) : Type 0 where
   pub root : Element
   pub seen : List Named
   pub arrives : root_walked (drop start t) ≡ arrived root seen (drop at t)
-  pub keeps : Kept t seen kept
+  pub keeps : Kept seen kept
 
-pub going-arrives : {t : List ℕ} {start at depth : ℕ} {starts ends rows kept : List ℕ} → Going t start at depth starts ends rows kept
+pub going-arrives : {t : List ℕ} {start at depth : ℕ} {stack : List Open} {kept : Notes} → Going t start at depth stack kept
     → depth ≡ 0 → Arriving t start at kept
 going-arrives {t} {start} {at} {depth} {kept = kept} g h = go g.frames g.deep g.walking
   where

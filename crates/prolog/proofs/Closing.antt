@@ -10,6 +10,7 @@ use native.Mathlib.Omega.{arith}
 use borrow.Author.Tests.{eq-eqb, ne_eqb}
 use lib.ListN.{length, get_or, drop}
 use lib.Seq.{drop-drop}
+use Rattle.std.specs.Prelude.{Ok, Err}
 use Rattle.xml.specs.Bytes.{is_space, is_first, run, past}
 use Rattle.xml.specs.Scanning.{first_byte, begins, attributed, attributes_of}
 use Rattle.xml.proofs.Runs.{question-no-first}
@@ -17,7 +18,6 @@ use Rattle.xml.proofs.Places.{first-at, byte-within, one-behind, tested_at}
 use Rattle.xml.proofs.FirstAttribute.{none-begins, none-behind}
 use Rattle.scan.proofs.Runs.{run_end, past_to, end-within}
 use Rattle.prolog.specs.Ends.{Closed}
-use Rattle.prolog.specs.declared.PrologEnd.TheVariants.{At, Broken}
 
 module _ (s : List ℕ) (at : ℕ) {end : ℕ} (end_is : end ≡ run_end is_space s at) {b : ℕ} (b-is : b ≡ get_or s end 0) where
   here : past is_space (drop at s) ≡ drop end s
@@ -30,12 +30,12 @@ module _ (s : List ℕ) (at : ℕ) {end : ℕ} (end_is : end ≡ run_end is_spac
   within h = omega (arith, end-within is_space s at h)
 
   -- no ?
-  pub no-question : (b ≡ 63 → ⊥) → Closed s at (Broken end)
+  pub no-question : (b ≡ 63 → ⊥) → Closed s at (Err end)
   no-question other = (λ space z read. simp (tested_at s end (there read) b-is 63 ∙ ne_eqb b 63 other), within)
 
   module _ (b-question : b ≡ 63) {d : ℕ} (d-is : d ≡ get_or s (end + 1) 0) where
     -- ? without >
-    pub no-greater : (d ≡ 62 → ⊥) → Closed s at (Broken end)
+    pub no-greater : (d ≡ 62 → ⊥) → Closed s at (Err end)
     no-greater other = (
       λ space z read. simp (tested_at s (end + 1) (one-behind s end (there read)) d-is 62 ∙ ne_eqb d 62 other, and-false),
       within,
@@ -48,7 +48,7 @@ module _ (s : List ℕ) (at : ℕ) {end : ℕ} (end_is : end ≡ run_end is_spac
         ∙ and-false (is_space (first_byte (drop at s)))
 
     -- ?>
-    pub closes : d ≡ 62 → Closed s at (At (end + 2))
+    pub closes : d ≡ 62 → Closed s at (Ok (end + 2))
     closes d-greater = (
       run is_space (drop at s),
       drop end s,

@@ -22,8 +22,7 @@ use Rattle.xml.proofs.FirstAttribute.{prepended, to-misread, to-all}
 use Rattle.scan.specs.AttributeParts.{FirstFails}
 use Rattle.scan.proofs.Runs.{run_end, end-within}
 use Rattle.prolog.specs.Ends.{Passed, past, stays, is_close, Closed, PrologRead}
-use Rattle.prolog.specs.declared.PrologEnd.{PrologEnd}
-use Rattle.prolog.specs.declared.PrologEnd.TheVariants.{At, Broken}
+use Rattle.std.specs.Prelude.{Result, Ok, Err}
 
 -- attributes of a declaration, and ?>
 ends : (more : List Attribute) (space z : List ℕ) → declares more ≡ true → is_close z ≡ true
@@ -60,7 +59,7 @@ behind-version v a [] h k = simp (h, k, and-false)
 behind-version v a (b ∷ more) h k = behind-standalone v a b more h
 
 -- no declaration
-pub not-begun : (t : List ℕ) {b : Bool} → b ≡ same (take 5 t) (text "<?xml") → not b ≡ true → PrologRead t (At 0)
+pub not-begun : (t : List ℕ) {b : Bool} → b ≡ same (take 5 t) (text "<?xml") → not b ≡ true → PrologRead t (Ok 0)
 not-begun t {b} b-is e = (undeclared, rw (sym b-is ∙ not-true b e), omega arith)
 
 module _ (t : List ℕ) {b : Bool} (b-is : b ≡ same (take 5 t) (text "<?xml")) (begun : not b ≡ false) where
@@ -72,7 +71,7 @@ module _ (t : List ℕ) {b : Bool} (b-is : b ≡ same (take 5 t) (text "<?xml"))
   five = omega (arith, length-take 5 t, ap length (same_true (take 5 t) (text "<?xml") (sym b-is ∙ not-false b begun)))
 
   -- the first attribute isn't the version
-  none_first : {p : ℕ} → FirstFails is_version t 5 → p ≤ length t → PrologRead t (Broken p)
+  none_first : {p : ℕ} → FirstFails is_version t 5 → p ≤ length t → PrologRead t (Err p)
   none_first fails within = (by-attributes ∙ go (attributes_of (drop 5 t)) refl, within)
     where
       go : (x : Attributed) → attributes_of (drop 5 t) ≡ x → declared_by x ≡ unread
@@ -96,8 +95,8 @@ module _ (t : List ℕ) {b : Bool} (b-is : b ≡ same (take 5 t) (text "<?xml"))
     broken (attributed (a ∷ more) space z) e f =
         ap declared_by (to-all front (a ∷ more) space z) ∙ not-declared (front ++ (a ∷ more)) space z (last a more space z e)
 
-    closes-read : (r : PrologEnd) → Closed t at r → PrologRead t r
-    closes-read (At p) c =
+    closes-read : (r : Result ℕ ℕ) → Closed t at r → PrologRead t r
+    closes-read (Ok p) c =
         let whole : prepended front (attributed [] c.0 c.1) ≡ attributed front c.0 c.1 =
         to-all front [] c.0 c.1 ∙ ap (λ (f : List Attribute). attributed f c.0 c.1) (append-nil front) in (
           declared front c.0,
@@ -107,18 +106,18 @@ module _ (t : List ℕ) {b : Bool} (b-is : b ≡ same (take 5 t) (text "<?xml"))
               ∙ ap (behind_prolog (declared front c.0)) c.4,
           c.5,
         )
-    closes-read (Broken p) c = (by-attributes ∙ ap declared_by all ∙ broken (attributes_of (drop at t)) refl c.0, c.1 within)
+    closes-read (Err p) c = (by-attributes ∙ ap declared_by all ∙ broken (attributes_of (drop at t)) refl c.0, c.1 within)
 
   -- the version isn't passed
   none_passed : {v : ℕ} → Passed is_version t 5 v → v ≡ 5 → FirstFails is_version t 5
   none_passed (past a read is on within) e = absurd (omega arith)
   none_passed (stays f) e = f
 
-  pub no-version : {v p : ℕ} → Passed is_version t 5 v → v ≡ 5 → p ≡ run_end is_space t 5 → PrologRead t (Broken p)
+  pub no-version : {v p : ℕ} → Passed is_version t 5 v → v ≡ 5 → p ≡ run_end is_space t 5 → PrologRead t (Err p)
   no-version passed e p-is = none_first (none_passed passed e) (omega (arith, end-within is_space t 5 five))
 
   -- the version, and the places behind the other two
-  pub declared-read : {v e s : ℕ} (r : PrologEnd) → Passed is_version t 5 v → (v ≡ 5 → ⊥) → Passed is_encoding_of t v e
+  pub declared-read : {v e s : ℕ} (r : Result ℕ ℕ) → Passed is_version t 5 v → (v ≡ 5 → ⊥) → Passed is_encoding_of t v e
       → Passed is_standalone t e s → Closed t s r → PrologRead t r
   declared-read r (stays f) other pe ps c = absurd (other refl)
   declared-read r (past v v-read v-is v-on v-in) other (past e e-read e-is e-on e-in) (past s s_read s-is s-on s-in) c =

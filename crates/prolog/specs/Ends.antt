@@ -6,15 +6,13 @@
 --     Closed           white space and ?>
 --     PrologRead       where the prolog of a text ends: the text is read from there on; or a text that isn't read
 -- Assumes nothing.
-use Rattle.std.specs.Prelude.{ℕ, ◌≤◌, ◌<◌, ◌≡◌, Bool, true, false, ◌&&◌, ◌||◌, List, [], eqb, length, drop}
+use Rattle.std.specs.Prelude.{ℕ, ◌≤◌, ◌<◌, ◌≡◌, Bool, true, false, ◌&&◌, ◌||◌, List, [], eqb, length, drop, Result, Ok, Err}
 use Rattle.fields.specs.Text.{text, same}
 use Rattle.xml.specs.Tree.{Attribute, Prolog}
 use Rattle.xml.specs.WellFormed.{is_encoding}
 use Rattle.xml.specs.Scanning.{first_byte, attributed, with_attribute, attributes_of}
 use Rattle.scan.specs.AttributeParts.{FirstFails}
 use Rattle.pacs.specs.Walk.{unread, behind_prolog, prolog_read}
-use Rattle.prolog.specs.declared.PrologEnd.{PrologEnd}
-use Rattle.prolog.specs.declared.PrologEnd.TheVariants.{At, Broken}
 use Rattle.prolog.specs.declared.Due.{Due}
 use Rattle.prolog.specs.declared.Due.TheVariants.{Version, Encoding, Standalone}
 
@@ -35,17 +33,17 @@ pub data Passed (test : Attribute → Bool) (t : List ℕ) (at : ℕ) : ℕ → 
 abbrev pub is_close : List ℕ → Bool
 is_close z = eqb (first_byte z) 0x3f && eqb (first_byte (drop 1 z)) 0x3e
 
-abbrev pub Closed : List ℕ → ℕ → PrologEnd → Type 0
-Closed t at (At p) =
+abbrev pub Closed : List ℕ → ℕ → Result ℕ ℕ → Type 0
+Closed t at (Ok p) =
     (space : List ℕ)
     × (z : List ℕ)
     × (attributes_of (drop at t) ≡ attributed [] space z)
     × (is_close z ≡ true)
     × (drop 2 z ≡ drop p t)
     × (p ≤ length t)
-Closed t at (Broken p) =
+Closed t at (Err p) =
     ((space z : List ℕ) → attributes_of (drop at t) ≡ attributed [] space z → is_close z ≡ false) × (at ≤ length t → p ≤ length t)
 
-abbrev pub PrologRead : List ℕ → PrologEnd → Type 0
-PrologRead t (At p) = (q : Prolog) × (prolog_read t ≡ behind_prolog q (drop p t)) × (p ≤ length t)
-PrologRead t (Broken p) = (prolog_read t ≡ unread) × (p ≤ length t)
+abbrev pub PrologRead : List ℕ → Result ℕ ℕ → Type 0
+PrologRead t (Ok p) = (q : Prolog) × (prolog_read t ≡ behind_prolog q (drop p t)) × (p ≤ length t)
+PrologRead t (Err p) = (prolog_read t ≡ unread) × (p ≤ length t)

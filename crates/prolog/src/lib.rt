@@ -10,46 +10,39 @@ ghost use Rattle.prolog.specs.Ends.{is_due, due_test, Passed, Closed, PrologRead
 
 use scan::{AttributePlaces, Space};
 
-// Where the prolog ends: 0 where a text has none; or where its declaration isn't one.
-#[derive(Clone, Copy)]
-pub enum PrologEnd {
-    At(usize),
-    Broken(usize),
-}
-
 // The attributes of a declaration.
-#[derive(Clone, Copy)]
+#[derive(Clone, Copy, PartialEq, Eq)]
 enum Due {
     Version,
     Encoding,
     Standalone,
 }
 
+#[tactic(auto, unfolding(xml::specs::Bytes::is_letter))]
 fn is_letter(b: u8) -> bool
     ensures { result ≡ is_letter b }
 {
-    ((b'A' <= b) & (b <= b'Z')) | ((b'a' <= b) & (b <= b'z'))
+    b.is_ascii_alphabetic()
 }
 
 // A byte of an encoding's name behind its first.
+#[tactic(auto, unfolding(xml::specs::Bytes::is_encoding_byte))]
 fn is_encoding_byte(b: u8) -> bool
     ensures { result ≡ is_encoding_byte b }
 {
-    is_letter(b) | ((b'0' <= b) & (b <= b'9')) | (b == b'_') | (b == b'-') | (b == b'.')
+    is_letter(b) | b.is_ascii_digit() | (b == b'_') | (b == b'-') | (b == b'.')
 }
 
 // Whether a text is the name of an encoding.
 fn is_encoding(s: &[u8]) -> bool
     ensures { result ≡ is_encoding s.now }
 {
-    if s.len() == 0 {
+    if s.is_empty() {
         return false;
     }
     let mut right = is_letter(s[0]);
-    let mut i = 1;
-    while i < s.len() {
-        right = right & is_encoding_byte(s[i]);
-        i += 1;
+    for &b in &s[1..] {
+        right &= is_encoding_byte(b);
     }
     right
 }
@@ -106,18 +99,18 @@ fn due_end(text: &[u8], at: usize, due: Due) -> usize
     at
 }
 
-// The end of a declaration whose attributes end at a place: white space and ?>.
-fn closed_at(text: &[u8], at: usize) -> PrologEnd
+// The end of a declaration whose attributes end at a place: white space and ?>; or the place where they are due.
+fn closed_at(text: &[u8], at: usize) -> Result<usize, usize>
     ensures { Closed text.now at result }
 {
     let end = scan::run_end(text, at, &Space);
     if scan::byte(text, end) != b'?' {
-        return PrologEnd::Broken(end);
+        return Err(end);
     }
     if scan::byte(text, end + 1) != b'>' {
-        return PrologEnd::Broken(end);
+        return Err(end);
     }
-    PrologEnd::At(end + 2)
+    Ok(end + 2)
 }
 
 // Whether a text begins as a declaration does.
@@ -130,16 +123,16 @@ fn is_declared(text: &[u8]) -> bool
     fields::same_bytes(&text[0..5], b"<?xml")
 }
 
-// Where a text's prolog ends. A place that is broken is that of the attribute that isn't right, or that where ?> is due.
-pub fn prolog_end(text: &[u8]) -> PrologEnd
+// Where a text's prolog ends: 0 where it has none; or the place of the attribute that isn't right, or that where ?> is due.
+pub fn prolog_end(text: &[u8]) -> Result<usize, usize>
     ensures { PrologRead text.now result }
 {
     if !is_declared(text) {
-        return PrologEnd::At(0);
+        return Ok(0);
     }
     let version = due_end(text, 5, Due::Version);
     if version == 5 {
-        return PrologEnd::Broken(scan::run_end(text, 5, &Space));
+        return Err(scan::run_end(text, 5, &Space));
     }
     let encoding = due_end(text, version, Due::Encoding);
     closed_at(text, due_end(text, encoding, Due::Standalone))

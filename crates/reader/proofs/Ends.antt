@@ -1,11 +1,10 @@
--- An end tag of a name that stands in the same text.
---     placed-length    the length of a part of a text
+-- An end tag of a name.
 --     end_short        what is left of the text is shorter than the name
 --     end-differs      other bytes stand there
 --     end-open         it isn't closed
 --     end-closed       it is, and what stands behind it
 -- Assumes nothing.
-use Prim.Native.Nat.{ℕ, ◌+◌, ◌-◌, ◌≤◌, ◌<◌}
+use Prim.Native.Nat.{ℕ, ◌+◌, ◌-◌, ◌<◌}
 use mathlib.Core.Path.{◌≡◌, ap, sym, ◌∙◌}
 use mathlib.Core.Bool.{Bool, true, false, not, and-false}
 use mathlib.Core.List.{List}
@@ -17,30 +16,23 @@ use Rattle.fields.specs.Text.{same}
 use Rattle.fields.proofs.Same.{same-lengths}
 use Rattle.xml.specs.Bytes.{is_space, run_length, past}
 use Rattle.xml.proofs.Places.{first-at, byte-within}
-use Rattle.pacs.specs.Kept.{placed_text}
 use Rattle.pacs.specs.Walk.{from_space, is_end}
 
-module _ (t : List ℕ) (at from to : ℕ) (ordered : from ≤ to) (within : to ≤ length t) where
-  abbrev name : List ℕ
-  name = placed_text t from to
-
-  placed-length : length name ≡ to - from
-  placed-length = simp (length-take, length-drop) (omega arith)
-
-  pub end_short : length t - at < to - from → is_end name (drop at t) ≡ false
+module _ (t : List ℕ) (at : ℕ) (name : List ℕ) where
+  pub end_short : length t - at < length name → is_end name (drop at t) ≡ false
   end_short h =
       let short : length (take (length name) (drop at t)) ≡ length name → ⊥ =
-      λ e. let l = simp (length-take, length-drop) at e in let n = placed-length in omega arith
+      λ e. let l = simp (length-take, length-drop) at e in omega arith
       in
       rw (same-lengths (take (length name) (drop at t)) name short)
 
   -- the part of the text that the code compares, and the test that it makes
   abbrev there : List ℕ
-  there = take (at + (to - from) - at) (drop at t)
+  there = take (at + length name - at) (drop at t)
 
   same-there : same (take (length name) (drop at t)) name ≡ same there name
   same-there =
-      let n : length name ≡ at + (to - from) - at = let l = placed-length in omega arith in
+      let n : length name ≡ at + length name - at = omega arith in
       ap (λ (k : ℕ). same (take k (drop at t)) name) n
 
   pub end-differs : {b : Bool} → b ≡ same there name → not b ≡ true → is_end name (drop at t) ≡ false
@@ -48,11 +40,11 @@ module _ (t : List ℕ) (at from to : ℕ) (ordered : from ≤ to) (within : to 
 
   -- where the end tag's > is due
   abbrev closing : ℕ
-  closing = at + (to - from) + run_length is_space (drop (at + (to - from)) t)
+  closing = at + length name + run_length is_space (drop (at + length name) t)
 
   rest_at : past is_space (from_space name (drop at t)) ≡ drop closing t
   rest_at =
-      rw (placed-length, drop-drop (to - from) at t, drop-drop (run_length is_space (drop (at + (to - from)) t)) (at + (to - from)) t)
+      rw (drop-drop (length name) at t, drop-drop (run_length is_space (drop (at + length name) t)) (at + length name) t)
 
   module _ {p b : ℕ} (is-closing : p ≡ closing) (byte : b ≡ get_or t p 0) where
     there-byte : b ≡ get_or t closing 0

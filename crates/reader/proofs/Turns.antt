@@ -1,41 +1,31 @@
 -- What a turn of the walk has of the functions that it calls.
---     stacked-top     the places of the innermost element's name
 --     other-end       no end tag of that name
 --     behind-end      an end tag, and what stands behind it
 --     no_slash        no end tag's /
 --     first, no-first a name's first byte, or another
 --     closed-root     a root without content
 -- Assumes nothing.
-use Prim.Native.Nat.{ℕ, ◌+◌, ◌-◌, ◌≤◌, ◌<◌}
+use Prim.Native.Nat.{ℕ, ◌+◌, ◌≤◌, ◌<◌}
 use mathlib.Core.Path.{◌≡◌, ap, sym, ◌∙◌}
 use mathlib.Core.Bool.{Bool, true, false, not}
 use mathlib.Core.List.{List, [], ◌++◌}
-use native.Mathlib.Omega.{arith}
 use borrow.Author.Tests.{not-true, not-false}
 use lib.ListN.{length, get_or, drop}
+use Rattle.std.specs.Prelude.{Option, Some, None}
 use Rattle.xml.specs.Bytes.{is_space, is_first, is_name, run_length, run, past}
 use Rattle.xml.specs.Tree.{Tag, self_closing}
 use Rattle.xml.specs.Scanning.{attributes_of, tag_behind, closes}
+use Rattle.pacs.specs.declared.notes.Notes.{Notes}
 use Rattle.pacs.specs.Named.{named, row_of, outside}
 use Rattle.pacs.specs.Kept.{placed_text, Kept}
 use Rattle.pacs.specs.Walk.{is_end, from_space, arrived}
-use Rattle.pacs.specs.Going.{Going}
-use Rattle.pacs.proofs.Going.{turned, root-closes}
+use Rattle.pacs.proofs.Going.{root-closes}
 use Rattle.reader.specs.Walks.{EndRead, WalkedOn}
-use Rattle.reader.specs.declared.endings.EndTag.{EndTag}
-use Rattle.reader.specs.declared.endings.EndTag.TheVariants.{Behind, Other}
 
-pub stacked-top : {t : List ℕ} {start at depth : ℕ} {starts ends rows kept : List ℕ} → Going t start at depth starts ends rows kept
-    → 0 < depth → (get_or starts (depth - 1) 0 ≤ get_or ends (depth - 1) 0) × (get_or ends (depth - 1) 0 ≤ length t)
-stacked-top {depth = depth} g pos =
-    turned g pos λ f fs n d e w top rest.
-    let i : length fs ≡ depth - 1 = omega arith in
-    (rw i at top.ordered, rw i at top.within)
-
-pub other-end : (t : List ℕ) (at : ℕ) (name : List ℕ) {e : EndTag} → e ≡ Other → EndRead t at name e → is_end name (drop at t) ≡ false
+pub other-end : (t : List ℕ) (at : ℕ) (name : List ℕ) {e : Option ℕ} → e ≡ None → EndRead t at name e → is_end name (drop at t) ≡ false
 other-end t at name is h = rw is at h
 
-pub behind-end : (t : List ℕ) (at : ℕ) (name : List ℕ) {e : EndTag} {p : ℕ} → e ≡ Behind p → EndRead t at name e
+pub behind-end : (t : List ℕ) (at : ℕ) (name : List ℕ) {e : Option ℕ} {p : ℕ} → e ≡ Some p → EndRead t at name e
     → (is_end name (drop at t) ≡ true) × (drop 1 (past is_space (from_space name (drop at t))) ≡ drop p t) × (at < p) × (p ≤ length t)
 behind-end t at name is h = rw is at h
 
@@ -52,7 +42,7 @@ first t q {r} {b} e f h = ap is_first (sym f) ∙ sym e ∙ not-false r h
 pub closed-root : (t : List ℕ) (start : ℕ) → get_or t start 0 ≡ 0x3c → is_first (get_or t (start + 1) 0) ≡ true → {behind : ℕ}
     → behind ≡ start + 1 + run_length is_name (drop (start + 1) t) → (u : Tag) {p row : ℕ}
     → tag_behind (run is_name (drop (start + 1) t)) (attributes_of (drop behind t)) ≡ closes u (drop p t) → p ≤ length t
-    → row ≡ row_of outside (placed_text t (start + 1) behind) → {kept : List ℕ} → Kept t ([] ++ named row u [] true) kept
+    → row ≡ row_of outside (placed_text t (start + 1) behind) → {kept : Notes} → Kept ([] ++ named row u [] true) kept
     → WalkedOn t start p kept
 closed-root t start less head {behind} name u {p} {row} read within is {kept} keeps =
     record {

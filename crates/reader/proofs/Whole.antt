@@ -6,7 +6,6 @@
 --     found-read      none of these
 --     refused-so      the answer where nothing is found, and judged-so, where a document is
 --     prolog-at       what the prolog's end tells, and prolog-broken
---     walk-arrived    what the walk's end tells, and walk-astray
 -- Assumes nothing.
 use Prim.Native.Nat.{ℕ, ◌+◌, ◌≤◌, ◌<◌}
 use mathlib.Core.Path.{◌≡◌, refl, ap, sym, ◌∙◌}
@@ -16,6 +15,7 @@ use native.Mathlib.Omega.{arith}
 use borrow.Author.Tests.{le-leb, lt-leb}
 use lib.ListN.{length, take, drop, length-drop}
 use lib.Seq.{drop-drop, take-length}
+use Rattle.std.specs.Prelude.{Result, Ok, Err}
 use Rattle.fields.proofs.Tests.{never}
 use Rattle.xml.specs.Bytes.{is_space, all_of, run_length, run}
 use Rattle.xml.specs.Tree.{Element, Prolog, Document}
@@ -26,11 +26,6 @@ use Rattle.pacs.specs.Walk.{astray, arrived, root_walked, Found, unread, read_as
 use Rattle.pacs.specs.Judged.{judged}
 use Rattle.pacs.specs.Answering.{refusal_of, left_in, verdict_of}
 use Rattle.prolog.specs.Ends.{PrologRead}
-use Rattle.prolog.specs.declared.PrologEnd.{PrologEnd}
-use Rattle.prolog.specs.declared.PrologEnd.TheVariants.{At, Broken}
-use Rattle.reader.specs.Walks.{WalkedOn, WalkedTo}
-use Rattle.reader.specs.declared.walking.WalkEnd.{WalkEnd}
-use Rattle.reader.specs.declared.walking.WalkEnd.TheVariants.{Arrived, Astray}
 
 module _ (t : List ℕ) where
   pub found-long : longest < length t → found t ≡ unread
@@ -112,17 +107,9 @@ judged-so t before after time d seen h j =
     (j.0 ∙ sym (ap (λ (x : Found). refusal_of (verdict_of time x)) h), j.1 ∙ sym (ap (λ (x : Found). left_in before (verdict_of time x)) h))
 
 -- what the functions below told, by the case that they answered
-pub prolog-at : (t : List ℕ) {e : PrologEnd} {p : ℕ} → e ≡ At p → PrologRead t e
+pub prolog-at : (t : List ℕ) {e : Result ℕ ℕ} {p : ℕ} → e ≡ Ok p → PrologRead t e
     → (q : Prolog) × (prolog_read t ≡ behind_prolog q (drop p t)) × (p ≤ length t)
 prolog-at t is h = rw is at h
 
-pub prolog-broken : (t : List ℕ) {e : PrologEnd} {p : ℕ} → e ≡ Broken p → PrologRead t e → prolog_read t ≡ unread
+pub prolog-broken : (t : List ℕ) {e : Result ℕ ℕ} {p : ℕ} → e ≡ Err p → PrologRead t e → prolog_read t ≡ unread
 prolog-broken t is h = (rw is at h).0
-
-pub walk-arrived : (t : List ℕ) (start : ℕ) (kept : List ℕ) {e : WalkEnd} {p : ℕ} → e ≡ Arrived p → WalkedTo t start kept e
-    → WalkedOn t start p kept
-walk-arrived t start kept is h = rw is at h
-
-pub walk-astray : (t : List ℕ) (start : ℕ) (kept : List ℕ) {e : WalkEnd} {what p : ℕ} → e ≡ Astray what p → WalkedTo t start kept e
-    → root_walked (drop start t) ≡ astray
-walk-astray t start kept is h = rw is at h

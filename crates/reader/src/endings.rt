@@ -1,33 +1,25 @@
 // End tags.
 ghost use Rattle.std.specs.Prelude.{◌≤◌, length};
-ghost use Rattle.pacs.specs.Kept.{placed_text};
 ghost use Rattle.reader.specs.Walks.{EndRead};
 
 use crate::names;
 
-// The place behind an end tag; or another thing stands there.
-#[derive(Clone, Copy)]
-pub enum EndTag {
-    Behind(usize),
-    Other,
-}
-
-// Whether from a place on, behind </, an end tag stands whose name is the part of the text between two places.
-pub fn end_tag(text: &[u8], at: usize, from: usize, to: usize) -> EndTag
-    requires { (at ≤ length text.now) × (from ≤ to) × (to ≤ length text.now) }
-    ensures { EndRead text.now at (placed_text text.now from to) result }
+// The place behind an end tag of a name that stands at a place, which is behind its </; None where another thing stands there.
+pub fn end_tag(text: &[u8], at: usize, name: &[u8]) -> Option<usize>
+    requires { at ≤ length text.now }
+    ensures { EndRead text.now at name.now result }
 {
-    let n = to - from;
+    let n = name.len();
     if text.len() - at < n {
-        return EndTag::Other;
+        return None;
     }
     let stop = at + n;
-    if !names::same_name(&text[at..stop], &text[from..to]) {
-        return EndTag::Other;
+    if !names::same_name(&text[at..stop], name) {
+        return None;
     }
     let end = scan::run_end(text, stop, &scan::Space);
     if scan::byte(text, end) != b'>' {
-        return EndTag::Other;
+        return None;
     }
-    EndTag::Behind(end + 1)
+    Some(end + 1)
 }

@@ -11,49 +11,35 @@ ghost use Rattle.std.specs.Prelude.{◌≡◌, ◌≤◌, length};
 ghost use Rattle.ticket.specs.TicketLayout.{ticket_length};
 ghost use Rattle.pacs.specs.Walk.{found};
 ghost use Rattle.pacs.specs.Answering.{refusal_of, left_in, verdict_of, Ordered};
+ghost use Rattle.pacs.specs.Wrongs.{refusal_in};
 
-use draft::Answer;
-use prolog::PrologEnd;
+use pacs::notes::Notes;
+use pacs::refusals::{Refused, Wrong};
 use scan::Space;
-use walking::WalkEnd;
 
 const LONGEST: usize = 65_520;
 
-// A text that is refused by 23: what is wrong with its form, and where.
-fn not_formed(what: u8, place: usize) -> Answer
-    ensures { result.refusal ≡ 23 }
-{
-    Answer {
-        refusal: 23,
-        what,
-        place,
-    }
-}
-
-// The answer to a text at a time, with what is wrong and where, for people; the ticket is written where there is none.
-pub fn read(text: &[u8], time: u32, ticket: &mut [u8]) -> Answer
+// A text at a time: where nothing is wrong with it, the ticket is written.
+pub fn read(text: &[u8], time: u32, ticket: &mut [u8]) -> Result<(), Refused>
     requires { ticket_length ≤ length ticket.old }
-    ensures { (result.refusal ≡ refusal_of (verdict_of time (found text.now)))
+    ensures { (refusal_in result ≡ refusal_of (verdict_of time (found text.now)))
         × (ticket.new ≡ left_in ticket.old (verdict_of time (found text.now))) }
 {
     if LONGEST < text.len() {
-        return not_formed(1, LONGEST);
+        return Err(Wrong::TooLong.at(LONGEST));
     }
-    let place = match prolog::prolog_end(text) {
-        PrologEnd::At(p) => p,
-        PrologEnd::Broken(p) => return not_formed(2, p),
+    let prolog = match prolog::prolog_end(text) {
+        Ok(end) => end,
+        Err(place) => return Err(Wrong::Declaration.at(place)),
     };
-    let start = scan::run_end(text, place, &Space);
-    let mut kept = [0usize; 40];
-    let end = match walking::walk(text, start, &mut kept) {
-        WalkEnd::Arrived(p) => p,
-        WalkEnd::Astray(what, p) => return not_formed(what, p),
-    };
+    let start = scan::run_end(text, prolog, &Space);
+    let mut notes = Notes::new();
+    let end = walking::walk(text, start, &mut notes)?;
     let behind = scan::run_end(text, end, &Space);
     if behind != text.len() {
-        return not_formed(10, behind);
+        return Err(Wrong::BehindRoot.at(behind));
     }
-    draft::judge(text, time, end, &kept, ticket)
+    draft::judge(time, end, &notes, ticket)
 }
 
 // For C: the refusal, 0 where there is none; 255 where the ticket has less than 108 bytes. A refused text leaves the ticket as it was; of a
@@ -65,6 +51,8 @@ pub extern "C" fn zolfigar_pacs008(text: &[u8], time: u32, ticket: &mut [u8]) ->
     if ticket.len() < 108 {
         return 255;
     }
-    let answer = read(text, time, ticket);
-    answer.refusal
+    match read(text, time, ticket) {
+        Ok(()) => 0,
+        Err(refused) => refused.wrong.refusal(),
+    }
 }

@@ -1,28 +1,31 @@
-// An element that is met: its row, and what is kept of it where it is one of the named.
-ghost use Rattle.std.specs.Prelude.{◌≡◌, ◌≤◌, length};
+// An element that is met: its role, and what is kept of it where it is one of the named.
+ghost use Rattle.std.specs.Prelude.{◌+◌, ◌≤◌, ◌<◌, length};
+ghost use Rattle.pacs.specs.Wrongs.{role_number};
 ghost use Rattle.reader.specs.Walks.{Met};
 
-// The row of what is skipped.
-const SKIPPED: usize = 17;
+use elements::Tag;
+use pacs::notes::Notes;
+use pacs::rows::Role;
 
-// Its name stands between two places, its tag ends at a place and begins at another, for people; a start tag nests.
-pub fn meet(
-    text: &[u8],
-    parent: usize,
-    from: usize,
-    to: usize,
-    at: usize,
-    nests: bool,
-    place: usize,
-    kept: &mut [usize; 40],
-) -> usize
-    requires { (from ≤ to) × (to ≤ length text.now) × (at ≤ length text.now) × (length kept.old ≡ 40) }
-    ensures { Met text.now parent from to at nests kept.old kept.new result }
+// Its part where the element around it is none of the named is a function of its own, short enough for the compiler to put it into its
+// callers.
+pub fn meet<'a>(text: &'a [u8], parent: Role, tag: Tag, notes: &mut Notes<'a>) -> Role
+    requires { (tag.start < tag.name_end) × (tag.name_end ≤ length text.now) × (tag.end ≤ length text.now) }
+    ensures { Met text.now (role_number parent) (tag.start + 1) tag.name_end tag.end tag.nests notes.old notes.new (role_number result) }
 {
-    let row = elements::row_of(text, parent, from, to);
-    if row == SKIPPED {
-        return row;
+    if let Role::Skipped = parent {
+        return Role::Skipped;
     }
-    elements::note(text, row, to, at, nests, place, kept);
-    row
+    meet_within(text, parent, tag, notes)
+}
+
+fn meet_within<'a>(text: &'a [u8], parent: Role, tag: Tag, notes: &mut Notes<'a>) -> Role
+    requires { (tag.start < tag.name_end) × (tag.name_end ≤ length text.now) × (tag.end ≤ length text.now) }
+    ensures { Met text.now (role_number parent) (tag.start + 1) tag.name_end tag.end tag.nests notes.old notes.new (role_number result) }
+{
+    let role = elements::row_of(parent, &text[tag.start + 1..tag.name_end]);
+    if let Role::Named(row) = role {
+        elements::note(text, row, tag, notes);
+    }
+    role
 }

@@ -1,62 +1,55 @@
 -- `reader::read` meets its contract: it answers a text by what is found in it. Assumes nothing.
-use Prim.Native.Nat.{◌≤◌}
-use native.Mathlib.Omega.{arith}
-use borrow.Author.Rules.{rules}
-use lib.ListN.{length}
+use Rattle.std.proofs.Common.{◌≡◌, ◌≤◌, ℕ, length, ◌∙◌, ap, arith}
+use Rattle.std.specs.Prelude.{Result, Ok, Err}
+use Rattle.std.specs.Result.{IsErrAnd}
 use Rattle.xml.specs.WellFormed.{longest}
-use Rattle.elements.proofs.Appending.{at_first}
-use Rattle.reader.proofs.Whole.{found-long, found-broken, found-astray, found-behind, found-read, refused-so, judged-so, prolog-at, prolog-broken, walk-arrived, walk-astray}
+use Rattle.pacs.specs.declared.refusals.Refused.{Refused}
+use Rattle.pacs.specs.Wrongs.{wrong_refusal, refusal_in}
+use Rattle.reader.proofs.Whole.{found-long, found-broken, found-astray, found-behind, found-read, refused-so, judged-so, prolog-at, prolog-broken}
 use Rattle.reader.proofs.read.Goals as goal
+
+abbrev told : Refused → ℕ
+told why = wrong_refusal why.wrong
+
+-- an error that is handed on
+handed-on : (r : Result (Unit {0}) Refused) (why : Refused) → IsErrAnd r (λ x. x ≡ why) → refusal_in r ≡ wrong_refusal why.wrong
+handed-on (Ok done) why h = absurd h
+handed-on (Err x) why h = ap told h
 
 pub returns-then-text-gt-LONGEST : goal.returns-then-text-gt-LONGEST
 returns-then-text-gt-LONGEST c =
     let t = c.args.text.now in
-    refused-so t _ _ c.not_formed.ensures (found-long t (omega (arith, c.if-text-gt-LONGEST.true)))
+    refused-so t _ _ (ap told c.at.ensures) (found-long t (omega (arith, c.if-text-gt-LONGEST.true)))
 
-pub returns-in-Broken : goal.returns-in-Broken
-returns-in-Broken c =
+pub returns-in-Err : goal.returns-in-Err
+returns-in-Err c =
     let t = c.args.text.now in
-    refused-so t _ _ c.not_formed-in-Broken.ensures
-    (found-broken t c.if-text-gt-LONGEST.false (prolog-broken t c.in-Broken.is c.prolog_end.ensures))
+    refused-so t _ _ (ap told c.at-in-Err.ensures)
+    (found-broken t c.if-text-gt-LONGEST.false (prolog-broken t c.in-Err.is c.prolog_end.ensures))
 
-pub walk-requires : goal.walk-requires
-walk-requires c =
-    (at_first _, search rules)
-
-pub returns-in-Astray : goal.returns-in-Astray
-returns-in-Astray c =
+pub returns-in_err-end : goal.returns-in_err-end
+returns-in_err-end c =
     let t = c.args.text.now in
     let fits : length t ≤ longest = c.if-text-gt-LONGEST.false in
-    let prolog = prolog-at t c.in-At.is c.prolog_end.ensures in
-    let place = c.in-At.p in
+    let prolog = prolog-at t c.in-Ok.is c.prolog_end.ensures in
+    let place = c.in-Ok.end in
     let spaced = c.run_end-start.ensures in
-    refused-so
-    t
-    _
-    _
-    c.not_formed-in-Astray.ensures
-    (found-astray
-    t
-    fits
-    prolog.0
-    place
-    prolog.1
-    spaced
-    (walk-astray t _ _ c.in-Astray.is c.walk.ensures))
+    refused-so t _ _ (handed-on _ _ c.from_residual.ensures.1 ∙ c.in_err-end.ensures.1)
+    (found-astray t fits prolog.0 place prolog.1 spaced c.in_err-end.ensures.0)
 
 pub returns-then-behind-text : goal.returns-then-behind-text
 returns-then-behind-text c =
     let t = c.args.text.now in
     let fits : length t ≤ longest = c.if-text-gt-LONGEST.false in
-    let prolog = prolog-at t c.in-At.is c.prolog_end.ensures in
-    let place = c.in-At.p in
+    let prolog = prolog-at t c.in-Ok.is c.prolog_end.ensures in
+    let place = c.in-Ok.end in
     let spaced = c.run_end-start.ensures in
-    let w = walk-arrived t _ _ c.in-Arrived.is c.walk.ensures in
+    let w = c.in_ok-end.ensures in
     refused-so
     t
     _
     _
-    c.not_formed-then-behind-text.ensures
+    (ap told c.at-then-behind-text.ensures)
     (found-behind
     t
     fits
@@ -76,10 +69,10 @@ pub returns : goal.returns
 returns c =
     let t = c.args.text.now in
     let fits : length t ≤ longest = c.if-text-gt-LONGEST.false in
-    let prolog = prolog-at t c.in-At.is c.prolog_end.ensures in
-    let place = c.in-At.p in
+    let prolog = prolog-at t c.in-Ok.is c.prolog_end.ensures in
+    let place = c.in-Ok.end in
     let spaced = c.run_end-start.ensures in
-    let w = walk-arrived t _ _ c.in-Arrived.is c.walk.ensures in
+    let w = c.in_ok-end.ensures in
     judged-so
     t
     _

@@ -1,5 +1,6 @@
 -- `draft::amount::amount_of` meets its contract. Assumes nothing.
 use Rattle.std.proofs.Common.{◌≡◌, true, ◌-◌, ◌≤◌, ℕ, List, length, get_or, sym, ◌∙◌, ap, arith}
+use Rattle.std.specs.Prelude.{Some}
 use Rattle.classes.specs.Class.{all_in}
 use Rattle.classes.specs.declared.Class.TheVariants.{Digit}
 use Rattle.pacs.specs.Judged.{digits_behind}
@@ -25,25 +26,24 @@ returns-then-not-all_in c = whole-wrong c.args.s.now (sym c.all_in.ensures ∙ c
 pub returns-then-not-all_in-2 : goal.returns-then-not-all_in-2
 returns-then-not-all_in-2 c = last-wrong c.args.s.now (sym c.all_in-2.ensures ∙ c.if-not-all_in-2.true)
 
-pub digits_behind-whole-requires : goal.digits_behind-whole-requires
-digits_behind-whole-requires c =
-    let p = parts c.args.s.now c.if-n-lt4.false c.if-n-gt12.false c.if-s-point-ne46.false (sym c.all_in.ensures ∙ c.if-not-all_in.false)
+pub digits_behind-requires : goal.digits_behind-requires
+digits_behind-requires c =
+    let p = parts c.args.s.now c.if-n-lt4.false c.if-n-gt12.false c.if-s-n-ne46.false (sym c.all_in.ensures ∙ c.if-not-all_in.false)
     (sym c.all_in-2.ensures ∙ c.if-not-all_in-2.false) in
     (omega arith, whole-few c.args.s.now p, p.whole)
 
-pub digits_behind-requires : goal.digits_behind-requires
-digits_behind-requires c =
-    let p = parts c.args.s.now c.if-n-lt4.false c.if-n-gt12.false c.if-s-point-ne46.false (sym c.all_in.ensures ∙ c.if-not-all_in.false)
+pub digits_behind-requires-2 : goal.digits_behind-requires-2
+digits_behind-requires-2 c =
+    let p = parts c.args.s.now c.if-n-lt4.false c.if-n-gt12.false c.if-s-n-ne46.false (sym c.all_in.ensures ∙ c.if-not-all_in.false)
     (sym c.all_in-2.ensures ∙ c.if-not-all_in-2.false) in
-    let e = c.digits_behind-whole.ensures in
+    let e = c.digits_behind.ensures in
     let below = whole_below c.args.s.now p in
     let few = last-few c.args.s.now p in
     (omega arith, omega arith, p.last)
 
 pub returns : goal.returns
 returns c =
-    let p = parts c.args.s.now c.if-n-lt4.false c.if-n-gt12.false c.if-s-point-ne46.false (sym c.all_in.ensures ∙ c.if-not-all_in.false)
+    let p = parts c.args.s.now c.if-n-lt4.false c.if-n-gt12.false c.if-s-n-ne46.false (sym c.all_in.ensures ∙ c.if-not-all_in.false)
     (sym c.all_in-2.ensures ∙ c.if-not-all_in-2.false) in
-    c.digits_behind.ensures
-    ∙ ap (λ (n : ℕ). digits_behind n (last_part c.args.s.now)) c.digits_behind-whole.ensures
+    ap Some (c.digits_behind-2.ensures ∙ ap (λ (n : ℕ). digits_behind n (last_part c.args.s.now)) c.digits_behind.ensures)
     ∙ sym (cents-are c.args.s.now p)

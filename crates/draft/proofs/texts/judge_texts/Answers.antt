@@ -1,69 +1,64 @@
 -- `draft::texts::judge_texts` meets its contract. Assumes nothing.
-use Rattle.std.proofs.Common.{◌≡◌, Bool, true, false, List, ℕ, refl, sym, ◌∙◌, ap}
-use Rattle.classes.specs.CheckAnswer.{answer}
-use Rattle.codes.specs.Bic.{is_bic}
-use Rattle.codes.specs.Txid.{is_txid}
+use Rattle.std.proofs.Common.{◌≡◌, sym, ◌∙◌, ap}
+use Rattle.std.specs.Prelude.{Result, Ok, Err}
+use Rattle.std.specs.Result.{IsErrAnd}
 use Rattle.codes.proofs.WholeCodes.{txid-length}
-use Rattle.iban.specs.Iban.{is_iban}
 use Rattle.iban.proofs.WholeIban.{iban-length}
+use Rattle.pacs.specs.declared.refusals.Refused.{Refused}
+use Rattle.pacs.specs.Wrongs.{wrong_refusal, refusal_in}
 use Rattle.draft.proofs.Verdicts.{answered-no, answered-yes, refuses, accepts, attributes-wrong, amount-wrong, sender-wrong, payee-wrong, txid-wrong, iban-wrong, all_right}
 use Rattle.draft.proofs.texts.judge_texts.Goals as goal
 
--- what a check of a code answers, and the code that it looked at
-told-no : {n : ℕ} {s t : List ℕ} (check : List ℕ → Bool) → n ≡ answer (check s) → s ≡ t → n ≡ 0 → check t ≡ false
-told-no {n} {s} {t} check e same z = answered-no (check t) (ap (λ (u : List ℕ). answer (check u)) (sym same) ∙ sym e ∙ z)
-
-told-yes : {n : ℕ} {s t : List ℕ} (check : List ℕ → Bool) → n ≡ answer (check s) → s ≡ t → (n ≡ 0 → ⊥) → check t ≡ true
-told-yes {n} {s} {t} check e same h =
-    answered-yes (check t) (λ z. h (e ∙ ap (λ (u : List ℕ). answer (check u)) same ∙ z))
+-- an error that is handed on
+handed-on : (r : Result (Unit {0}) Refused) (why : Refused) → IsErrAnd r (λ x. x ≡ why) → refusal_in r ≡ wrong_refusal why.wrong
+handed-on (Ok done) why h = absurd h
+handed-on (Err x) why h = ap (λ (y : Refused). wrong_refusal y.wrong) h
 
 pub returns-then-not-euro : goal.returns-then-not-euro
-returns-then-not-euro c = refuses _ (attributes-wrong _ _ _ _ _ _ _ c.if-not-euro.true)
+returns-then-not-euro c =
+    refuses _ (attributes-wrong _ _ _ _ _ _ _ c.if-not-euro.true) (ap (λ (r : Refused). wrong_refusal r.wrong) c.at.ensures)
 
-pub returns-then-cents-eq0 : goal.returns-then-cents-eq0
-returns-then-cents-eq0 c =
-    refuses _ (amount-wrong _ _ _ _ _ _ _ (sym c.amount_of-cents.ensures ∙ c.if-cents-eq0.true))
+pub returns-in_err-cents : goal.returns-in_err-cents
+returns-in_err-cents c =
+    refuses _ (amount-wrong _ _ _ _ _ _ _ c.in_err-cents.ensures.0)
+    (handed-on _ _ c.from_residual.ensures.1 ∙ c.in_err-cents.ensures.1)
 
-pub returns-then-zolfigar_bic_ok-eq0 : goal.returns-then-zolfigar_bic_ok-eq0
-returns-then-zolfigar_bic_ok-eq0 c =
-    refuses _
-    (sender-wrong _ _ _ _ _ _ _ c.if-not-euro.false (λ z. c.if-cents-eq0.false (c.amount_of-cents.ensures ∙ z))
-    (told-no is_bic c.zolfigar_bic_ok.ensures c.bic_field-payer.ensures c.if-zolfigar_bic_ok-eq0.true))
+pub returns-in_err-payer : goal.returns-in_err-payer
+returns-in_err-payer c =
+    refuses _ (sender-wrong _ _ _ _ _ _ _ c.if-not-euro.false c.in_ok-cents.ensures.0 c.in_err-payer.ensures.0)
+    (handed-on _ _ c.from_residual-in_err-payer.ensures.1 ∙ ap wrong_refusal c.in_err-payer.ensures.1)
 
-pub returns-then-zolfigar_bic_ok-eq0-2 : goal.returns-then-zolfigar_bic_ok-eq0-2
-returns-then-zolfigar_bic_ok-eq0-2 c =
-    refuses _
-    (payee-wrong _ _ _ _ _ _ _ c.if-not-euro.false (λ z. c.if-cents-eq0.false (c.amount_of-cents.ensures ∙ z))
-    (told-no is_bic c.zolfigar_bic_ok-2.ensures c.bic_field-paid.ensures c.if-zolfigar_bic_ok-eq0-2.true))
+pub returns-in_err-paid : goal.returns-in_err-paid
+returns-in_err-paid c =
+    refuses _ (payee-wrong _ _ _ _ _ _ _ c.if-not-euro.false c.in_ok-cents.ensures.0 c.in_err-paid.ensures.0)
+    (handed-on _ _ c.from_residual-in_err-paid.ensures.1 ∙ ap wrong_refusal c.in_err-paid.ensures.1)
 
 pub returns-then-zolfigar_txid_ok-eq0 : goal.returns-then-zolfigar_txid_ok-eq0
 returns-then-zolfigar_txid_ok-eq0 c =
     refuses _
-    (txid-wrong _ _ _ _ _ _ _ c.if-not-euro.false (λ z. c.if-cents-eq0.false (c.amount_of-cents.ensures ∙ z))
-    (told-no is_txid c.zolfigar_txid_ok.ensures refl c.if-zolfigar_txid_ok-eq0.true))
+    (txid-wrong _ _ _ _ _ _ _ c.if-not-euro.false c.in_ok-cents.ensures.0
+    (answered-no _ (sym c.zolfigar_txid_ok.ensures ∙ c.if-zolfigar_txid_ok-eq0.true)))
+    (ap (λ (r : Refused). wrong_refusal r.wrong) c.at-then-zolfigar_txid_ok-eq0.ensures)
 
 pub returns-then-zolfigar_iban_ok-eq0 : goal.returns-then-zolfigar_iban_ok-eq0
 returns-then-zolfigar_iban_ok-eq0 c =
     refuses _
-    (iban-wrong _ _ _ _ _ _ _ c.if-not-euro.false (λ z. c.if-cents-eq0.false (c.amount_of-cents.ensures ∙ z))
-    (told-yes is_bic c.zolfigar_bic_ok.ensures c.bic_field-payer.ensures c.if-zolfigar_bic_ok-eq0.false)
-    (told-yes is_bic c.zolfigar_bic_ok-2.ensures c.bic_field-paid.ensures c.if-zolfigar_bic_ok-eq0-2.false)
-    (told-yes is_txid c.zolfigar_txid_ok.ensures refl c.if-zolfigar_txid_ok-eq0.false)
-    (told-no is_iban c.zolfigar_iban_ok.ensures refl c.if-zolfigar_iban_ok-eq0.true))
+    (iban-wrong _ _ _ _ _ _ _ c.if-not-euro.false c.in_ok-cents.ensures.0 c.in_ok-payer.ensures.0 c.in_ok-paid.ensures.0
+    (answered-yes _ (λ z. c.if-zolfigar_txid_ok-eq0.false (c.zolfigar_txid_ok.ensures ∙ z)))
+    (answered-no _ (sym c.zolfigar_iban_ok.ensures ∙ c.if-zolfigar_iban_ok-eq0.true)))
+    (ap (λ (r : Refused). wrong_refusal r.wrong) c.at-then-zolfigar_iban_ok-eq0.ensures)
 
 pub put_ticket-requires : goal.put_ticket-requires
 put_ticket-requires c = (
   c.requires,
-  txid-length _ (told-yes is_txid c.zolfigar_txid_ok.ensures refl c.if-zolfigar_txid_ok-eq0.false),
-  iban-length _ (told-yes is_iban c.zolfigar_iban_ok.ensures refl c.if-zolfigar_iban_ok-eq0.false),
+  txid-length _ (answered-yes _ (λ z. c.if-zolfigar_txid_ok-eq0.false (c.zolfigar_txid_ok.ensures ∙ z))),
+  iban-length _ (answered-yes _ (λ z. c.if-zolfigar_iban_ok-eq0.false (c.zolfigar_iban_ok.ensures ∙ z))),
 )
 
 pub returns : goal.returns
 returns c =
-    accepts c.args.ticket.now c.args.time c.args.txid.now c.args.iban.now
-    (all_right _ _ _ _ _ _ _ c.if-not-euro.false (λ z. c.if-cents-eq0.false (c.amount_of-cents.ensures ∙ z))
-    (told-yes is_bic c.zolfigar_bic_ok.ensures c.bic_field-payer.ensures c.if-zolfigar_bic_ok-eq0.false)
-    (told-yes is_bic c.zolfigar_bic_ok-2.ensures c.bic_field-paid.ensures c.if-zolfigar_bic_ok-eq0-2.false)
-    (told-yes is_txid c.zolfigar_txid_ok.ensures refl c.if-zolfigar_txid_ok-eq0.false)
-    (told-yes is_iban c.zolfigar_iban_ok.ensures refl c.if-zolfigar_iban_ok-eq0.false))
-    c.amount_of-cents.ensures c.bic_field-payer.ensures c.bic_field-paid.ensures c.put_ticket.ensures
+    accepts c.args.ticket.now c.args.time c.args.texts.now.txid.bytes.now c.args.texts.now.iban.bytes.now
+    (all_right _ _ _ _ _ _ _ c.if-not-euro.false c.in_ok-cents.ensures.0 c.in_ok-payer.ensures.0 c.in_ok-paid.ensures.0
+    (answered-yes _ (λ z. c.if-zolfigar_txid_ok-eq0.false (c.zolfigar_txid_ok.ensures ∙ z)))
+    (answered-yes _ (λ z. c.if-zolfigar_iban_ok-eq0.false (c.zolfigar_iban_ok.ensures ∙ z))))
+    c.in_ok-cents.ensures.1 c.in_ok-payer.ensures.1 c.in_ok-paid.ensures.1 c.put_ticket.ensures

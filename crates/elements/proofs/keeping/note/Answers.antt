@@ -1,53 +1,42 @@
--- `elements::keeping::note` meets its contract: its three ways are the laws of `Noting.antt`. Assumes nothing.
-use mathlib.Core.Path.{ap}
-use mathlib.Core.Bool.{Bool, ◌&&◌}
-use Rattle.elements.proofs.Noting.{stays-wrong, Looked, found-wrong, kept_on}
+-- `elements::keeping::note` meets its contract: its ways are the laws of `Noting.antt`. Assumes nothing.
+use mathlib.Core.Path.{◌≡◌, refl, sym, ◌∙◌, ap}
+use mathlib.Core.Bool.{Bool, false, ◌&&◌}
+use Rattle.std.specs.Prelude.{Option, Some, None}
+use Rattle.std.specs.Option.{is_some}
+use Rattle.pacs.specs.declared.refusals.Refused.{Refused}
+use Rattle.elements.proofs.Noting.{Looked, found-wrong, kept_on}
 use Rattle.elements.proofs.keeping.note.Goals as goal
 
-pub returns-then-kept-ne0 : goal.returns-then-kept-ne0
-returns-then-kept-ne0 c =
-    let a = c.args in
-    stays-wrong a.text.now a.row a.behind a.at a.nests a.kept.now c.requires.2 c.if-kept-ne0.true
+none-kept : (o : Option Refused) → is_some o ≡ false → o ≡ None
+none-kept None e = refl
+none-kept (Some r) e = cc
 
-pub returns-then-fault-ne0 : goal.returns-then-fault-ne0
-returns-then-fault-ne0 c =
+pub returns-in-Some : goal.returns-in-Some
+returns-in-Some c =
     let a = c.args in
-    let looked : Looked a.text.now a.row a.at a.nests a.kept.now c.end_of-end.result c.fault_of-fault.result =
+    let looked : Looked a.text.now a.row.number a.tag.end a.tag.nests a.notes.now c.end_of-end.result c.fault_of.result =
     record {
-      few = c.requires.2;
-      right = c.if-kept-ne0.false;
-      reads = a.nests && c.is_text_row.result;
-      plain = c.is_plain.result;
-      asked = ap (λ (b : Bool). a.nests && b) c.is_text_row.ensures;
+      right = none-kept _ (sym c.is_some.ensures ∙ c.if-is_some.false);
+      reads = a.tag.nests && c.is_text_row.result;
+      plain = c.is_plain-plain.result;
+      asked = ap (λ (b : Bool). a.tag.nests && b) c.is_text_row.ensures;
       ended = c.end_of-end.ensures.0;
-      tested = c.is_plain.ensures;
-      told = c.fault_of-fault.ensures;
+      tested = c.is_plain-plain.ensures;
+      told = c.fault_of.ensures;
     } in
-    found-wrong looked a.behind a.place c.if-fault-ne0.true
+    found-wrong looked a.tag.name_end c.in-Some.is (ap Some c.at.ensures)
 
 pub returns : goal.returns
 returns c =
     let a = c.args in
-    let looked : Looked a.text.now a.row a.at a.nests a.kept.now c.end_of-end.result c.fault_of-fault.result =
+    let looked : Looked a.text.now a.row.number a.tag.end a.tag.nests a.notes.now c.end_of-end.result c.fault_of.result =
     record {
-      few = c.requires.2;
-      right = c.if-kept-ne0.false;
-      reads = a.nests && c.is_text_row.result;
-      plain = c.is_plain.result;
-      asked = ap (λ (b : Bool). a.nests && b) c.is_text_row.ensures;
+      right = none-kept _ (sym c.is_some.ensures ∙ c.if-is_some.false);
+      reads = a.tag.nests && c.is_text_row.result;
+      plain = c.is_plain-plain.result;
+      asked = ap (λ (b : Bool). a.tag.nests && b) c.is_text_row.ensures;
       ended = c.end_of-end.ensures.0;
-      tested = c.is_plain.ensures;
-      told = c.fault_of-fault.ensures;
+      tested = c.is_plain-plain.ensures;
+      told = c.fault_of.ensures;
     } in
-    let (same, before, within) = c.end_of-end.ensures in
-    kept_on
-    looked
-    c.euro_of-euro.result
-    c.requires.0
-    before
-    within
-    c.if-fault-ne0.false
-    a.behind
-    c.euro_of-euro.ensures
-    _
-    c.keep.ensures
+    kept_on looked c.euro_of-notes.result _ refl c.in_default.is a.tag.name_end a.row.in_range c.euro_of-notes.ensures

@@ -1,11 +1,16 @@
 -- `elements::rows::row_of` meets its contract. Assumes nothing.
-use Rattle.elements.proofs.ByParent.{row-found, skipped-holds}
+use Rattle.std.proofs.Common.{◌∙◌, ap}
+use mathlib.Core.Bool.{Bool, cond}
+use Rattle.elements.proofs.ByParent.{row-found, skipped-holds, root-named}
 use Rattle.elements.proofs.rows.row_of.Goals as goal
 
-pub returns-then-parent-eq17 : goal.returns-then-parent-eq17
-returns-then-parent-eq17 c =
-    row-found _ _ _ (rw c.if-parent-eq17.true (skipped-holds _))
+pub returns-in-Skipped : goal.returns-in-Skipped
+returns-in-Skipped c = rw c.in-Skipped.is (row-found _ _ _ (skipped-holds c.args.name.now))
 
-pub returns : goal.returns
-returns c =
-    row-found _ _ _ c.row_in.ensures
+pub returns-in-Named : goal.returns-in-Named
+returns-in-Named c = rw c.in-Named.is (row-found _ _ _ c.row_in.ensures)
+
+pub returns-in-Outside : goal.returns-in-Outside
+returns-in-Outside c =
+    rw c.in-Outside.is
+    (row-found _ _ _ (c.only.ensures ∙ ap (λ (b : Bool). cond b 0 17) c.same_bytes.ensures ∙ root-named c.args.name.now))

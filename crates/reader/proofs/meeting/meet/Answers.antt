@@ -1,12 +1,8 @@
--- `meet` finds an element's row, and keeps what is asked of it. Assumes nothing.
-use Rattle.reader.proofs.Meetings.{met-skipped, met-named}
+-- `meet` finds an element's role, and keeps what is asked of it. Assumes nothing.
+use Rattle.std.proofs.Common.{refl}
+use Rattle.elements.proofs.ByParent.{skipped-holds}
+use Rattle.reader.proofs.Meetings.{met-skipped}
 use Rattle.reader.proofs.meeting.meet.Goals as goal
 
-pub returns-then-row-eq-SKIPPED : goal.returns-then-row-eq-SKIPPED
-returns-then-row-eq-SKIPPED c =
-    met-skipped _ _ _ _ _ _ _ _ c.row_of-row.ensures.0 c.requires.3 c.if-row-eq-SKIPPED.true
-
-pub returns : goal.returns
-returns c =
-    let n = c.note.ensures in
-    met-named _ _ _ _ _ _ _ _ c.row_of-row.ensures.0 _ n.0 c.if-row-eq-SKIPPED.false n.1
+pub returns-in-Skipped : goal.returns-in-Skipped
+returns-in-Skipped c = rw c.in-Skipped.is (met-skipped _ _ _ _ _ _ _ _ (skipped-holds _) refl)
