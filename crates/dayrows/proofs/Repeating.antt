@@ -1,10 +1,7 @@
 -- The BICs of a section's first rows as rows of words, and whether one of them is an earlier one's. Assumes nothing.
 --     all-right    all rows right by themselves, and none with an earlier row's BIC
-use Rattle.std.proofs.Common.{◌≡◌, ℕ, zero, suc, ◌+◌, ◌*◌, ◌<◌, ◌≤◌, Bool, true, false, ◌&&◌, ◌||◌, not, List, [], ◌∷◌, ◌++◌, length, take, drop, ◌-◌, add-one, sym, refl, ap, ap₂, ◌∙◌, arith, is_some, length-append, Option, Some, None}
-use mathlib.Core.Logic.{⊎_elim}
-use native.Mathlib.Nat.{add-sub_cancel_left, not-suc-le-zero, eq-or-lt_of_le, le_of_suc-le-suc}
-use lib.ListN.{get_or-append}
-use lib.Seq.{get_or-append_seam}
+use Rattle.std.proofs.Common.{◌≡◌, ℕ, zero, suc, ◌+◌, ◌*◌, ◌<◌, ◌≤◌, Bool, true, false, ◌&&◌, ◌||◌, not, List, [], ◌∷◌, ◌++◌, length, take, drop, ◌-◌, add-one, sym, refl, ap, ap₂, ◌∙◌, arith, is_some, Option, Some, None}
+use native.Mathlib.Nat.{add-sub_cancel_left}
 use Rattle.fields.specs.Number.{part}
 use Rattle.fields.specs.Text.{same}
 use Rattle.fields.specs.Search.{found_or, first_to}
@@ -14,7 +11,8 @@ use Rattle.fields.proofs.Stores.{length_part}
 use Rattle.fields.proofs.Tests.{never}
 use Rattle.fields.proofs.UpTo.{none-at, all_apart}
 use Rattle.fields.proofs.Indexing.{row_within}
-use Rattle.index.specs.RowChains.{row_at, rows_of, first_with, Distinct}
+use Rattle.index.specs.RowChains.{rows_of, first_with, Distinct}
+use Rattle.index.proofs.RowsOf.{first-of, distinct-of}
 use Rattle.index.specs.Words.{Bytes, bic_words}
 use Rattle.index.proofs.Comparing.{same-bics, part_bytes}
 use Rattle.dayfile.specs.FileRows.{bic_among}
@@ -35,23 +33,6 @@ all-right right start width n i f e p q =
 -- the words of a BIC at a place
 pub words-at : {words : List ℕ} (at : ℕ) (f : List ℕ) → words ≡ bic_words (take (at + 11 - at) (drop at f)) → words ≡ bic_words (part 11 at f)
 words-at at f e = e ∙ ap (λ (v : ℕ). bic_words (take v (drop at f))) (add-sub_cancel_left at 11)
-
--- rows made of fields
-module _ (field : ℕ → List ℕ) where
-  pub rows-count : (n : ℕ) → length (rows_of field n) ≡ n
-  rows-count zero = refl
-  rows-count (suc n) = length-append (rows_of field n) (field n ∷ []) ∙ (let e = rows-count n in omega arith)
-
-  row-there : (n i : ℕ) → i < n → row_at (rows_of field n) i ≡ field i
-  row-there zero i l = absurd (not-suc-le-zero l)
-  row-there (suc n) i l =
-      ⊎_elim
-      (λ (q : i ≡ n).
-      ap (λ (k : ℕ). row_at (rows_of field n ++ field n ∷ []) k) (q ∙ sym (rows-count n))
-      ∙ get_or-append_seam (rows_of field n) (field n) [] []
-      ∙ ap field (sym q))
-      (λ (k : i < n). get_or-append (rows_of field n) (field n ∷ []) [] i (let e = rows-count n in omega arith) ∙ row-there n i k)
-      (eq-or-lt_of_le (le_of_suc-le-suc l))
 
 -- one passes
 one-to : (test : ℕ → Bool) (n i : ℕ) → i < n → test i ≡ true → any_to test n ≡ true
@@ -83,22 +64,19 @@ module _ (start width n : ℕ) (f : List ℕ) (bytes : Bytes f) (wide : 11 ≤ w
   -- no BIC repeats, so no two rows hold the same
   pub rows-apart : (i : ℕ) → i ≤ n → bic_repeats start width i f ≡ false → Distinct (rows_of bic_row i)
   rows-apart i l none =
-      record {
-        differ = λ j k a b.
-            let below : k < i = let e = rows-count bic_row i in omega arith in
-            ap₂ same (row-there bic_row i j (omega arith)) (row-there bic_row i k below)
-            ∙ same-row j k (omega arith) (omega arith)
-            ∙ none-at (λ m. same (bic_in start width f m) (bic_in start width f k)) k j
-            (none-at (λ m. bic_among start width m (bic_in start width f m) f) i k none below) a;
-      }
+      distinct-of bic_row i
+      (λ j k a b.
+      same-row j k (omega arith) (omega arith)
+      ∙ none-at (λ m. same (bic_in start width f m) (bic_in start width f k)) k j
+      (none-at (λ m. bic_among start width m (bic_in start width f m) f) i k none b) a)
 
   -- what a search among them finds
   seen-before : (i : ℕ) → i < n → is_some (first_with (bic_row i) (rows_of bic_row i)) ≡ bic_among start width i (bic_in start width f i) f
   seen-before i l =
-      ap (λ (m : ℕ). is_some (first_to (λ j. same (row_at (rows_of bic_row i) j) (bic_row i)) m)) (rows-count bic_row i)
-      ∙ ap is_some
-      (first-same (λ j. same (row_at (rows_of bic_row i) j) (bic_row i)) (λ j. same (bic_in start width f j) (bic_in start width f i)) i
-      (λ j k. ap (λ (s : List ℕ). same s (bic_row i)) (row-there bic_row i j k) ∙ same-row j i (omega arith) l))
+      ap is_some
+      (first-of bic_row i (bic_row i)
+      ∙ first-same (λ j. same (bic_row j) (bic_row i)) (λ j. same (bic_in start width f j) (bic_in start width f i)) i
+      (λ j k. same-row j i (omega arith) l))
       ∙ some-to (λ j. same (bic_in start width f j) (bic_in start width f i)) i
 
   pub told : {b : Bool} {found : Option ℕ} {words : List ℕ} {seen : List (List ℕ)} (i : ℕ) → i < n → seen ≡ rows_of bic_row i → words ≡ bic_row i

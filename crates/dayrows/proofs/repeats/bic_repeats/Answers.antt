@@ -1,7 +1,8 @@
 use Rattle.std.proofs.Common.{◌+◌, ◌*◌, length, sym, ap, ◌∙◌, subst, arith}
 use Rattle.index.specs.RowChains.{Distinct}
 use Rattle.index.proofs.Comparing.{slice-bytes}
-use Rattle.dayrows.proofs.Repeating.{words-at, rows-count, rows-apart, told, one-more, repeats-here}
+use Rattle.index.proofs.RowsOf.{length-of}
+use Rattle.dayrows.proofs.Repeating.{words-at, rows-apart, told, one-more, repeats-here}
 use Rattle.dayrows.proofs.repeats.bic_repeats.Goals as goal
 
 pub find-requires : goal.find-requires
@@ -28,7 +29,7 @@ returns-then-is_some c =
 
 pub push-requires : goal.push-requires
 push-requires c =
-    let e = ap length c.loop-i.invariant.0 ∙ rows-count _ c.loop-i.i in
+    let e = ap length c.loop-i.invariant.0 ∙ length-of _ c.loop-i.i in
     let few = c.requires.1 in
     let below = c.loop-i-test.true in
     (omega arith, (omega arith, omega arith))
