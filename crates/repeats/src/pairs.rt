@@ -1,4 +1,5 @@
 // Names compared pairwise, each attribute being read again for each one before it. Behind the last one nothing is read.
+// A text and its count stay two arguments: each loop counts by `for`, and the text goes on beside it.
 ghost use Rattle.std.specs.Prelude.{◌≡◌};
 ghost use Rattle.repeats.specs.Repeats.{has_name_in, repeats_in};
 

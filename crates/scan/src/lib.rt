@@ -1,5 +1,5 @@
 // Places in a text: the byte at a place, the classes of bytes, and where a run of bytes of one class ends. Nothing is asked of a place:
-// behind the text's end the byte is 0, and a run is empty.
+// behind the text's end the byte is 0, and a run is empty. Text and place stay two arguments: a reader answers and keeps places alone.
 #![tactic(auto)]
 
 mod attributes;
@@ -18,7 +18,7 @@ pub fn byte(text: &[u8], at: usize) -> u8
     text.get(at).copied().unwrap_or(0)
 }
 
-// Where the run of a class's bytes from a place on ends.
+// Where the run of a class's bytes from a place on ends. The loop counts: where it ends is a place, also one behind the text.
 #[inline]
 pub fn run_end<C: Class>(text: &[u8], at: usize, class: &C) -> usize
     ensures { result ≡ at + run_length C.is (drop at text.now) }

@@ -68,8 +68,9 @@ fn ending(text: &[u8], at: usize, end: usize, count: usize) -> Result<TagEnd, Ta
     Ok(TagEnd::Closes(end + 2))
 }
 
-// The end of a tag that may have more behind its name than >. The root's is read by it: called at two places it stays a function of its own
-// for the compiler, and `tag_end` is short enough to be put into its caller.
+// The end of a tag that may have more behind its name than >. It stays a function of its own for the compiler, and `tag_end` is short enough
+// to be put into its caller.
+#[inline(never)]
 pub fn long_tag_end(text: &[u8], at: usize) -> Result<TagEnd, TagFault>
     ensures { (name : List ℕ) → Tagged text.now at (tag_behind name (attributes_of (drop at text.now))) result }
 {
