@@ -30,9 +30,9 @@ pub fn txid(t: &[u8]) -> &[u8]
     if t.len() != layout::LENGTH {
         return &t[0..0];
     }
-    let value = fields::unpadded(&t[layout::TXID..layout::IBAN]);
-    if codes::zolfigar_txid_ok(value) == 1 {
-        value
+    let field = &t[layout::TXID..layout::IBAN];
+    if codes::txid_ok(field) {
+        fields::unpadded(field)
     } else {
         &t[0..0]
     }
