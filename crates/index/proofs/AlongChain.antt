@@ -1,6 +1,6 @@
 -- What a search along a chain of rows finds: the rows are numbers, with a bucket for each, and a test says which of them hold what is
 -- searched for. Assumes nothing.
-use Rattle.std.proofs.Common.{◌≡◌, ℕ, zero, suc, ◌+◌, ◌-◌, ◌<◌, ◌≤◌, Bool, true, false, cond, eqb, List, get_or, subst, sym, refl, ap, ◌∙◌, add-one, arith, eq-eqb, eqb-true, Option, Some, None}
+use Rattle.std.proofs.Common.{◌≡◌, ℕ, zero, suc, ◌-◌, ◌<◌, ◌≤◌, Bool, true, false, cond, eqb, List, get_or, sym, refl, ap, ◌∙◌, arith, eq-eqb, eqb-true, Option, Some, None}
 use Rattle.fields.specs.Search.{found_or, first_to}
 use Rattle.fields.specs.Chains.{last_to, Chained}
 use Rattle.fields.proofs.Tests.{never}

@@ -1,7 +1,7 @@
 -- Rows in use as a list of rows, and rows compared. Assumes nothing.
 --     same_is       the test of the same words is that of arrays
 --     searchable    rows chained by their words are searched by the words of a field
-use Rattle.std.proofs.Common.{◌≡◌, ℕ, ◌<◌, ◌≤◌, Bool, true, false, ◌&&◌, eqb, List, [], ◌∷◌, length, get_or, take, set, ◌+◌, refl, ap, sym, ◌∙◌, subst, arith, rules, length-take, get_or-take, mod-lt, lit<}
+use Rattle.std.proofs.Common.{◌≡◌, ℕ, ◌<◌, ◌≤◌, Bool, true, false, ◌&&◌, eqb, List, [], ◌∷◌, length, get_or, take, set, ◌+◌, refl, ap, sym, ◌∙◌, arith, length-take, get_or-take, mod-lt, lit<}
 use lib.Pointwise.{pointwise}
 use Rattle.fields.specs.Text.{same}
 use Rattle.fields.specs.Search.{first_to}

@@ -1,4 +1,5 @@
 -- The shape of a ticket by what its kind names: ranges that a kind does not list are blank as one. Assumes nothing.
+use Rattle.std.specs.Bool.{then_some}
 use Rattle.std.specs.Prelude.{None, Option, Some}
 use mathlib.Core.Path.{◌≡◌, refl, sym, ◌∙◌, ap}
 use mathlib.Core.Bool.{Bool, true, false, ◌&&◌, ◌||◌, not, cond, and-true}
@@ -218,3 +219,8 @@ no-account kind.Inquiry t e = refl
 no-account kind.Cut t e = refl
 no-account kind.Confirm t e = refl
 no-account kind.Tick t e = refl
+
+-- a kind where the test is passed
+pub then-cond : (b : Bool) (k : Kind) → then_some b k ≡ cond b (Some k) None
+then-cond true k = refl
+then-cond false k = refl

@@ -16,36 +16,21 @@ pub struct Amounts {
     pub most: u64,
 }
 
+#[tactic(auto, unfolding(crate::specs::Amounts::amounts_of))]
 pub fn amounts_of(kind: Kind) -> Amounts
     ensures { result ≡ amounts_of kind }
 {
-    match kind {
-        Kind::CoverIn => Amounts {
-            least: 1,
-            most: MOST_COVER,
-        },
-        Kind::CoverOut => Amounts {
-            least: 1,
-            most: MOST_COVER,
-        },
-        Kind::Order => Amounts {
-            least: 1,
-            most: MOST_ORDER,
-        },
-        Kind::Yes => Amounts { least: 0, most: 0 },
-        Kind::No => Amounts { least: 0, most: 0 },
-        Kind::Recall => Amounts { least: 0, most: 0 },
-        Kind::Return => Amounts {
-            least: 1,
-            most: MOST_ORDER,
-        },
-        Kind::Decline => Amounts { least: 0, most: 0 },
-        Kind::Inquiry => Amounts { least: 0, most: 0 },
-        Kind::Cut => Amounts { least: 0, most: 0 },
-        Kind::Confirm => Amounts {
-            least: 0,
-            most: MOST_COVER,
-        },
-        Kind::Tick => Amounts { least: 0, most: 0 },
-    }
+    let (least, most) = match kind {
+        Kind::CoverIn | Kind::CoverOut => (1, MOST_COVER),
+        Kind::Order | Kind::Return => (1, MOST_ORDER),
+        Kind::Confirm => (0, MOST_COVER),
+        Kind::Yes
+        | Kind::No
+        | Kind::Recall
+        | Kind::Decline
+        | Kind::Inquiry
+        | Kind::Cut
+        | Kind::Tick => (0, 0),
+    };
+    Amounts { least, most }
 }

@@ -12,20 +12,14 @@ pub fn sender(found: Option<usize>, t: &[u8]) -> bool
     requires { (length t.now ≡ ticket_length) × KnownBic found (sender_of t.now) }
     ensures { result ≡ is_bic (sender_of t.now) }
 {
-    match found {
-        Some(_) => true,
-        None => codes::zolfigar_bic_ok(&t[layout::SENDER..layout::PAYEE]) == 1,
-    }
+    found.is_some() || codes::zolfigar_bic_ok(&t[layout::SENDER..layout::PAYEE]) == 1
 }
 
 pub fn payee(found: Option<usize>, t: &[u8]) -> bool
     requires { (length t.now ≡ ticket_length) × KnownBic found (payee_of t.now) }
     ensures { result ≡ is_bic (payee_of t.now) }
 {
-    match found {
-        Some(_) => true,
-        None => codes::zolfigar_bic_ok(&t[layout::PAYEE..layout::TXID]) == 1,
-    }
+    found.is_some() || codes::zolfigar_bic_ok(&t[layout::PAYEE..layout::TXID]) == 1
 }
 
 // An order's TxId, where the order is searched for by its sender.
@@ -33,10 +27,7 @@ pub fn txid(found: Option<usize>, t: &[u8]) -> bool
     requires { (length t.now ≡ ticket_length) × KnownKey found (sender_of t.now) (txid_field t.now) }
     ensures { result ≡ is_txid (txid_of t.now) }
 {
-    match found {
-        Some(_) => true,
-        None => codes::txid_ok(&t[layout::TXID..layout::IBAN]),
-    }
+    found.is_some() || codes::txid_ok(&t[layout::TXID..layout::IBAN])
 }
 
 // The payer and the TxId that kinds 4 to 8 name.
@@ -44,11 +35,9 @@ pub fn key(found: Option<usize>, t: &[u8]) -> bool
     requires { (length t.now ≡ ticket_length) × KnownKey found (payee_of t.now) (txid_field t.now) }
     ensures { result ≡ (is_bic (payee_of t.now) && is_txid (txid_of t.now)) }
 {
-    match found {
-        Some(_) => true,
-        None => {
-            let payer = codes::zolfigar_bic_ok(&t[layout::PAYER..layout::TXID]) == 1;
-            payer & codes::txid_ok(&t[layout::TXID..layout::IBAN])
-        }
+    if found.is_some() {
+        return true;
     }
+    let payer = codes::zolfigar_bic_ok(&t[layout::PAYER..layout::TXID]) == 1;
+    payer & codes::txid_ok(&t[layout::TXID..layout::IBAN])
 }

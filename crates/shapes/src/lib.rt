@@ -7,7 +7,7 @@ pub mod amounts;
 mod blanks;
 mod known;
 
-ghost use Rattle.std.specs.Prelude.{◌≡◌, cond, length, Some, None};
+ghost use Rattle.std.specs.Prelude.{◌≡◌, length};
 ghost use Rattle.ticket.specs.TicketLayout.{ticket_length, sender_of, payee_of, txid_field};
 ghost use Rattle.ticket.specs.Form.{form_of};
 ghost use Rattle.ticket.specs.Shape.{shape_of, account_of};
@@ -18,22 +18,13 @@ use ticket::kinds::Kind;
 use ticket::layout;
 use ticket::shapes::Account;
 
-fn shape(formed: bool, kind: Kind) -> Option<Kind>
-    ensures { result ≡ cond formed (Some kind) None }
-{
-    if formed {
-        return Some(kind);
-    }
-    None
-}
-
 // 7. It lists nothing.
 pub fn nothing(t: &[u8], kind: Kind) -> Option<Kind>
     requires { TicketNaming Subject.Nothing kind t.now }
     ensures { result ≡ shape_of t.now }
 {
     let spare = fields::zero_u16_at(t, layout::SPARE);
-    shape(spare & blanks::from_amount(t), kind)
+    (spare & blanks::from_amount(t)).then_some(kind)
 }
 
 // 7. It lists amount and sender.
@@ -44,7 +35,7 @@ pub fn cover(t: &[u8], kind: Kind, sender: Option<usize>) -> Option<Kind>
     let sender = known::sender(sender, t);
     let spare = fields::zero_u16_at(t, layout::SPARE);
     let rest = blanks::from_payee(t);
-    shape(spare & sender & rest, kind)
+    (spare & sender & rest).then_some(kind)
 }
 
 // 7. It lists sender, payer and TxId, and a return its amount.
@@ -59,11 +50,16 @@ pub fn about(t: &[u8], kind: Kind, sender: Option<usize>, order: Option<usize>) 
     let amounts = amounts::amounts_of(kind);
     let amount = (amounts.most != 0) | fields::zero_u64_at(t, layout::AMOUNT);
     let rest = blanks::from_iban(t);
-    shape(spare & amount & sender & key & rest, kind)
+    (spare & amount & sender & key & rest).then_some(kind)
 }
 
 // 7. An order lists every field.
-pub fn order(t: &[u8], sender: Option<usize>, order: Option<usize>, route: Option<usize>) -> Option<Kind>
+pub fn order(
+    t: &[u8],
+    sender: Option<usize>,
+    order: Option<usize>,
+    route: Option<usize>,
+) -> Option<Kind>
     requires { TicketNaming Subject.NewOrder Kind.Order t.now × KnownBic sender (sender_of t.now)
         × KnownKey order (sender_of t.now) (txid_field t.now) × KnownBic route (payee_of t.now) }
     ensures { result ≡ shape_of t.now }
@@ -73,7 +69,7 @@ pub fn order(t: &[u8], sender: Option<usize>, order: Option<usize>, route: Optio
     let txid = known::txid(order, t);
     let spare = fields::zero_u16_at(t, layout::SPARE);
     let last = t[layout::LAST] == 0;
-    shape(spare & sender & payee & txid & last, Kind::Order)
+    (spare & sender & payee & txid & last).then_some(Kind::Order)
 }
 
 // 8. An order's IBAN.
@@ -81,9 +77,9 @@ pub fn account(t: &[u8]) -> Account
     requires { length t.now ≡ ticket_length }
     ensures { result ≡ account_of (form_of Kind.Order) t.now }
 {
-    let named = iban::iban_ok(&t[layout::IBAN..layout::LAST]);
-    if named {
-        return Account::Named;
+    if iban::iban_ok(&t[layout::IBAN..layout::LAST]) {
+        Account::Named
+    } else {
+        Account::Wrong
     }
-    Account::Wrong
 }

@@ -1,4 +1,4 @@
-use Rattle.std.proofs.Common.{◌≡◌, ◌∙◌, length, ap, lit<, arith}
+use Rattle.std.proofs.Common.{◌∙◌, length, ap, lit<, arith}
 use Rattle.index.proofs.RowsOf.{length-of}
 use Rattle.index.proofs.route_bics_of.Goals as goal
 

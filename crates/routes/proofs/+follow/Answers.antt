@@ -1,5 +1,5 @@
 -- `routes::follow` meets its contract: each way through it is one row of the definition. Assumes nothing.
-use Rattle.std.proofs.Common.{◌≡◌, sym, ap, ◌∙◌, arith}
+use Rattle.std.proofs.Common.{sym, ap, ◌∙◌, arith}
 use Rattle.dayfile.specs.Route.{one_more, target_in}
 use Rattle.dayfile.proofs.Following.{followed-out, followed-rows, follows_to, follows-row, follows-none}
 use Rattle.routes.proofs.+follow.Goals as goal

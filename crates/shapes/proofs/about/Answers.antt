@@ -3,7 +3,7 @@ use mathlib.Core.Path.{sym, ap}
 use Rattle.rules.specs.declared.terms.Subject.TheVariants.{HeldOrder}
 use Rattle.shapes.specs.declared.amounts.Amounts.{Amounts}
 use Rattle.shapes.specs.Amounts.{amounts_of}
-use Rattle.shapes.proofs.Forms.{about-formed, shape_is}
+use Rattle.shapes.proofs.Forms.{then-cond, about-formed, shape_is}
 use Rattle.shapes.proofs.about.Goals as goal
 
 pub returns : goal.returns
@@ -11,7 +11,8 @@ unfolding amounts_of
 returns c =
     let t = c.args.t.now in
     simp (
-      c.shape.ensures,
+      c.then_some.ensures,
+      then-cond,
       c.zero_u16_at-spare.ensures,
       ap (λ (x : Amounts). x.most) c.amounts_of-amounts.ensures,
       c.zero_u64_at.ensures,

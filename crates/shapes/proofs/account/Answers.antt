@@ -1,10 +1,10 @@
 -- `shapes::account` meets its contract. Assumes nothing.
 use Rattle.shapes.proofs.account.Goals as goal
 
-pub returns-then-named : goal.returns-then-named
-returns-then-named c =
-    simp (c.if-named.true, ← c.iban_ok-named.ensures)
+pub returns-then-iban_ok : goal.returns-then-iban_ok
+returns-then-iban_ok c =
+    simp (c.if-iban_ok.true, ← c.iban_ok.ensures)
 
-pub returns : goal.returns
-returns c =
-    simp (c.if-named.false, ← c.iban_ok-named.ensures)
+pub returns-else-iban_ok : goal.returns-else-iban_ok
+returns-else-iban_ok c =
+    simp (c.if-iban_ok.false, ← c.iban_ok.ensures)

@@ -1,9 +1,5 @@
 -- `sight::see` meets its contract: what is asked for was found, and amount and time follow. Assumes nothing.
-use mathlib.Core.Path.{sym, ◌∙◌, ap}
-use Rattle.std.specs.Prelude.{ℕ, Result}
-use Rattle.sight.specs.Value.{formed_sight}
-use Rattle.sight.specs.declared.Seen.{Seen}
-use Rattle.sight.specs.declared.subjects.Parties.{Parties}
+use mathlib.Core.Path.{sym, ◌∙◌}
 use Rattle.sight.proofs.Seeing.{sight-unknown}
 use Rattle.sight.proofs.see.Goals as goal
 

@@ -1,4 +1,4 @@
-use Rattle.std.proofs.Common.{◌≡◌, ℕ, ◌≤◌, ◌-◌, length, get_or, sym, subst, ◌∙◌, arith, rules}
+use Rattle.std.proofs.Common.{◌≡◌, ℕ, ◌-◌, get_or, sym, subst, ◌∙◌, arith}
 use Rattle.fields.specs.Text.{same}
 use Rattle.index.specs.RowChains.{row_bucket, row_at}
 use Rattle.index.proofs.AlongChain.{LeftBelow, left-at-head, link-falls, left-at-link, found-there, found_nowhere}

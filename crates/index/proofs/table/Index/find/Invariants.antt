@@ -1,5 +1,5 @@
 -- What is left of the search stands below `at`. Assumes nothing.
-use Rattle.std.proofs.Common.{◌≡◌, ℕ}
+use Rattle.std.proofs.Common.{ℕ}
 use Rattle.fields.specs.Text.{same}
 use Rattle.index.specs.RowChains.{row_bucket, row_at}
 use Rattle.index.proofs.AlongChain.{LeftBelow}

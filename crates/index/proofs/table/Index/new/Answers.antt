@@ -1,4 +1,4 @@
-use Rattle.std.proofs.Common.{rules, arith}
+use Rattle.std.proofs.Common.{arith}
 use Rattle.fields.proofs.Chaining.{none-chained}
 use Rattle.index.proofs.table.Index.new.Goals as goal
 

@@ -1,4 +1,4 @@
-use Rattle.std.proofs.Common.{◌≡◌, ℕ, ◌<◌, length, rules, arith}
+use Rattle.std.proofs.Common.{◌<◌, arith}
 use Rattle.index.proofs.RowsInUse.{count-is, pushed-chained}
 use Rattle.index.proofs.table.Index.push.Goals as goal
 
