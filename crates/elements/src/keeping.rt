@@ -70,6 +70,7 @@ fn euro_of(text: &[u8], row: Row, behind: usize, old: bool) -> bool
 }
 
 // A named element was met: its attributes stand behind its name.
+#[inline(never)]
 pub fn note<'a>(text: &'a [u8], row: Row, tag: Tag, notes: &mut Notes<'a>)
     requires { tag.end ≤ length text.now }
     ensures { Noted text.now row.number tag.name_end tag.end tag.nests notes.old notes.new }

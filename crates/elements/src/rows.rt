@@ -68,6 +68,7 @@ fn row_in(row: usize, name: &[u8]) -> Role
 }
 
 // It is never what stands around the root.
+#[inline(never)]
 pub fn row_of(parent: Role, name: &[u8]) -> Role
     ensures { (role_number result ≡ row_of (role_number parent) name.now) × (role_number result ≡ outside → ⊥) }
 {

@@ -7,19 +7,9 @@ use elements::Tag;
 use pacs::notes::Notes;
 use pacs::rows::Role;
 
-// Its part where the element around it is none of the named is a function of its own, short enough for the compiler to put it into its
-// callers.
+// It is put into its callers, and what it calls stays apart (`#[inline(never)]`): most elements take the first call alone.
+#[inline]
 pub fn meet<'a>(text: &'a [u8], parent: Role, tag: Tag, notes: &mut Notes<'a>) -> Role
-    requires { (tag.start < tag.name_end) × (tag.name_end ≤ length text.now) × (tag.end ≤ length text.now) }
-    ensures { Met text.now (role_number parent) (tag.start + 1) tag.name_end tag.end tag.nests notes.old notes.new (role_number result) }
-{
-    if let Role::Skipped = parent {
-        return Role::Skipped;
-    }
-    meet_within(text, parent, tag, notes)
-}
-
-fn meet_within<'a>(text: &'a [u8], parent: Role, tag: Tag, notes: &mut Notes<'a>) -> Role
     requires { (tag.start < tag.name_end) × (tag.name_end ≤ length text.now) × (tag.end ≤ length text.now) }
     ensures { Met text.now (role_number parent) (tag.start + 1) tag.name_end tag.end tag.nests notes.old notes.new (role_number result) }
 {

@@ -1,4 +1,4 @@
-// Two names compared, four bytes a turn.
+// Two names compared, four bytes a turn: the fold over all bytes took a third longer a message (docs/BENCHMARKS.md), so the loops count.
 ghost use Rattle.std.specs.Prelude.{◌≡◌, ◌&&◌, ◌+◌, ◌≤◌, length, drop};
 ghost use Rattle.fields.specs.Text.{same};
 

@@ -1,8 +1,23 @@
 -- `meet` finds an element's role, and keeps what is asked of it. Assumes nothing.
-use Rattle.std.proofs.Common.{refl}
-use Rattle.elements.proofs.ByParent.{skipped-holds}
-use Rattle.reader.proofs.Meetings.{met-skipped}
+use Rattle.std.proofs.Common.{◌≡◌, refl, sym, ◌∙◌, ap, arith}
+use Rattle.pacs.specs.declared.rows.Role.{Role}
+use Rattle.pacs.specs.declared.rows.Role.TheVariants.{Outside, Named, Skipped}
+use Rattle.pacs.specs.declared.rows.Row.{Row}
+use Rattle.pacs.specs.Wrongs.{role_number}
+use Rattle.reader.proofs.Meetings.{met-skipped, met-named}
 use Rattle.reader.proofs.meeting.meet.Goals as goal
 
-pub returns-in-Skipped : goal.returns-in-Skipped
-returns-in-Skipped c = rw c.in-Skipped.is (met-skipped _ _ _ _ _ _ _ _ (skipped-holds _) refl)
+-- neither a named element nor what stands around the root
+skipped-else : (r : Role) → ((row : Row) → r ≡ Named row → ⊥) → (role_number r ≡ 16 → ⊥) → role_number r ≡ 17
+skipped-else Outside h o = absurd (o refl)
+skipped-else (Named row) h o = absurd (h row refl)
+skipped-else Skipped h o = refl
+
+pub returns-in-Named : goal.returns-in-Named
+returns-in-Named c =
+    let is = sym (ap role_number c.in-Named.is) ∙ c.row_of-role.ensures.0 in
+    met-named _ _ _ _ _ _ _ _ is _ (let low = c.in-Named.row.in_range in λ e. omega arith) c.note.ensures
+
+pub returns-in_default : goal.returns-in_default
+returns-in_default c =
+    met-skipped _ _ _ _ _ _ _ _ c.row_of-role.ensures.0 (skipped-else _ c.in_default.not-Named c.row_of-role.ensures.1)
