@@ -82,7 +82,7 @@ impl KeptBook {
         ensures { result.book ≡ book }
     {
         let keys = index::keys_of(&book.roster.participants, &book.orders, book.count);
-        let total = sums::total_of(book.covers, book.roster.size);
+        let total = sums::total_of(&book.covers[..book.roster.size]);
         KeptBook {
             book,
             keys,
@@ -129,21 +129,13 @@ impl KeptBook {
         n
     }
 
-    // Held or open debit anywhere.
-    fn any_open(&self) -> bool
-        requires { self.now.book.roster.size ≤ most_participants }
-        ensures { result ≡ any_open self.now.book }
-    {
-        sums::any_open(self.book.covers, self.book.roster.size)
-    }
-
-    // Only a cut looks for that. Its copy of all covers is made in a function of its own, so that other kinds don't clear the place for it.
+    // Held or open debit anywhere: only a cut looks for that.
     fn unconfirmed(&self, kind: Kind) -> bool
         requires { self.now.book.roster.size ≤ most_participants }
         ensures { result ≡ (if seeks_open (terms_of kind).flow then any_open self.now.book else false) }
     {
         match kind {
-            Kind::Cut => self.any_open(),
+            Kind::Cut => sums::any_open(&self.book.covers[..self.book.roster.size]),
             _ => false,
         }
     }

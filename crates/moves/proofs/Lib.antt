@@ -1,1 +1,2 @@
 pub mod CutReports
+pub mod InUse

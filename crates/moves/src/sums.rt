@@ -1,5 +1,5 @@
 // What refusals 21 and 22 ask of all covers together.
-ghost use Rattle.std.specs.Prelude.{◌≡◌, ◌+◌, ◌-◌, ◌≤◌};
+ghost use Rattle.std.specs.Prelude.{◌≡◌, ◌+◌, ◌-◌, ◌≤◌, length};
 ghost use Rattle.fields.specs.UpTo.{any_to};
 ghost use Rattle.rules.specs.Book.{cover_of};
 ghost use Rattle.rules.specs.Cover.{moved, whole, total_of, most_total};
@@ -10,24 +10,23 @@ use super::{cover, find};
 use rules::Cover;
 use rules::decision::Move;
 
-pub fn total_of(covers: [Cover; 32], size: usize) -> u64
-    requires { (size ≤ 32) × (total_of size covers ≤ most_total) }
-    ensures { result ≡ total_of size covers }
+pub fn total_of(covers: &[Cover]) -> u64
+    requires { total_of (length covers.now) covers.now ≤ most_total }
+    ensures { result ≡ total_of (length covers.now) covers.now }
 {
     let mut total = 0;
-    for &c in &covers[..size] {
+    for &c in covers {
         total += cover::whole(c);
     }
     total
 }
 
 // Held or open debit anywhere.
-pub fn any_open(covers: [Cover; 32], size: usize) -> bool
-    requires { size ≤ 32 }
-    ensures { result ≡ any_to (λ p. is_open (cover_of covers p)) size }
+pub fn any_open(covers: &[Cover]) -> bool
+    ensures { result ≡ any_to (λ p. is_open (cover_of covers.now p)) (length covers.now) }
 {
     let mut open = false;
-    for &c in &covers[..size] {
+    for &c in covers {
         open |= find::is_open(c);
     }
     open

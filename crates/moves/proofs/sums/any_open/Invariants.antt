@@ -6,4 +6,4 @@ use Rattle.rules.specs.Find.{is_open}
 use Rattle.moves.proofs.sums.any_open.Given as goal
 
 abbrev pub invariant-loop-c : goal.invariant-loop-c
-invariant-loop-c l = l.open ≡ any_to (λ q. is_open (cover_of l.fn.covers q)) l.c-index
+invariant-loop-c l = l.open ≡ any_to (λ q. is_open (cover_of l.covers q)) l.c-index

@@ -4,4 +4,4 @@ use Rattle.rules.specs.Cover.{total_of}
 use Rattle.moves.proofs.sums.total_of.Given as goal
 
 abbrev pub invariant-loop-c : goal.invariant-loop-c
-invariant-loop-c l = l.total ≡ total_of l.c-index l.fn.covers
+invariant-loop-c l = l.total ≡ total_of l.c-index l.covers

@@ -3,6 +3,7 @@ use mathlib.Core.Path.{sym, ◌∙◌}
 use native.Mathlib.Nat.{not-suc-le-zero}
 use native.Mathlib.Omega.{arith}
 use Rattle.codes.proofs.WholeCodes.{bic-length}
+use Rattle.moves.proofs.InUse.{total-front}
 use Rattle.course.proofs.Seeking.{total-sum}
 use Rattle.course.proofs.Summing.{all-total}
 use Rattle.turns.proofs.CarryingOut.{all-is}
@@ -19,7 +20,7 @@ keys_of-keys-requires c =
     )
 
 pub total_of-total-requires : goal.total_of-total-requires
-total_of-total-requires c = (c.requires.roster.size, rw (total-sum c.args.book) c.requires.limited)
+total_of-total-requires c = rw (total-front c.args.book.covers c.args.book.roster.size, total-sum c.args.book) c.requires.limited
 
 pub invariant_of-result : goal.invariant_of-result
 invariant_of-result c =
@@ -28,6 +29,7 @@ invariant_of-result c =
         index = record { keys = c.keys_of-keys.ensures };
         sum =
             c.total_of-total.ensures
+            ∙ total-front c.args.book.covers c.args.book.roster.size
             ∙ total-sum c.args.book
             ∙ sym (all-total c.args.book c.requires)
             ∙ all-is c.args.book.covers;
