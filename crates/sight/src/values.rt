@@ -21,33 +21,29 @@ fn stated(amounts: Amounts, t: &[u8]) -> Option<u64>
     ensures { result ≡ stated_by amounts t.now }
 {
     let n = fields::u64_at(t, layout::AMOUNT);
-    let short = n < amounts.least;
-    if short {
-        return None;
-    }
-    Some(n)
+    if n < amounts.least { None } else { Some(n) }
 }
 
 // 10. Amount above its kind's limit.
 fn limit(amounts: Amounts, n: u64) -> Limit
     ensures { result ≡ limit_by amounts n }
 {
-    let above = amounts.most < n;
-    if above {
-        return Limit::Above;
+    if amounts.most < n {
+        Limit::Above
+    } else {
+        Limit::Within
     }
-    Limit::Within
 }
 
 // 11. Time before the clock.
 fn timing(clock: u32, time: u32) -> Timing
     ensures { result ≡ timing_of clock time }
 {
-    let early = time < clock;
-    if early {
-        return Timing::Early;
+    if time < clock {
+        Timing::Early
+    } else {
+        Timing::InTime
     }
-    Timing::InTime
 }
 
 // What is seen of a ticket that 7 and 8 do not refuse.
