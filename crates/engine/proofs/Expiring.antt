@@ -37,7 +37,7 @@ module _ (b : Book) (time : ℕ) (s : Sound (at_time b time)) {n₀ : ℕ} {text
   pub count-is : c.count ≡ b.count
   count-is = ap (λ (d : Book). d.count) w.book ∙ sweeps.count
 
-  pub roster-is : c.roster ≡ b.roster
+  roster-is : c.roster ≡ b.roster
   roster-is = ap (λ (d : Book). d.roster) w.book ∙ sweeps.roster
 
   pub kept-there : {words_of : Roster → ℕ × List ℕ → List ℕ} {keys : List (List ℕ)} {all m₀ : ℕ}
@@ -62,7 +62,7 @@ module _ (b : Book) (time : ℕ) (s : Sound (at_time b time)) {n₀ : ℕ} {text
     pub below : m < b.count
     below = let q = count-is in omega arith
 
-    pub now-sound : Sound c
+    now-sound : Sound c
     now-sound = at-sound (at_time b time) s n₀ text₀ w below
 
     pub number-below : m < 256

@@ -5,15 +5,21 @@
 // nothing; only the order is a match, as opening, changing and cutting write different things.
 //
 // A key gets its row where an order is new, and only there: other verdicts leave every order's key (`KeepsKey`). All cover
-// together is changed by what each move changes (`moved-all`), so refusal 22 adds up nothing; it is kept over all 32 places, so that a
+// together is changed by what each move changes, so refusal 22 adds up nothing; it is kept over all 32 places, so that a
 // move of nobody needs no case of its own, and in a sound book that is the sum over the participants (`all-total`). Held and open debit
 // anywhere are looked for at a cut only, since that looks at every participant.
-ghost use Rattle.std.specs.Prelude.{◌≡◌, length};
+ghost use Rattle.std.specs.Prelude.{◌≡◌, ℕ, ◌+◌, ◌*◌, ◌<◌, ◌≤◌, length};
 ghost use Rattle.ticket.specs.TicketLayout.{ticket_length, txid_field};
+ghost use Rattle.report.specs.ReportLayout.{report_length};
+ghost use Rattle.rules.specs.Book.{cover_of};
+ghost use Rattle.rules.specs.Cover.{whole, most_total};
+ghost use Rattle.rules.specs.Cut.{cut_to, cut_reports_to};
+ghost use Rattle.turns.specs.Turn.{Written};
 ghost use Rattle.turns.specs.Kept.{Kept};
 ghost use Rattle.engine.specs.Turns.{words_in};
 
 use super::directory::Directory;
+use dayfile::roster::Roster;
 use dayfile::route::Way;
 use index::{Index, words};
 use moves::{cover, cut, sums, told};
@@ -53,13 +59,28 @@ fn txid_of(t: &[u8]) -> [u8; 35]
     txid
 }
 
+// All covers are cut, and whom that changes is told. The copies that it makes are in a function of its own, so that other tickets don't
+// clear the place for them. The answer is how many reports there are then.
+fn cut_all(covers: &mut [Cover; 32], roster: &Roster, reports: &mut [u8], n: usize) -> usize
+    requires size { roster.now.size ≤ 32 }
+    requires whole { (p : ℕ) → p < roster.now.size → whole (cover_of covers.old p) ≤ most_total }
+    requires room { report_length * n + report_length * roster.now.size ≤ length reports.old }
+    ensures covers { covers.new ≡ cut_to roster.now covers.old roster.now.size }
+    ensures told { Written (cut_reports_to roster.now covers.old roster.now.size) n reports.old result reports.new }
+{
+    let before = *covers;
+    let told = cut::put_cut(reports, n, *roster, before);
+    let after = cut::cut_covers(*roster, before);
+    *covers = after;
+    told
+}
+
 impl KeptBook {
-    ghost use Rattle.std.specs.Prelude.{◌+◌, ◌*◌, ◌<◌, ◌≤◌, false, if◌then◌else◌, slice_set};
+    ghost use Rattle.std.specs.Prelude.{false, if◌then◌else◌, slice_set};
     ghost use Rattle.fields.specs.Search.{number_of};
     ghost use Rattle.dayfile.specs.FileLimits.{most_participants};
     ghost use Rattle.dayfile.specs.Roster.{participant_of};
-    ghost use Rattle.report.specs.ReportLayout.{report_length};
-    ghost use Rattle.rules.specs.Book.{most_orders, cover_of, with_covers};
+    ghost use Rattle.rules.specs.Book.{most_orders, with_covers};
     ghost use Rattle.rules.specs.Cover.{moved};
     ghost use Rattle.rules.specs.Find.{sender_in, order_in, route_in, any_open};
     ghost use Rattle.rules.specs.Refusal.{least_buffer};
@@ -73,7 +94,7 @@ impl KeptBook {
     ghost use Rattle.sight.specs.Sight.{sight_of};
     ghost use Rattle.turns.specs.Facts.{Sought, facts_by};
     ghost use Rattle.turns.specs.Kept.{Movable, moved_by};
-    ghost use Rattle.turns.specs.Turn.{swept_at, Written, Expired, CarriedOut, Turned};
+    ghost use Rattle.turns.specs.Turn.{swept_at, Expired, CarriedOut, Turned};
     ghost use Rattle.engine.specs.Directory.{Directs};
     ghost use Rattle.engine.specs.Turns.{entry_by};
 
@@ -256,9 +277,7 @@ impl KeptBook {
                 }
             }
             Does::Cuts => {
-                let n = cut::put_cut(reports, n, self.book.roster, self.book.covers);
-                let after = cut::cut_covers(self.book.roster, self.book.covers);
-                self.book.covers = after;
+                let n = cut_all(&mut self.book.covers, &self.book.roster, reports, n);
                 Carried {
                     reports: n,
                     rows: 0,

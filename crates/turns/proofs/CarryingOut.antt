@@ -1,13 +1,12 @@
--- The moves of a verdict and its reports: the sum of all cover follows both moves, and a cut finds the covers as they were. Assumes nothing.
+-- The moves of a verdict and its reports: there is room for both moves, and a cut finds the covers as they were. Assumes nothing.
 --     all-is                       all cover over all places, by its two names
---     moved-all                    all cover after a move
 --     first_movable, second_movable    each move fits
 --     verdict-few                  a verdict tells at most two
 --     covers-same, cut-silent      of a cut, the covers before it, and that nothing else is told
 --     cut-size, cut-few, cut-whole   what a cut asks for
 use mathlib.Core.Path.{◌≡◌, refl, sym, ◌∙◌, ap, subst}
 use mathlib.Core.List.{List, []}
-use Prim.Native.Nat.{ℕ, ◌+◌, ◌-◌, ◌≤◌, ◌<◌}
+use Prim.Native.Nat.{ℕ, ◌+◌, ◌≤◌, ◌<◌}
 use native.Mathlib.Omega.{arith}
 use lib.ListN.{length, set, length-set}
 use Rattle.dayfile.specs.FileLimits.{most_participants}
@@ -24,7 +23,7 @@ use Rattle.course.specs.Room.{most_number}
 use Rattle.course.specs.declared.Entry.{Entry}
 use Rattle.course.proofs.Applying.{listed-few}
 use Rattle.course.proofs.SoughtFitting.{any-whole}
-use Rattle.course.proofs.Summing.{all_of, all_changed, change-fits, change-few, whole-grows}
+use Rattle.course.proofs.Summing.{all_of, change-fits, change-few, whole-grows}
 use Rattle.verdict.specs.Meaning.{transfer_by, notices_told}
 use Rattle.verdict.proofs.VerdictMoving.{moved_by_lem}
 use Rattle.turns.specs.Kept.{moved_by, Movable}
@@ -35,17 +34,6 @@ use Rattle.turns.proofs.VerdictFitting.{verdict_reports, Fits}
 pub all-is : (cs : List Cover) → all_of cs ≡ total_of most_participants cs
 unfolding all_of
 all-is cs = refl
-
--- the sum of all cover, with one cover changed by a move
-pub moved-all : {m : Mover} {n : ℕ} {cs : List Cover} → Movable m n cs → {all all' : ℕ} → all ≡ total_of most_participants cs
-    → all' ≡ all - whole (cover_of cs m.who) + whole (moved m.how n (cover_of cs m.who))
-    → all' ≡ total_of most_participants (moved_by m n cs)
-moved-all {m} {n} {cs} f sum is =
-    let new = moved m.how n (cover_of cs m.who) in
-    is
-    ∙ ap (λ (k : ℕ). k - whole (cover_of cs m.who) + whole new) (sum ∙ sym (all-is cs))
-    ∙ all_changed cs f.long m.who f.who new
-    ∙ all-is (set cs m.who new)
 
 module _ (m : Mover) (n : ℕ) (cs : List Cover) (long : length cs ≡ most_participants) (few : m.who < most_participants)
     (most : (transfer_by m n).amount ≤ most_total) where

@@ -110,11 +110,6 @@ module _ {b : Book} {t : List ℕ} {e : Entry} {c : Book} (w : Expired b t e c) 
           roster = ap (λ (x : Book). x.roster) k.book ∙ after-roster w;
         }
 
--- the book is sound then
-pub turned-sound : {b : Book} {t : List ℕ} {n : ℕ} {text : List ℕ} {b' : Book} {a : Answer} {text' : List ℕ} → Sound b
-    → Turned b t n text b' a text' → Sound b'
-turned-sound {b} {t} s h = subst Sound (sym h.book) (step-sound b s t)
-
 -- the loop over tickets goes on
 pub going_on : {b₀ : Book} {tickets answers₀ reports₀ : List ℕ} {b : Book} {taken n : ℕ} {bytes text t : List ℕ} {b' : Book} {a : Answer}
     {text' bytes' : List ℕ}

@@ -1,7 +1,7 @@
 -- The facts that a ticket is judged on: sender, order and route row are found before the expiries, all else in the book after them. They
 -- are those of what is sought in the book after them. Assumes nothing.
 --     sought-after                    what is sought before the expiries is what is sought after them
---     sender-in, order-in, payee-in   the numbers of sender, order and payee are in range
+--     sender-in, order-in             the numbers of sender and order are in range
 --     facts-are                       the facts; way-is, number_is: the way and the order's number
 --     new-order                       the order that a ticket opens
 --     payer-long                      who opens it has a BIC of 11 characters
@@ -37,7 +37,7 @@ use Rattle.rules.specs.declared.Book.{Book}
 use Rattle.course.specs.Seeking.{seeks_order, seeks_open, sought_sender, sought_order, sought}
 use Rattle.course.specs.declared.Entry.{Entry}
 use Rattle.course.proofs.Seeking.{way-if, made}
-use Rattle.course.proofs.SoughtFitting.{any-payee, sought-sender-below, sought-order-below}
+use Rattle.course.proofs.SoughtFitting.{sought-sender-below, sought-order-below}
 use Rattle.verdict.specs.Meaning.{facts_of}
 use Rattle.turns.specs.Facts.{sought_route, Sought, facts_by}
 use Rattle.turns.specs.Turn.{Expired}
@@ -93,9 +93,6 @@ module _ {c : Book} (s : Sound c) {t : List ℕ} {e : Entry} {sender order route
 
   pub order-in : number_of order < most_orders
   order-in = let q = number_is in let h = sought-order-below c s e t in omega arith
-
-  pub payee-in : (order_of c.orders (number_of order)).payee < most_participants
-  payee-in = any-payee c s (number_of order) order-in
 
   pub way-is : way ≡ (sought c e t).way
   way-is = f.follows ∙ ap (followed_from c.roster) f.leads ∙ way-if c.roster (opens_order (terms_of e.kind).subject) t

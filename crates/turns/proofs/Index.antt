@@ -31,7 +31,7 @@ module _ {words_of : ℕ × List ℕ → List ℕ} {b c : Book} {rows : List (Li
   same_index count same = record { keys = kept c f (λ i l. same i) ∙ ap (key_rows words_of c) (sym count) }
 
   -- a new order behind the others, of key s
-  pub more-index : {rows' : List (List ℕ)} {s : ℕ × List ℕ} → c.count ≡ b.count + 1
+  more-index : {rows' : List (List ℕ)} {s : ℕ × List ℕ} → c.count ≡ b.count + 1
       → ((i : ℕ) → i < b.count → key_of (order_of c.orders i) ≡ key_of (order_of b.orders i))
       → key_of (order_of c.orders b.count) ≡ s → rows' ≡ rows ++ words_of s ∷ [] → KeyIndex words_of c rows'
   more-index count before new new-rows =

@@ -4,7 +4,7 @@
 --     clocked-sound   the book of a ticket that they do not refuse is sound at its time
 --     loop-begun      the loop over orders begins
 --     expiries-done   the loop over orders has ended: at the last order, or at one that is young
---     after-sound ..  of the book after the expiries: it is sound, and has the keys, the index and all cover that it had
+--     after-sound ..  of the book after the expiries: it is sound, and has the orders' keys that it had
 --     turn            its step, for any verdict that is the one on what is sought
 use Rattle.std.specs.Prelude.{Err, Ok, Result}
 use mathlib.Core.Path.{◌≡◌, sym, ◌∙◌, ap, ap₂, subst}
@@ -48,13 +48,11 @@ use Rattle.course.proofs.Turning as turning
 use Rattle.course.proofs.Looping.{Sweeping, sweep-begun, all-swept}
 use Rattle.course.proofs.Seeking.{swept-key}
 use Rattle.course.proofs.SoughtFitting.{Entered, entered, judged-applicable}
-use Rattle.course.proofs.Summing.{all_of, all-total, swept_all}
+use Rattle.course.proofs.Summing.{all_of, all-total}
 use Rattle.verdict.specs.Judgement.{verdict_of}
 use Rattle.verdict.specs.Meaning.{facts_of, decision_by, judged_by}
 use Rattle.verdict.proofs.Meaning.{judged-verdict}
-use Rattle.turns.specs.Index.{KeyIndex}
 use Rattle.turns.specs.Turn.{swept_at, Written, TakenUp, Expired}
-use Rattle.turns.proofs.Index.{same_index}
 
 -- refused by 7 to 11: book and reports stay as they are
 pub refused-turn : (b : Book) (t : List ℕ) (n : ℕ) → (entry_of b.clock t).refusal ≡ n → eqb n 0 ≡ false → step_of b t ≡ untouched b n
@@ -121,7 +119,7 @@ module _ {b : Book} {t : List ℕ} {e : Entry} {c : Book} (w : Expired b t e c) 
   start = at_time b e.time
 
   -- the expiries of the rules
-  abbrev pub swept_step : Step
+  abbrev swept_step : Step
   swept_step = swept_at b e.time
 
   sweeps : Swept start swept_step
@@ -136,19 +134,12 @@ module _ {b : Book} {t : List ℕ} {e : Entry} {c : Book} (w : Expired b t e c) 
   pub after-roster : c.roster ≡ b.roster
   after-roster = ap (λ (d : Book). d.roster) w.book ∙ sweeps.roster
 
-  -- no key changes, and so the index stays
+  -- no key changes
   pub after-key : (i : ℕ) → key_of (order_of c.orders i) ≡ key_of (order_of b.orders i)
   after-key i =
       ap (λ (d : Book). key_of (order_of d.orders i)) w.book ∙ swept-key start (clocked-sound w.taken) b.count (omega arith) i
 
-  pub after-index : {words_of : ℕ × List ℕ → List ℕ} {keys : List (List ℕ)}
-      → KeyIndex words_of b keys → KeyIndex words_of c keys
-  after-index f = same_index f after-count after-key
-
-  -- all cover together stays, and is within the limit
-  pub after-all : all_of c.covers ≡ all_of b.covers
-  after-all = ap (λ (d : Book). all_of d.covers) w.book ∙ swept_all start (clocked-sound w.taken) b.count (omega arith)
-
+  -- all cover together is within the limit
   pub all-few : all_of c.covers ≤ most_total
   all-few = let e = all-total c after-sound in let l = after-sound.limited in omega arith
 

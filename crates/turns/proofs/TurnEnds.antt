@@ -45,14 +45,14 @@ use Rattle.turns.proofs.CarryingOut.{all-is, covers-same, cut-silent}
 module _ {b : Book} {t : List ℕ} {e : Entry} {c : Book} (w : Expired b t e c) {v : Verdict}
     (is : v ≡ verdict_of (facts_of (sought c e t))) where
   -- the covers after both moves, and the book that has them
-  abbrev pub both : List Cover
+  abbrev both : List Cover
   both = moved_by v.second v.amount (moved_by v.first v.amount c.covers)
 
-  abbrev pub moved_book : Book
+  abbrev moved_book : Book
   moved_book = with_covers c both
 
   -- that book with other covers and orders
-  abbrev pub with : List Cover → List Order → ℕ → Book
+  abbrev with : List Cover → List Order → ℕ → Book
   with covers orders count = record { clock = c.clock; covers = covers; orders = orders; count = count; roster = c.roster }
 
   -- the order's number, and that it is written back as it was

@@ -152,26 +152,39 @@ invariant_of-self c =
     let s = after-sound w in
     record { kept = changed-kept w c.requires.verdict m c.put_cover-2.new.self.kept c.in-Becomes.is (c.unwrap_or-i.ensures ∙ number_is s c.requires.sought) c.with_status.ensures }
 
-pub put_cut-n-requires : goal.put_cut-n-requires
-put_cut-n-requires c =
+pub cut_all-n-requires-clause-size : goal.cut_all-n-requires-clause-size
+cut_all-n-requires-clause-size c =
+    let w = c.requires.after.1 in
+    let f = fits w c.requires.verdict in
+    let m = c.put_cover-2.ensures ∙ ap (λ (x : Book). with_covers x (moved_by c.args.v.second c.args.v.amount x.covers)) c.put_cover.ensures in
+    subst (λ (x : Book). x.roster.size ≤ 32) (sym m) (cut-size w f c.in-Cuts.is)
+
+pub cut_all-n-requires-clause-whole : goal.cut_all-n-requires-clause-whole
+cut_all-n-requires-clause-whole c =
+    let w = c.requires.after.1 in
+    let f = fits w c.requires.verdict in
+    let m = c.put_cover-2.ensures ∙ ap (λ (x : Book). with_covers x (moved_by c.args.v.second c.args.v.amount x.covers)) c.put_cover.ensures in
+    subst (λ (x : Book). (p : ℕ) → p < x.roster.size → whole (cover_of x.covers p) ≤ most_total) (sym m) (cut-whole w f c.in-Cuts.is)
+
+pub cut_all-n-requires-clause-room : goal.cut_all-n-requires-clause-room
+cut_all-n-requires-clause-room c =
     let w = c.requires.after.1 in
     let f = fits w c.requires.verdict in
     let m = c.put_cover-2.ensures ∙ ap (λ (x : Book). with_covers x (moved_by c.args.v.second c.args.v.amount x.covers)) c.put_cover.ensures in
     let told = written-as c.put_notices-n.ensures.0 c.put_notices-n.ensures.1 in
-    let size = ap (λ (x : Book). x.roster.size) m in let most = cut-size w f c.in-Cuts.is in let none = ap length (cut-silent w f c.in-Cuts.is) in let n = c.put_notices-n.ensures.1 in let long = written-long told in let h = c.requires.room in (omega arith, omega arith)
-
-pub cut_covers-after-requires : goal.cut_covers-after-requires
-cut_covers-after-requires c =
-    let w = c.requires.after.1 in
-    let f = fits w c.requires.verdict in
-    let m = c.put_cover-2.ensures ∙ ap (λ (x : Book). with_covers x (moved_by c.args.v.second c.args.v.amount x.covers)) c.put_cover.ensures in
-    subst (λ (x : Book). (x.roster.size ≤ 32) × ((p : ℕ) → p < x.roster.size → whole (cover_of x.covers p) ≤ most_total)) (sym m) (cut-size w f c.in-Cuts.is, cut-whole w f c.in-Cuts.is)
+    let size = ap (λ (x : Book). x.roster.size) m in
+    let most = cut-size w f c.in-Cuts.is in
+    let none = ap length (cut-silent w f c.in-Cuts.is) in
+    let n = c.put_notices-n.ensures.1 in
+    let long = written-long told in
+    let h = c.requires.room in
+    omega arith
 
 pub invariant_of-self-in-Cuts : goal.invariant_of-self-in-Cuts
 invariant_of-self-in-Cuts c =
     let w = c.requires.after.1 in
     let m = c.put_cover-2.ensures ∙ ap (λ (x : Book). with_covers x (moved_by c.args.v.second c.args.v.amount x.covers)) c.put_cover.ensures in
-    record { kept = cut-kept w c.requires.verdict m c.put_cover-2.new.self.kept c.in-Cuts.is c.cut_covers-after.ensures }
+    record { kept = cut-kept w c.requires.verdict m c.put_cover-2.new.self.kept c.in-Cuts.is c.cut_all-n.ensures.covers }
 
 pub returns-in-Nothing : goal.returns-in-Nothing
 returns-in-Nothing c =
@@ -228,4 +241,4 @@ returns-in-Cuts c =
     let w = c.requires.after.1 in
     let m = c.put_cover-2.ensures ∙ ap (λ (x : Book). with_covers x (moved_by c.args.v.second c.args.v.amount x.covers)) c.put_cover.ensures in
     let told = written-as c.put_notices-n.ensures.0 c.put_notices-n.ensures.1 in
-    cut w c.requires.verdict m c.in-Cuts.is c.cut_covers-after.ensures refl told (written-as c.put_cut-n.ensures.0 c.put_cut-n.ensures.1)
+    cut w c.requires.verdict m c.in-Cuts.is c.cut_all-n.ensures.covers refl told c.cut_all-n.ensures.told
