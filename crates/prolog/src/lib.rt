@@ -78,7 +78,8 @@ fn is_due(due: Due, name: &[u8], value: &[u8]) -> bool
     }
 }
 
-// The place behind the attribute that is due, or the same place where it doesn't stand there.
+// The place behind the attribute that is due, or the same place where it doesn't stand there: no Option, since the next attribute is due
+// there then.
 fn due_end(text: &[u8], at: usize, due: Due) -> usize
     ensures { Passed (due_test due) text.now at result }
 {
