@@ -2,10 +2,11 @@
 -- Assumes nothing.
 use mathlib.Core.Path.{◌≡◌, refl, sym, ◌∙◌, ap, ap₂}
 use mathlib.Core.List.{List, [], ◌∷◌, ◌++◌, append-nil, append_assoc}
-use Prim.Native.Nat.{ℕ, zero, suc, ◌+◌, ◌<◌}
+use Prim.Native.Nat.{ℕ, zero, suc, ◌+◌, ◌≤◌, ◌<◌}
 use native.Mathlib.Nat.{add-zero, zero-add, add-suc, add_assoc}
 use native.Mathlib.Omega.{arith}
-use lib.ListN.{length, get_or, length-append, length-map, get_or-append}
+use lib.ListN.{length, get_or, take, length-append, length-map, get_or-append}
+use Rattle.std.proofs.lemmas.List.{get_or-take}
 use lib.Seq.{get_or-append-add}
 use Rattle.fields.specs.Text.{text}
 use Rattle.report.specs.ReportLayout.{report_at, laid, AllFitting}
@@ -19,6 +20,7 @@ use Rattle.rules.specs.Tick.{Step}
 use Rattle.rules.specs.Taken.{answer_of, answers_of, reports_in}
 use Rattle.rules.specs.Program.{numbers, report_lines, ticket_lines, lines_from, cover_lines}
 use Rattle.rules.specs.declared.Book.{Book}
+use Rattle.rules.specs.declared.Cover.{Cover}
 use Rattle.lines.specs.Lines.{answer_line, report_line, reports_to, start_of, ticket_text, lines_to, covers_to}
 
 -- covers
@@ -27,6 +29,14 @@ covers-are b zero = refl
 covers-are b (suc p) =
     let c = cover_of b.covers p in
     ap (λ (s : List ℕ). s ++ (text "C" ++ numbers (p ∷ c.available ∷ c.reserved ∷ c.held ∷ []))) (covers-are b p)
+
+-- the first covers alone give their lines
+pub covers-first : (cs : List Cover) (m n : ℕ) → n ≤ m → covers_to (take m cs) n ≡ covers_to cs n
+covers-first cs m zero h = refl
+covers-first cs m (suc p) h =
+    ap₂ (λ (s : List ℕ) (c : Cover). s ++ (text "C" ++ numbers (p ∷ c.available ∷ c.reserved ∷ c.held ∷ [])))
+    (covers-first cs m p (omega arith))
+    (get_or-take m cs p (cover_of [] 0) h)
 
 -- a line, and those behind it
 report-first : (r : Report) (rs : List Report) → report_line r ++ report_lines rs ≡ report_lines (r ∷ rs)

@@ -14,13 +14,13 @@ fn put_cover(text: &mut [u8], at: usize, p: usize, c: Cover) -> usize
     line::put_line(text, at, b'C', &[p as u64, c.available, c.reserved, c.held])
 }
 
-pub fn put_covers(covers: [Cover; 32], size: usize, text: &mut [u8]) -> usize
-    requires { (size ≤ 32) × (longest_cover_line * size ≤ length text.old) }
-    ensures { Written text.old text.new 0 (covers_to covers size) result × (result ≤ length text.old) }
+pub fn put_covers(covers: &[Cover], text: &mut [u8]) -> usize
+    requires { longest_cover_line * length covers.now ≤ length text.old }
+    ensures { Written text.old text.new 0 (covers_to covers.now (length covers.now)) result × (result ≤ length text.old) }
 {
     let mut at = 0;
-    for p in 0..size {
-        at = put_cover(text, at, p, covers[p]);
+    for (p, &c) in covers.iter().enumerate() {
+        at = put_cover(text, at, p, c);
     }
     at
 }

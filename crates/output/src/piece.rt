@@ -55,7 +55,7 @@ impl Day {
         ensures { PieceOf file.now self.old text.old result self.new text.new }
     {
         self.ended = true;
-        lines::put_covers(self.book.covers, self.book.roster.size, text)
+        lines::put_covers(&self.book.covers[..self.book.roster.size], text)
     }
 
     // The one line of a refused day file.

@@ -1,6 +1,7 @@
 use mathlib.Core.Path.{◌≡◌}
 use native.Mathlib.Numerals.{add-one}
 use native.Mathlib.Omega.{arith}
+use lib.ListN.{length}
 use Rattle.lines.proofs.WritingParts.{filled_none, filled-behind}
 use borrow.Author.Rules.{rules}
 use Rattle.lines.proofs.others.put_covers.Goals as goal
@@ -26,5 +27,5 @@ shape_of-text c =
 
 pub returns : goal.returns
 returns c =
-    let all : c.loop-p.p ≡ c.args.size = search rules in
+    let all : c.loop-p.p ≡ length c.args.covers.now = search rules in
     (rw (← all) c.loop-p.invariant.1.written, search rules)
