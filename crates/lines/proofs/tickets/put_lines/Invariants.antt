@@ -1,6 +1,6 @@
 -- `lines::tickets::put_lines` meets its contract. The loop's invariant: the lines of the first i tickets are written. Assumes nothing.
 use mathlib.Core.Path.{◌≡◌}
-use Prim.Native.Nat.{◌+◌, ◌*◌, ◌-◌, ◌≤◌}
+use Prim.Native.Nat.{◌+◌, ◌*◌, ◌≤◌}
 use Rattle.lines.specs.Lines.{start_of, lines_to, longest_line}
 use Rattle.lines.proofs.WritingParts.{Filled}
 use Rattle.lines.proofs.tickets.put_lines.Given as goal

@@ -1,5 +1,5 @@
 -- `lines::tickets::put_reports` meets its contract. The loop's invariant: the lines of the first i reports are written. Assumes nothing.
-use Prim.Native.Nat.{◌+◌, ◌*◌, ◌-◌, ◌≤◌}
+use Prim.Native.Nat.{◌+◌, ◌*◌, ◌≤◌}
 use Rattle.lines.specs.Lines.{reports_to, longest_line}
 use Rattle.lines.proofs.WritingParts.{Filled}
 use Rattle.lines.proofs.tickets.put_reports.Given as goal
