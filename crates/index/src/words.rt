@@ -1,36 +1,32 @@
 // Little-endian words of eight and of three bytes at a place in a slice, which a caller sees to it that the slice has, and the words of a
 // BIC and of a key. Read as here, four and eight bytes are each one load of the machine.
-ghost use Rattle.std.specs.Prelude.{◌≡◌, ◌+◌, ◌<◌, ◌≤◌, length};
+ghost use Rattle.std.specs.Prelude.{◌≡◌, ◌+◌, ◌≤◌, length};
 ghost use Rattle.fields.specs.Number.{part};
 ghost use Rattle.index.specs.Words.{word, bic_words, key_words};
 
-fn wide(b: u8) -> u32
-    ensures { (result ≡ b) × (result < 256) }
+// The N bytes at a place.
+fn bytes_at<const N: usize>(s: &[u8], at: usize) -> [u8; N]
+    requires { at + N ≤ length s.now }
+    ensures { result ≡ part N at s.now }
 {
-    b as u32
+    s[at..at + N].try_into().unwrap()
 }
 
-fn half_at(s: &[u8], at: usize) -> u32
-    requires { at + 4 ≤ length s.now }
-    ensures { result ≡ word (part 4 at s.now) }
-{
-    wide(s[at]) + wide(s[at + 1]) * 256 + wide(s[at + 2]) * 65536 + wide(s[at + 3]) * 16777216
-}
-
+#[tactic(auto, using(crate::proofs::LittleEndian::word_eight))]
 pub fn word_at(s: &[u8], at: usize) -> u64
     requires { at + 8 ≤ length s.now }
     ensures { result ≡ word (part 8 at s.now) }
 {
-    let low = half_at(s, at) as u64;
-    let high = half_at(s, at + 4) as u64;
-    low + high * 4294967296
+    u64::from_le_bytes(bytes_at(s, at))
 }
 
+#[tactic(auto, using(crate::proofs::LittleEndian::word_three))]
 pub fn word24_at(s: &[u8], at: usize) -> u64
     requires { at + 3 ≤ length s.now }
     ensures { result ≡ word (part 3 at s.now) }
 {
-    (wide(s[at]) + wide(s[at + 1]) * 256 + wide(s[at + 2]) * 65536) as u64
+    let [a, b, c] = bytes_at::<3>(s, at);
+    u32::from_le_bytes([a, b, c, 0]) as u64
 }
 
 pub fn bic_words(bic: &[u8]) -> [u64; 2]
