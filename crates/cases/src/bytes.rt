@@ -1,5 +1,5 @@
 // Bytes written as hexadecimal digits, in groups between spaces; a group may be repeated.
-ghost use Rattle.std.specs.Prelude.{◌<◌};
+ghost use Rattle.std.specs.Prelude.{◌≤◌, ◌<◌, length};
 
 use super::words;
 
@@ -14,7 +14,9 @@ fn hex_value(c: u8) -> u8
 }
 
 // The bytes of all groups, at the start of the room as far as it reaches.
-pub fn put_bytes<'a>(groups: &[u8], room: &'a mut [u8]) -> &'a [u8] {
+pub fn put_bytes<'a>(groups: &[u8], room: &'a mut [u8]) -> &'a [u8]
+    ensures { length result.now ≤ length room.old }
+{
     let mut n = 0;
     for group in groups.split(|c| *c == b' ') {
         let (digits, times) = match group.iter().position(|c| *c == b'x') {

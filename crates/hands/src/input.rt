@@ -27,7 +27,7 @@ fn kept(bytes: &[u8], fill: u8) -> usize
 }
 
 // The lines of an input: its answer, its reports, and what the bytes behind them are.
-fn print_handed(rt: &impl Print, number: u32, h: &Handed, buffer: &[u8], fill: u8) -> io::Result<()>
+fn print_handed(rt: &impl Print, number: u64, h: &Handed, buffer: &[u8], fill: u8) -> io::Result<()>
     requires { 12 * h.now.reports ≤ length buffer.now }
 {
     println!(rt; "T {number} {} {} {}", h.refusal, h.reports, h.rows)?;
@@ -69,7 +69,7 @@ pub fn hand_next(
     rt: &impl Print,
     input: &mut impl Read,
     b: &mut Book,
-    number: u32,
+    number: u64,
 ) -> io::Result<()>
     requires { Sound b.old }
     ensures { Sound b.new }

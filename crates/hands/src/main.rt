@@ -41,7 +41,7 @@ fn hand_all(rt: &impl Print, input: &mut impl Read, b: &mut Book, inputs: u32) -
     ensures { Sound b.new }
 {
     for number in 0..inputs {
-        input::hand_next(rt, input, b, number)?;
+        input::hand_next(rt, input, b, u64::from(number))?;
     }
     Ok(())
 }
