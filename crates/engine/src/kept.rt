@@ -14,6 +14,7 @@ ghost use Rattle.report.specs.ReportLayout.{report_length};
 ghost use Rattle.rules.specs.Book.{cover_of};
 ghost use Rattle.rules.specs.Cover.{whole, most_total};
 ghost use Rattle.rules.specs.Cut.{cut_to, cut_reports_to};
+ghost use Rattle.course.specs.Running.{room_left};
 ghost use Rattle.turns.specs.Turn.{Written};
 ghost use Rattle.turns.specs.Kept.{Kept};
 ghost use Rattle.engine.specs.Turns.{words_in};
@@ -24,9 +25,10 @@ use dayfile::route::Way;
 use index::{Index, words};
 use moves::{cover, cut, sums, told};
 use orders::{status, tick};
+use report::answer;
 use report::answer::Answer;
 use rules::verdict::{About, Does, Facts, Mover, Verdict};
-use rules::{Book, Cover, Order, Status};
+use rules::{Book, Cover, Order, Status, constants};
 use sight::Seen;
 use ticket::kinds::Kind;
 use ticket::layout;
@@ -35,11 +37,11 @@ use ticket::layout;
 pub struct KeptBook {
     pub book: Book,
     // the index of the orders' keys, payer and TxId
-    keys: Index<7, 256>,
+    pub keys: Index<7, 256>,
     // all cover together
-    total: u64,
+    pub total: u64,
     // no order before it waits for a bank
-    next: usize,
+    pub next: usize,
     ghost kept: { Kept words_in book keys total next },
 }
 
@@ -48,6 +50,13 @@ pub struct KeptBook {
 struct Carried {
     reports: usize,
     rows: usize,
+}
+
+// Whether one ticket more is taken, by the bytes that are left of tickets, answers and reports.
+fn room_left(tickets: usize, answers: usize, reports: usize) -> bool
+    ensures { result ≡ room_left tickets answers reports }
+{
+    (layout::LENGTH <= tickets) & (answer::LENGTH <= answers) & (constants::LEAST_BUFFER <= reports)
 }
 
 fn txid_of(t: &[u8]) -> [u8; 35]
@@ -88,6 +97,7 @@ impl KeptBook {
     ghost use Rattle.rules.specs.Terms.{terms_of};
     ghost use Rattle.rules.specs.Tick.{at_time};
     ghost use Rattle.rules.specs.declared.Book.{Book};
+    ghost use Rattle.course.specs.Running.{Ran};
     ghost use Rattle.course.specs.Seeking.{seeks_open, sought};
     ghost use Rattle.verdict.specs.Judgement.{verdict_of};
     ghost use Rattle.verdict.specs.Meaning.{facts_of, decision_by};
@@ -97,20 +107,6 @@ impl KeptBook {
     ghost use Rattle.turns.specs.Turn.{swept_at, Expired, CarriedOut, Turned};
     ghost use Rattle.engine.specs.Directory.{Directs};
     ghost use Rattle.engine.specs.Turns.{entry_by};
-
-    pub fn new(book: Book) -> KeptBook
-        requires { Sound book }
-        ensures { result.book ≡ book }
-    {
-        let keys = index::keys_of(&book.roster.participants, &book.orders, book.count);
-        let total = sums::total_of(&book.covers[..book.roster.size]);
-        KeptBook {
-            book,
-            keys,
-            total,
-            next: 0,
-        }
-    }
 
     fn see(&self, d: &Directory, t: &[u8]) -> Result<Seen, u8>
         requires sound { Sound self.now.book }
@@ -287,7 +283,7 @@ impl KeptBook {
     }
 
     // The turn of a ticket, n reports standing in the buffer before it.
-    pub fn turn(&mut self, d: &Directory, t: &[u8], reports: &mut [u8], n: usize) -> Answer
+    fn turn(&mut self, d: &Directory, t: &[u8], reports: &mut [u8], n: usize) -> Answer
         requires sound { Sound self.old.book }
         requires lent { Directs self.old.book.roster d.now }
         requires whole { length t.now ≡ ticket_length }
@@ -320,5 +316,33 @@ impl KeptBook {
             reports: (carried.reports - n) as u16,
             rows: carried.rows as u8,
         }
+    }
+
+    // Tickets have their turns as long as there is room for one more. The answer is how many were taken.
+    pub fn take(
+        &mut self,
+        d: &Directory,
+        tickets: &[u8],
+        answers: &mut [u8],
+        reports: &mut [u8],
+    ) -> usize
+        requires sound { Sound self.old.book }
+        requires lent { Directs self.old.book.roster d.now }
+        ensures { Ran self.old.book tickets.now answers.old reports.old self.new.book result answers.new reports.new }
+    {
+        let mut taken = 0;
+        let mut n = 0;
+        while room_left(
+            tickets.len() - layout::LENGTH * taken,
+            answers.len() - answer::LENGTH * taken,
+            reports.len() - report::LENGTH * n,
+        ) {
+            let at = layout::LENGTH * taken;
+            let answer = self.turn(d, &tickets[at..at + layout::LENGTH], reports, n);
+            answer::put_answer(answers, taken, answer);
+            n += answer.reports as usize;
+            taken += 1;
+        }
+        taken
     }
 }

@@ -7,12 +7,13 @@ mod kept;
 
 ghost use Rattle.std.specs.Prelude.{◌≡◌};
 ghost use Rattle.rules.specs.Sound.{Sound};
-ghost use Rattle.course.specs.Running.{room_left, Ran};
+ghost use Rattle.course.specs.Running.{Ran};
 
+use directory::Directory;
+use index::Index;
 use kept::KeptBook;
-use report::answer;
-use rules::{Book, constants};
-use ticket::layout;
+use moves::sums;
+use rules::Book;
 
 // The book afterwards, and how many tickets were taken.
 #[derive(Clone, Copy)]
@@ -21,34 +22,27 @@ pub struct Batch {
     pub taken: usize,
 }
 
-// Whether one ticket more is taken, by the bytes that are left of tickets, answers and reports.
-fn room_left(tickets: usize, answers: usize, reports: usize) -> bool
-    ensures { result ≡ room_left tickets answers reports }
-{
-    (layout::LENGTH <= tickets) & (answer::LENGTH <= answers) & (constants::LEAST_BUFFER <= reports)
-}
-
 // Takes tickets of 108 bytes as long as there is a whole one, 4 bytes for its answer and 6,528 for its reports.
 pub fn run(b: Book, tickets: &[u8], answers: &mut [u8], reports: &mut [u8]) -> Batch
     requires { Sound b }
     ensures { Ran b tickets.now answers.old reports.old result.book result.taken answers.new
         reports.new }
 {
-    let directory = directory::directory_of(&b.roster);
-    let mut kept = KeptBook::new(b);
-    let mut taken = 0;
-    let mut n = 0;
-    while room_left(
-        tickets.len() - layout::LENGTH * taken,
-        answers.len() - answer::LENGTH * taken,
-        reports.len() - report::LENGTH * n,
-    ) {
-        let at = layout::LENGTH * taken;
-        let answer = kept.turn(&directory, &tickets[at..at + layout::LENGTH], reports, n);
-        answer::put_answer(answers, taken, answer);
-        n += answer.reports as usize;
-        taken += 1;
-    }
+    let mut directory = Directory {
+        bics: Index::new(),
+        routes: Index::new(),
+    };
+    directory::put_directory(&b.roster, &mut directory);
+    let mut keys = Index::new();
+    index::put_keys(&b.roster.participants, &b.orders, b.count, &mut keys);
+    let total = sums::total_of(&b.covers[..b.roster.size]);
+    let mut kept = KeptBook {
+        book: b,
+        keys,
+        total,
+        next: 0,
+    };
+    let taken = kept.take(&directory, tickets, answers, reports);
     Batch {
         book: kept.book,
         taken,

@@ -1,68 +1,48 @@
--- Tickets are taken one after the other, each by one step of the rules. Assumes nothing.
-use mathlib.Core.Path.{sym, subst}
+-- A book is kept from its index, all cover and no order looked at on. Assumes nothing.
+use mathlib.Core.Path.{sym, ◌∙◌}
+use native.Mathlib.Nat.{not-suc-le-zero}
 use native.Mathlib.Omega.{arith}
-use Rattle.dayfile.specs.declared.roster.Roster.{Roster}
-use Rattle.rules.specs.declared.Book.{Book}
-use Rattle.course.proofs.Running.{Going, started, ended}
-use Rattle.turns.proofs.Done.{going_on}
-use Rattle.engine.specs.Directory.{Directs}
-use Rattle.engine.proofs.Heading.{ticket_is, bytes-long, text-long, none_more, more, room, whole-ticket}
+use Rattle.codes.proofs.WholeCodes.{bic-length}
+use Rattle.moves.proofs.InUse.{total-front}
+use Rattle.course.proofs.Seeking.{total-sum}
+use Rattle.course.proofs.Summing.{all-total}
+use Rattle.turns.proofs.CarryingOut.{all-is}
 use Rattle.engine.proofs.run.Goals as goal
 
-pub directory_of-directory-requires : goal.directory_of-directory-requires
-directory_of-directory-requires c = c.requires.roster
+pub put_directory-requires-clause-roster : goal.put_directory-requires-clause-roster
+put_directory-requires-clause-roster c = c.requires.roster
 
-pub new-kept-requires : goal.new-kept-requires
-new-kept-requires c = c.requires
+pub put_keys-requires-clause-formed : goal.put_keys-requires-clause-formed
+put_keys-requires-clause-formed c =
+    let s = c.requires in
+    let size = s.roster.size in (
+      s.orders.count,
+      λ i l. let payer = s.orders.payer i l in omega arith,
+      λ i l. bic-length _ (s.roster.bic _ (s.orders.payer i l)),
+      s.orders.padded,
+    )
 
-pub loop-directory-init : goal.loop-directory-init
-loop-directory-init c =
-    let tickets = c.args.tickets.now in
-    let answers = c.args.answers.now in
-    let reports = c.args.reports.now in
-    let e = sym c.new-kept.ensures in
+pub total_of-total-requires : goal.total_of-total-requires
+total_of-total-requires c = rw (total-front c.args.b.covers c.args.b.roster.size, total-sum c.args.b) c.requires.limited
+
+pub invariant_of-kept : goal.invariant_of-kept
+invariant_of-kept c =
     record {
-      going =
-          subst (λ (x : Book). Going c.args.b tickets answers reports x 0 0 answers reports) e
-          (started c.args.b tickets answers reports c.requires);
-      lent = subst (λ (x : Book). Directs x.roster c.directory_of-directory.result) e c.directory_of-directory.ensures;
+      kept = record {
+        index = record { keys = c.put_keys.ensures };
+        sum =
+            c.total_of-total.ensures
+            ∙ total-front c.args.b.covers c.args.b.roster.size
+            ∙ total-sum c.args.b
+            ∙ sym (all-total c.args.b c.requires)
+            ∙ all-is c.args.b.covers;
+        passed = record { none = λ i l. absurd (not-suc-le-zero l) };
+        few = omega arith;
+      };
     }
 
-pub turn-answer-requires-clause-sound : goal.turn-answer-requires-clause-sound
-turn-answer-requires-clause-sound c = c.loop-directory.invariant.going.sound
+pub take-taken-requires-clause-sound : goal.take-taken-requires-clause-sound
+take-taken-requires-clause-sound c = c.requires
 
-pub turn-answer-requires-clause-lent : goal.turn-answer-requires-clause-lent
-turn-answer-requires-clause-lent c = c.loop-directory.invariant.lent
-
-pub turn-answer-requires-clause-whole : goal.turn-answer-requires-clause-whole
-turn-answer-requires-clause-whole c = whole-ticket c.loop-directory.invariant.going c.room_left.ensures c.loop-directory-test.true
-
-pub turn-answer-requires-clause-room : goal.turn-answer-requires-clause-room
-turn-answer-requires-clause-room c =
-    let g = c.loop-directory.invariant.going in
-    let h = (room g c.room_left.ensures c.loop-directory-test.true).report in
-    let long = text-long g in
-    omega arith
-
-pub put_answer-requires : goal.put_answer-requires
-put_answer-requires c =
-    let g = c.loop-directory.invariant.going in
-    let h = (room g c.room_left.ensures c.loop-directory-test.true).answer in
-    let long = bytes-long g in
-    omega arith
-
-pub loop-directory-preserved : goal.loop-directory-preserved
-loop-directory-preserved c =
-    let v = c.loop-directory.invariant in
-    let turned = c.turn-answer.ensures in
-    record {
-      going =
-          going_on v.going (more v.going c.room_left.ensures c.loop-directory-test.true)
-          (ticket_is c.args.tickets.now c.loop-directory.taken) turned c.put_answer.ensures;
-      lent = subst (λ (r : Roster). Directs r c.directory_of-directory.result) (sym turned.roster) v.lent;
-    }
-
-pub returns : goal.returns
-returns c =
-    let g = c.loop-directory.invariant.going in
-    ended c.args.b c.args.tickets.now c.args.answers.now c.args.reports.now g (none_more g c.room_left.ensures c.loop-directory-test.false)
+pub take-taken-requires-clause-lent : goal.take-taken-requires-clause-lent
+take-taken-requires-clause-lent c = c.put_directory.ensures

@@ -4,7 +4,7 @@ use Rattle.dayfile.specs.Roster.{participant_in}
 use Rattle.rules.specs.Book.{order_of}
 use Rattle.index.specs.RowChains.{rows_of}
 use Rattle.index.specs.Words.{key_words}
-use Rattle.index.proofs.keys_of.Given as goal
+use Rattle.index.proofs.put_keys.Given as goal
 
 abbrev pub invariant-loop-i : goal.invariant-loop-i
 invariant-loop-i l =

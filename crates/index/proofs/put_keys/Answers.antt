@@ -1,11 +1,11 @@
 use Rattle.std.proofs.Common.{◌≡◌, ◌∙◌, length, ap, lit<, arith}
 use Rattle.index.proofs.RowsOf.{length-of}
-use Rattle.index.proofs.keys_of.Goals as goal
+use Rattle.index.proofs.put_keys.Goals as goal
 
 pub push-requires : goal.push-requires
 push-requires c =
     let made = ap length c.loop-i.invariant.1 ∙ length-of _ c.loop-i.i in
-    let few = c.requires.0 in
+    let few = c.requires.formed.0 in
     (lit< tt, (lit< tt, omega arith))
 
 pub returns : goal.returns
