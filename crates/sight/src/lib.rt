@@ -29,13 +29,14 @@ pub struct Seen {
     pub route: Option<usize>,
 }
 
-// Of a ticket of 108 bytes: what is seen of it, or the number of its refusal. Lent are the rows of participants, orders and route rows.
-pub fn see(
+// Of a ticket of 108 bytes: what is seen of it, or the number of its refusal. Lent are the rows of participants, orders and route rows,
+// any number of each.
+pub fn see<const P: usize, const O: usize, const R: usize>(
     clock: u32,
     t: &[u8],
-    bics: &Index<2, 32>,
-    keys: &Index<7, 256>,
-    routes: &Index<2, 64>,
+    bics: &Index<2, P>,
+    keys: &Index<7, O>,
+    routes: &Index<2, R>,
 ) -> Result<Seen, u8>
     requires { (length t.now ≡ ticket_length) × BicRows bics.now × KeyRows keys.now × BicRows routes.now }
     ensures { result ≡ sight_of clock t.now

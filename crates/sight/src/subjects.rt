@@ -112,12 +112,12 @@ fn order(
 }
 
 // Of a ticket of a kind. What the kind asks for is searched for before any code's form is looked at: a code that is found is well formed.
-pub fn parties_of(
+pub fn parties_of<const P: usize, const O: usize, const R: usize>(
     t: &[u8],
     kind: Kind,
-    bics: &Index<2, 32>,
-    keys: &Index<7, 256>,
-    routes: &Index<2, 64>,
+    bics: &Index<2, P>,
+    keys: &Index<7, O>,
+    routes: &Index<2, R>,
 ) -> Result<Parties, u8>
     requires { (length t.now ≡ ticket_length) × (kinded (kind_byte t.now) (flag_byte t.now) ≡ Some kind)
         × BicRows bics.now × KeyRows keys.now × BicRows routes.now }

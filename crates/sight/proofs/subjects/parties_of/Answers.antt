@@ -20,10 +20,11 @@ use Rattle.sight.specs.Sight.{sight_of}
 use Rattle.sight.specs.Value.{formed_sight}
 use Rattle.sight.specs.declared.Seen.{Seen}
 use Rattle.sight.proofs.Knowing.{known-sender, known-payee, known-key, order-payer, about-payer}
+use Rattle.sight.proofs.subjects.parties_of.Given.{Over}
 use Rattle.sight.proofs.subjects.parties_of.Goals.{After-subject_of}
 use Rattle.sight.proofs.subjects.parties_of.Goals as goal
 
-module _ (c : After-subject_of) where
+module _ (g : Over) (c : After-subject_of g) where
   -- what was handed in, and what is found for it
   abbrev t : List ℕ
   t = c.args.t.now
@@ -79,52 +80,52 @@ searched : {f : Option ℕ} {ws words : List ℕ} (rows : List (List ℕ)) → f
 searched rows e is = e ∙ ap (λ (ws : List ℕ). first_with ws rows) is
 
 pub cover-requires : goal.cover-requires
-cover-requires c =
-    let s = (goal.at.cover-requires c).After-subject_of in (
-      naming s Sender c.in-Sender.is,
-      known-sender (t s) (whole s) (bytes s) c.requires.2 _ (searched c.args.bics.now c.find-sender.ensures c.bic_words.ensures),
+cover-requires g c =
+    let s = (goal.at.cover-requires g c).After-subject_of in (
+      naming g s Sender c.in-Sender.is,
+      known-sender (t g s) (whole g s) (bytes g s) c.requires.2 _ (searched c.args.bics.now c.find-sender.ensures c.bic_words.ensures),
     )
 
 pub order-requires : goal.order-requires
-order-requires c =
-    let s = (goal.at.order-requires c).After-subject_of in (
-      naming-order s c.in-NewOrder.is,
-      known-sender (t s) (whole s) (bytes s) c.requires.2 _ (searched c.args.bics.now c.find-sender-in-NewOrder.ensures c.bic_words-in-NewOrder.ensures),
-      known-key (t s) (whole s) (bytes s) c.requires.3 16 (lit≤ tt) _ (searched c.args.keys.now c.find-found.ensures c.key_words.ensures),
-      known-payee (t s) (whole s) (bytes s) c.requires.4 _ (searched c.args.routes.now c.find-route.ensures c.bic_words-in-NewOrder-2.ensures),
+order-requires g c =
+    let s = (goal.at.order-requires g c).After-subject_of in (
+      naming-order g s c.in-NewOrder.is,
+      known-sender (t g s) (whole g s) (bytes g s) c.requires.2 _ (searched c.args.bics.now c.find-sender-in-NewOrder.ensures c.bic_words-in-NewOrder.ensures),
+      known-key (t g s) (whole g s) (bytes g s) c.requires.3 16 (lit≤ tt) _ (searched c.args.keys.now c.find-found.ensures c.key_words.ensures),
+      known-payee (t g s) (whole g s) (bytes g s) c.requires.4 _ (searched c.args.routes.now c.find-route.ensures c.bic_words-in-NewOrder-2.ensures),
     )
 
 pub about-requires : goal.about-requires
-about-requires c =
-    let s = (goal.at.about-requires c).After-subject_of in (
-      naming s HeldOrder c.in-HeldOrder.is,
-      known-sender (t s) (whole s) (bytes s) c.requires.2 _ (searched c.args.bics.now c.find-sender-in-HeldOrder.ensures c.bic_words-in-HeldOrder.ensures),
-      known-key (t s) (whole s) (bytes s) c.requires.3 27 (lit≤ tt) _ (searched c.args.keys.now c.find-found-in-HeldOrder.ensures c.key_words-in-HeldOrder.ensures),
+about-requires g c =
+    let s = (goal.at.about-requires g c).After-subject_of in (
+      naming g s HeldOrder c.in-HeldOrder.is,
+      known-sender (t g s) (whole g s) (bytes g s) c.requires.2 _ (searched c.args.bics.now c.find-sender-in-HeldOrder.ensures c.bic_words-in-HeldOrder.ensures),
+      known-key (t g s) (whole g s) (bytes g s) c.requires.3 27 (lit≤ tt) _ (searched c.args.keys.now c.find-found-in-HeldOrder.ensures c.key_words-in-HeldOrder.ensures),
     )
 
 -- what each class sees
 pub returns-in-Nothing : goal.returns-in-Nothing
-returns-in-Nothing c clock =
-    let s = (goal.at.returns-in-Nothing c).After-subject_of in
-    c.nothing.ensures clock (sender s) (order s) (route s)
+returns-in-Nothing g c clock =
+    let s = (goal.at.returns-in-Nothing g c).After-subject_of in
+    c.nothing.ensures clock (sender g s) (order g s) (route g s)
 
 pub returns-in-Sender : goal.returns-in-Sender
-returns-in-Sender c clock =
-    let s = (goal.at.returns-in-Sender c).After-subject_of in
-    sees s clock (c.cover.ensures clock (order s) (route s)) (searched c.args.bics.now c.find-sender.ensures c.bic_words.ensures) refl refl
+returns-in-Sender g c clock =
+    let s = (goal.at.returns-in-Sender g c).After-subject_of in
+    sees g s clock (c.cover.ensures clock (order g s) (route g s)) (searched c.args.bics.now c.find-sender.ensures c.bic_words.ensures) refl refl
 
 pub returns-in-NewOrder : goal.returns-in-NewOrder
-returns-in-NewOrder c clock =
-    let s = (goal.at.returns-in-NewOrder c).After-subject_of in
-    ap (λ (k : Kind). formed_sight clock (t s) k c.order.result) (is-order s c.in-NewOrder.is)
-    ∙ sees s clock (c.order.ensures clock) (searched c.args.bics.now c.find-sender-in-NewOrder.ensures c.bic_words-in-NewOrder.ensures)
-    (by-payer s (order-payer (t s) (naming-order s c.in-NewOrder.is)) (searched c.args.keys.now c.find-found.ensures c.key_words.ensures))
+returns-in-NewOrder g c clock =
+    let s = (goal.at.returns-in-NewOrder g c).After-subject_of in
+    ap (λ (k : Kind). formed_sight clock (t g s) k c.order.result) (is-order g s c.in-NewOrder.is)
+    ∙ sees g s clock (c.order.ensures clock) (searched c.args.bics.now c.find-sender-in-NewOrder.ensures c.bic_words-in-NewOrder.ensures)
+    (by-payer g s (order-payer (t g s) (naming-order g s c.in-NewOrder.is)) (searched c.args.keys.now c.find-found.ensures c.key_words.ensures))
     (searched c.args.routes.now c.find-route.ensures c.bic_words-in-NewOrder-2.ensures)
 
 pub returns-in-HeldOrder : goal.returns-in-HeldOrder
-returns-in-HeldOrder c clock =
-    let s = (goal.at.returns-in-HeldOrder c).After-subject_of in
-    sees s clock (c.about.ensures clock (route s)) (searched c.args.bics.now c.find-sender-in-HeldOrder.ensures c.bic_words-in-HeldOrder.ensures)
-    (by-payer s (about-payer (kind s) (t s) (naming s HeldOrder c.in-HeldOrder.is))
+returns-in-HeldOrder g c clock =
+    let s = (goal.at.returns-in-HeldOrder g c).After-subject_of in
+    sees g s clock (c.about.ensures clock (route g s)) (searched c.args.bics.now c.find-sender-in-HeldOrder.ensures c.bic_words-in-HeldOrder.ensures)
+    (by-payer g s (about-payer (kind g s) (t g s) (naming g s HeldOrder c.in-HeldOrder.is))
     (searched c.args.keys.now c.find-found-in-HeldOrder.ensures c.key_words-in-HeldOrder.ensures))
     refl
