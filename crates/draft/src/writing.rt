@@ -5,12 +5,14 @@ ghost use Rattle.fields.specs.Text.{padded};
 ghost use Rattle.ticket.specs.TicketLayout.{ticket_length};
 ghost use Rattle.ticket.specs.TicketWriting.{order_ticket};
 
+// Byte by byte: copied as a whole, the reader for C would want memmove.
 fn put_bytes(ticket: &mut [u8], at: usize, s: &[u8])
     requires { at + length s.now ≤ length ticket.old }
     ensures { ticket.new ≡ sets ticket.old at s.now }
 {
-    let end = at + s.len();
-    ticket[at..end].copy_from_slice(s);
+    for i in 0..s.len() {
+        ticket[at + i] = s[i];
+    }
 }
 
 fn put_padded(ticket: &mut [u8], at: usize, width: usize, s: &[u8])
