@@ -2,6 +2,7 @@
 --     Sighted         it is the ticket's, and what was found is what is sought
 --     sight-read      of a ticket that passes
 --     sight-refused   of one that 7 to 11 refuse
+--     else_refused    what is not read is refused, by its number
 use Rattle.std.specs.Prelude.{◌≡◌, ℕ, Bool, true, false, cond, eqb, List, Result, Ok, Err}
 use mathlib.Core.Path.{refl, sym, ◌∙◌, ap, subst}
 use native.Mathlib.Omega.{arith}
@@ -27,6 +28,10 @@ number_in (Err n) = n
 abbrev is_read : Result Seen ℕ → ℕ
 is_read (Ok x) = 1
 is_read (Err n) = 0
+
+pub else_refused : (x : Result Seen ℕ) → ((y : Seen) → x ≡ Ok y → ⊥) → x ≡ Err (number_in x)
+else_refused (Ok y) none = absurd (none y refl)
+else_refused (Err n) none = refl
 
 pub record Sighted (b : Book) (t : List ℕ) (y : Seen) : Type 0 where
   pub is : entry_by y ≡ entry_of b.clock t

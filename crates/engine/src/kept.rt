@@ -266,7 +266,8 @@ impl KeptBook {
             }
             Does::Becomes(status) => {
                 let i = s.order.unwrap_or(0);
-                self.book.orders[i] = status::with_status(self.book.orders[i], status);
+                let changed = status::with_status(self.book.orders[i], status);
+                self.book.orders[i] = changed;
                 Carried {
                     reports: n,
                     rows: 0,

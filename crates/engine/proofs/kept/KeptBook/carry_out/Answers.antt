@@ -150,7 +150,7 @@ invariant_of-self c =
     let w = c.requires.after.1 in
     let m = c.put_cover-2.ensures ∙ ap (λ (x : Book). with_covers x (moved_by c.args.v.second c.args.v.amount x.covers)) c.put_cover.ensures in
     let s = after-sound w in
-    record { kept = changed-kept w c.requires.verdict m c.put_cover-2.new.self.kept c.in-Becomes.is (c.unwrap_or-i.ensures ∙ number_is s c.requires.sought) c.with_status.ensures }
+    record { kept = changed-kept w c.requires.verdict m c.put_cover-2.new.self.kept c.in-Becomes.is (c.unwrap_or-i.ensures ∙ number_is s c.requires.sought) c.with_status-changed.ensures }
 
 pub cut_all-n-requires-clause-size : goal.cut_all-n-requires-clause-size
 cut_all-n-requires-clause-size c =
@@ -234,7 +234,7 @@ returns-in-Becomes c =
     let m = c.put_cover-2.ensures ∙ ap (λ (x : Book). with_covers x (moved_by c.args.v.second c.args.v.amount x.covers)) c.put_cover.ensures in
     let s = after-sound w in
     let told = written-as c.put_notices-n.ensures.0 c.put_notices-n.ensures.1 in
-    changed w c.requires.verdict m c.in-Becomes.is (c.unwrap_or-i.ensures ∙ number_is s c.requires.sought) c.with_status.ensures refl told
+    changed w c.requires.verdict m c.in-Becomes.is (c.unwrap_or-i.ensures ∙ number_is s c.requires.sought) c.with_status-changed.ensures refl told
 
 pub returns-in-Cuts : goal.returns-in-Cuts
 returns-in-Cuts c =

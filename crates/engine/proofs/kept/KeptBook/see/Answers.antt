@@ -1,4 +1,5 @@
 -- What is searched is what the book finds. Assumes nothing.
+use Rattle.std.proofs.Common.{lit<}
 use mathlib.Core.Path.{refl, ◌∙◌}
 use Rattle.index.proofs.Comparing.{slice-bytes}
 use Rattle.engine.proofs.Searching.{keys-lent, all_found}
@@ -6,8 +7,16 @@ use Rattle.engine.proofs.kept.KeptBook.see.Goals as goal
 
 pub see-requires : goal.see-requires
 see-requires c =
-    let d = c.requires.lent in
-    (c.requires.whole, d.senders, keys-lent c.requires.sound c.args.self.now.kept.index, d.payees)
+    let d = c.requires.lent in (
+      lit< tt,
+      (
+        lit< tt,
+        (
+          lit< tt,
+          (c.requires.whole, d.senders, keys-lent c.requires.sound c.args.self.now.kept.index, d.payees),
+        ),
+      ),
+    )
 
 pub returns : goal.returns
 returns c =
