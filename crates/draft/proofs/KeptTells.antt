@@ -1,4 +1,8 @@
--- What was kept tells the verdict. Assumes nothing.
+-- What was kept tells the verdict.
+--     told-fault, told-missing, told-texts    by what is wrong, by the row that is due, by the five texts
+--     Placed, FivePlaced, five-placed         the five texts lie in their places within a text of n bytes, where a test says so
+--     told-placed, told-misplaced             the reader keeps none that don't
+-- Assumes nothing.
 use mathlib.Core.Path.{◌≡◌, refl, sym, ◌∙◌, ap, ap₂}
 use mathlib.Core.Bool.{Bool, true, false, ◌&&◌}
 use mathlib.Core.List.{List, [], ◌++◌, append-nil}
@@ -41,10 +45,11 @@ told-missing time seen kept (inl right) e h =
 told-missing time seen kept (inr wrong) e h =
     let z : ◌≡◌ {A = Option Refused} None (Some wrong.refused) = sym e ∙ wrong.fault in cc
 
--- each of the five texts lies in its place: from there on within n bytes
+-- where the text kept of a row ends
 abbrev pub end_kept : Notes → Text → ℕ → ℕ
 end_kept kept blank r = (get_or kept.texts r blank).place + length (get_or kept.texts r blank).bytes.now
 
+-- each of the five texts lies in its place
 pub record Placed (kept : Notes) (blank : Text) (n r : ℕ) : Type 0 where
   pub ordered : (get_or kept.texts r blank).place ≤ end_kept kept blank r
   pub within : end_kept kept blank r ≤ n
