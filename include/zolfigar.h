@@ -62,7 +62,7 @@ uint8_t zolfigar_txid_ok(const uint8_t *bytes, size_t length);
  *
  * The text and the ticket may not overlap; nobody writes the text, and nobody else reads or writes the ticket, before the call
  * returns; either pointer may be null where its length is 0. Nothing is kept or allocated. Some 2,000 bytes of stack are used, and
- * some 200,000 in a tag of more than 16 attributes: as any text may have one, a thread needs room for that. Calls from several threads
+ * some 160,000 in a tag of more than 16 attributes: as any text may have one, a thread needs room for that. Calls from several threads
  * don't disturb each other. */
 uint8_t zolfigar_pacs008(const uint8_t *text, size_t text_length, uint32_t time, uint8_t *ticket, size_t ticket_length);
 

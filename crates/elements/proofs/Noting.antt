@@ -3,6 +3,8 @@
 --     Looked         what the calls have answered where nothing was
 --     found-wrong    the element has a fault
 --     kept_on        it has none, and is kept
+--     no-places      of places nothing is said where there is a fault
+--     kept-placed    where there is none, the texts that are kept stand at theirs
 -- Assumes nothing.
 use mathlib.Core.Path.{◌≡◌, refl, sym, ◌∙◌, ap, ap₂, subst}
 use mathlib.Core.Logic.{inl, inr, ⊎_elim}
@@ -16,6 +18,7 @@ use lib.Dec.{eqb, ltb}
 use lib.ListN.{length, get_or, drop, length-set}
 use lib.Seq.{get_or-set_same, get_or-set_other}
 use Rattle.std.specs.Prelude.{Option, Some, None}
+use Rattle.fields.proofs.Compared.{below_or_not}
 use Rattle.fields.proofs.Tests.{and_left}
 use Rattle.xml.specs.Bytes.{is_text, run}
 use Rattle.xml.specs.Tree.{Attribute}
@@ -27,7 +30,7 @@ use Rattle.pacs.specs.declared.refusals.Refused.{Refused}
 use Rattle.pacs.specs.declared.refusals.Wrong.{Wrong}
 use Rattle.pacs.specs.Named.{Named, is_text_row}
 use Rattle.pacs.specs.Judged.{is_euro}
-use Rattle.pacs.specs.Kept.{placed_text, KeptRight, KeptWrong}
+use Rattle.pacs.specs.Kept.{placed_text, KeptRight, KeptWrong, StandsIn, KeptPlaced}
 use Rattle.elements.specs.Noted.{met_at, fault_of, told_fault, keeping, Noted}
 use Rattle.elements.proofs.Appending.{is_due, wrong_stays, goes-wrong, Added, goes_on}
 use Rattle.elements.proofs.Plain.{plain-read, text-read}
@@ -65,6 +68,9 @@ stays-wrong t row behind at nests kept h = λ seen fuel more space z e k.
     (λ (r : KeptRight seen kept). absurd (h r.fault))
     (λ (w : KeptWrong seen kept). inr (wrong_stays seen (met_at t row more at nests) kept w))
     k
+
+pub no-places : {R : Type 0} {fault : Option Refused} {refused : Refused} → fault ≡ Some refused → fault ≡ None → R
+no-places {refused = refused} some none = let z : ◌≡◌ {A = Option Refused} None (Some refused) = sym none ∙ some in cc
 
 -- what the calls have answered where nothing was wrong before
 pub record Looked (t : List ℕ) (row at : ℕ) (nests : Bool) (kept : Notes) (ends : ℕ) (fault : Option Wrong) : Type 0 where
@@ -167,3 +173,22 @@ module _ {t : List ℕ} {row at : ℕ} {nests : Bool} {kept : Notes} {ends : ℕ
         (λ (r : KeptRight seen kept). inl (right-on more (paid fuel more space z e) few seen r))
         (λ (x : KeptWrong seen kept). let some : ◌≡◌ {A = Option Refused} None (Some x.refused) = sym l.right ∙ x.fault in cc)
         k
+
+    pub kept-placed : row < 16 → StandsIn t found → KeptPlaced t kept → KeptPlaced t noted
+    kept-placed few stands placed e =
+        let before = placed l.right in
+        let q : row ≡ kept.due = eqb-true row kept.due (and_left (eqb row kept.due) l.plain matched) in
+        record {
+          rows = length-set kept.texts row found ∙ before.rows;
+          stand = λ r h x blank.
+              let met : r < row + 1 = h in
+              ⊎_elim
+              (λ (b : r < row).
+              subst (StandsIn t) (sym (get_or-set_other kept.texts row r found blank (λ (n : r ≡ row). omega arith)))
+              (before.stand r (omega arith) x blank))
+              (λ (b : row ≤ r).
+              let own : r ≡ row = omega arith in
+              let long : row < length kept.texts = omega (arith, before.rows) in
+              subst (StandsIn t) (sym (ap (λ (k : ℕ). get_or noted.texts k blank) own ∙ get_or-set_same kept.texts row found blank long)) stands)
+              (below_or_not r row);
+        }

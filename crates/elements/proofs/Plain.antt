@@ -2,21 +2,23 @@
 -- element's row asks for it, so both are told only there.
 --     plain-read     what the code tests is whether the row's text, if it is asked for, is plain
 --     text-read      the text between the two places is the element's
+--     stands-there   it stands in the text at its place
 -- Assumes nothing.
 use mathlib.Core.Path.{◌≡◌, refl, sym, ◌∙◌, ap}
 use mathlib.Core.Bool.{Bool, true, false, ◌&&◌, ◌||◌, not, cond}
 use mathlib.Core.List.{List, []}
-use Prim.Native.Nat.{ℕ, ◌+◌, ◌-◌}
+use Prim.Native.Nat.{ℕ, ◌+◌, ◌-◌, ◌≤◌}
 use native.Mathlib.Omega.{arith}
 use lib.Dec.{eqb}
-use lib.ListN.{get_or, take, drop}
-use lib.Seq.{drop-drop}
+use lib.ListN.{length, get_or, take, drop, length-drop}
+use lib.Seq.{drop-drop, length-take-le}
 use Rattle.xml.specs.Bytes.{is_text, run_length, run}
 use Rattle.xml.specs.Scanning.{first_byte}
 use Rattle.xml.proofs.Places.{first-at}
 use Rattle.scan.proofs.Runs.{run_end, past-run}
 use Rattle.pacs.specs.Walk.{end_follows}
-use Rattle.pacs.specs.Kept.{placed_text}
+use Rattle.pacs.specs.declared.notes.Text.{Text}
+use Rattle.pacs.specs.Kept.{placed_text, StandsIn}
 
 module _ (t : List ℕ) (at : ℕ) where
   -- the byte behind the one that ends the text
@@ -42,3 +44,12 @@ module _ (t : List ℕ) (at : ℕ) where
       let e : run_length is_text (drop at t) ≡ run_end is_text t at - at = omega arith in
       ap (λ (n : ℕ). take n (drop at t)) e
   text-read false = let e : 0 ≡ at - at = omega arith in ap (λ (n : ℕ). take n (drop at t)) e
+
+pub stands-there : (t : List ℕ) (x : Text) (ends : ℕ) → x.bytes.now ≡ placed_text t x.place ends → x.place ≤ ends → ends ≤ length t
+    → StandsIn t x
+stands-there t x ends is ordered within =
+    let long : length x.bytes.now ≡ ends - x.place =
+    ap length is ∙ length-take-le (ends - x.place) (drop x.place t) (omega (arith, length-drop x.place t))
+    in
+    let k : x.place + length x.bytes.now - x.place ≡ ends - x.place = omega arith in
+    record { within = omega arith; holds = ap (λ (n : ℕ). take n (drop x.place t)) k ∙ sym is }

@@ -5,6 +5,7 @@ ghost use Rattle.xml.specs.Tree.{Attribute};
 ghost use Rattle.xml.specs.Scanning.{attributes_in, attributed};
 ghost use Rattle.pacs.specs.Named.{is_text_row};
 ghost use Rattle.pacs.specs.Judged.{is_euro};
+ghost use Rattle.pacs.specs.Kept.{KeptPlaced};
 ghost use Rattle.elements.specs.Noted.{fault_of, told_fault, keeping, Noted};
 
 use super::{Tag, currency};
@@ -73,7 +74,8 @@ fn euro_of(text: &[u8], row: Row, behind: usize, old: bool) -> bool
 #[inline(never)]
 pub fn note<'a>(text: &'a [u8], row: Row, tag: Tag, notes: &mut Notes<'a>)
     requires { tag.end ≤ length text.now }
-    ensures { Noted text.now row.number tag.name_end tag.end tag.nests notes.old notes.new }
+    ensures { Noted text.now row.number tag.name_end tag.end tag.nests notes.old notes.new
+        × (KeptPlaced text.now notes.old → KeptPlaced text.now notes.new) }
 {
     if notes.fault.is_some() {
         return;

@@ -9,10 +9,12 @@ mod rows;
 pub use keeping::note;
 pub use rows::row_of;
 
-// A tag of a text: where its < stands, where its name and it itself end, and whether it is a start tag, in which others may nest.
+// A tag of a text: where its < stands, where its name begins and ends, where it itself ends, and whether it is a start tag, in which others
+// may nest.
 #[derive(Clone, Copy)]
 pub struct Tag {
     pub start: usize,
+    pub name: usize,
     pub name_end: usize,
     pub end: usize,
     pub nests: bool,

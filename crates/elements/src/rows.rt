@@ -1,7 +1,7 @@
 // The role of an element by that of the element around it and its name. Most elements of a message stand in one that is none of the named,
 // and are told by the first test; the name of another is compared with those alone that its parent's row has.
-ghost use Rattle.std.specs.Prelude.{◌≡◌, cond, ◌<◌};
-ghost use Rattle.pacs.specs.Named.{row_of, outside};
+ghost use Rattle.std.specs.Prelude.{◌≡◌, cond, ◌≤◌, ◌<◌};
+ghost use Rattle.pacs.specs.Named.{row_of, outside, skipped};
 ghost use Rattle.pacs.specs.Wrongs.{role_number};
 
 use pacs::rows::{Role, Row};
@@ -67,14 +67,17 @@ fn row_in(row: usize, name: &[u8]) -> Role
     }
 }
 
-// It is never what stands around the root.
+// It is one of the named elements or none of them, and never what stands around the root.
 #[inline(never)]
 pub fn row_of(parent: Role, name: &[u8]) -> Role
-    ensures { (role_number result ≡ row_of (role_number parent) name.now) × (role_number result ≡ outside → ⊥) }
+    ensures { (role_number result ≡ row_of (role_number parent) name.now)
+        × (role_number result ≤ skipped)
+        × (role_number result ≡ outside → ⊥) }
 {
     match parent {
         Role::Skipped => Role::Skipped,
         Role::Named(row) => row_in(row.number, name),
         Role::Outside => only(0, fields::same_bytes(b"LBFastCdtTrf", name)),
+        Role::Other(_) => Role::Skipped,
     }
 }

@@ -9,7 +9,7 @@ use Rattle.xml.specs.WellFormed.{deepest}
 use Rattle.pacs.specs.declared.notes.Notes.{Notes}
 use Rattle.pacs.specs.declared.open.Open.{Open}
 use Rattle.pacs.specs.Named.{Named}
-use Rattle.pacs.specs.Kept.{Kept}
+use Rattle.pacs.specs.Kept.{Kept, KeptPlaced}
 use Rattle.pacs.specs.Walk.{Frame, arrived, walk, root_walked}
 use Rattle.pacs.specs.Wrongs.{role_number}
 
@@ -36,3 +36,4 @@ pub record Going (t : List ℕ) (start at depth : ℕ) (stack : List Open) (kept
   pub walking : Walking t start fuel frames seen at
   pub stacked : Stacked frames stack
   pub keeps : Kept seen kept
+  pub placed : KeptPlaced t kept

@@ -4,8 +4,10 @@
 --     KeptRight     the elements met so far are the first rows, as they are due
 --     KeptWrong     they are not, whatever follows: what is wrong is kept
 --     Kept          one or the other
+--     StandsIn      a text that is kept stands in the text that is read at its place
+--     TextsPlaced   so does that of each row before the one that is due; KeptPlaced, where nothing is wrong
 -- Assumes nothing.
-use Rattle.std.specs.Prelude.{ℕ, ◌-◌, ◌≤◌, ◌<◌, ◌≡◌, ◌⊎◌, true, false, List, ◌++◌, length, get_or, take, drop, None, Some}
+use Rattle.std.specs.Prelude.{ℕ, ◌+◌, ◌-◌, ◌≤◌, ◌<◌, ◌≡◌, ◌⊎◌, true, false, List, ◌++◌, length, get_or, take, drop, None, Some}
 use Rattle.pacs.specs.declared.notes.Text.{Text}
 use Rattle.pacs.specs.declared.notes.Notes.{Notes}
 use Rattle.pacs.specs.declared.refusals.Refused.{Refused}
@@ -37,3 +39,15 @@ pub record KeptWrong (seen : List Named) (kept : Notes) : Type 0 where
 
 abbrev pub Kept : List Named → Notes → Type 0
 Kept seen kept = KeptRight seen kept ⊎ KeptWrong seen kept
+
+-- from its place on it lies within t, and t has its bytes there
+pub record StandsIn (t : List ℕ) (x : Text) : Type 0 where
+  pub within : x.place + length x.bytes.now ≤ length t
+  pub holds : placed_text t x.place (x.place + length x.bytes.now) ≡ x.bytes.now
+
+pub record TextsPlaced (t : List ℕ) (kept : Notes) : Type 0 where
+  pub rows : length kept.texts ≡ outside
+  pub stand : (r : ℕ) → r < kept.due → is_text_row r ≡ true → (blank : Text) → StandsIn t (get_or kept.texts r blank)
+
+abbrev pub KeptPlaced : List ℕ → Notes → Type 0
+KeptPlaced t kept = kept.fault ≡ None → TextsPlaced t kept

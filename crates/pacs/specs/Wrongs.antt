@@ -1,15 +1,15 @@
 -- What is wrong with a text, by numbers.
---     role_number     the row of an element, of what stands around the root, and of what is none of the named elements
+--     role_number     the row of an element, of what stands around the root, and of what is none of the named elements; or one behind these
 --     wrong_refusal   the refusal that it is: 23 to 25, 7 or 8
 --     wrong_number    the number for people
 --     refusal_in      the refusal of a reader's answer: 0 where there is none
 -- Assumes nothing.
-use Rattle.std.specs.Prelude.{ℕ, ◌+◌, Result, Ok, Err}
+use Rattle.std.specs.Prelude.{ℕ, suc, ◌+◌, Result, Ok, Err}
 use Rattle.pacs.specs.Named.{outside, skipped}
 use Rattle.pacs.specs.Judged.{element_refusal, amount_refusal, code_refusal, iban_refusal}
 use Rattle.pacs.specs.Answering.{form_refusal}
 use Rattle.pacs.specs.declared.rows.Role.{Role}
-use Rattle.pacs.specs.declared.rows.Role.TheVariants.{Outside, Named, Skipped}
+use Rattle.pacs.specs.declared.rows.Role.TheVariants.{Outside, Named, Skipped, Other}
 use Rattle.pacs.specs.declared.refusals.Refused.{Refused}
 use Rattle.pacs.specs.declared.refusals.Wrong.{Wrong}
 use Rattle.pacs.specs.declared.refusals.Wrong.TheVariants.{
@@ -38,6 +38,7 @@ abbrev pub role_number : Role → ℕ
 role_number Outside = outside
 role_number (Named row) = row.number
 role_number Skipped = skipped
+role_number (Other n) = suc skipped + n
 
 abbrev pub wrong_refusal : Wrong → ℕ
 wrong_refusal TooLong = form_refusal

@@ -19,10 +19,12 @@ pub struct Row {
     ghost in_range: { number < 16 },
 }
 
-// What an element is, or what stands around the root: one of the named elements, or none of them.
+// What an element is, or what stands around the root: one of the named elements, or none of them. Each number is that of one role.
 #[derive(Clone, Copy)]
 pub enum Role {
     Outside,
     Named(Row),
     Skipped,
+    // The number so far behind that of what is skipped. No element has it; as that of a parent it has no named element in it.
+    Other(usize),
 }

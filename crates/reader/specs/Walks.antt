@@ -13,7 +13,7 @@ use Rattle.pacs.specs.declared.refusals.Refused.{Refused}
 use Rattle.pacs.specs.Named.{Named, named, row_of}
 use Rattle.pacs.specs.Answering.{form_refusal}
 use Rattle.pacs.specs.Wrongs.{wrong_refusal}
-use Rattle.pacs.specs.Kept.{placed_text, Kept}
+use Rattle.pacs.specs.Kept.{placed_text, Kept, KeptPlaced}
 use Rattle.pacs.specs.Walk.{from_space, is_end, end_follows, astray, arrived, root_walked}
 
 abbrev pub EndRead : List ℕ → ℕ → List ℕ → Option ℕ → Type 0
@@ -26,6 +26,7 @@ pub record Met (t : List ℕ) (parent from to at : ℕ) (nests : Bool) (before a
   pub keeps : (seen : List Named) (u : Tag) (space z : List ℕ) → attributes_of (drop to t) ≡ attributed u.attributes space z
       → Kept seen before
       → Kept (seen ++ named row u (cond nests (run is_text (drop at t)) []) (cond nests (end_follows (drop at t)) true)) after
+  pub placed : KeptPlaced t before → KeptPlaced t after
 
 pub record RootOpened (t : List ℕ) (start behind next : ℕ) : Type 0 where
   pub less : get_or t start 0 ≡ 0x3c
@@ -42,6 +43,7 @@ pub record WalkedOn (t : List ℕ) (start at : ℕ) (kept : Notes) : Type 0 wher
   pub arrives : root_walked (drop start t) ≡ arrived root seen (drop at t)
   pub within : at ≤ length t
   pub keeps : Kept seen kept
+  pub placed : KeptPlaced t kept
 
 abbrev pub WalkedTo : List ℕ → ℕ → Notes → Result ℕ Refused → Type 0
 WalkedTo t start kept (Ok p) = WalkedOn t start p kept

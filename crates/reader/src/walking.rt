@@ -1,5 +1,5 @@
 // The walk through a text's elements, a tag at a time.
-ghost use Rattle.std.specs.Prelude.{◌≡◌, true, [], ◌<◌, length};
+ghost use Rattle.std.specs.Prelude.{◌≡◌, true, [], ◌+◌, ◌<◌, length};
 ghost use Rattle.pacs.specs.Answering.{form_refusal};
 ghost use Rattle.pacs.specs.Wrongs.{wrong_refusal};
 ghost use Rattle.pacs.specs.Kept.{Kept};
@@ -27,10 +27,13 @@ fn refused(fault: TagFault) -> Refused
 
 // What the root holds, from behind its start tag to behind its end tag. The open elements are kept, the outermost first.
 fn within<'a>(text: &'a [u8], root: Tag, notes: &mut Notes<'a>) -> Result<usize, Refused>
-    requires { RootOpened text.now root.start root.name_end root.end × (root.nests ≡ true) × Kept [] notes.old }
+    requires { RootOpened text.now root.start root.name_end root.end
+        × (root.nests ≡ true)
+        × (root.name ≡ root.start + 1)
+        × Kept [] notes.old }
     ensures { WalkedTo text.now root.start notes.new result }
 {
-    let name = &text[root.start + 1..root.name_end];
+    let name = &text[root.name..root.name_end];
     let role = meeting::meet(text, Role::Outside, root, notes);
     let mut open = [Open { name, role }; DEEPEST];
     let mut depth: usize = 1;
@@ -65,6 +68,7 @@ fn within<'a>(text: &'a [u8], root: Tag, notes: &mut Notes<'a>) -> Result<usize,
             TagEnd::Opens(end) => {
                 let tag = Tag {
                     start,
+                    name: start + 1,
                     name_end,
                     end,
                     nests: true,
@@ -78,6 +82,7 @@ fn within<'a>(text: &'a [u8], root: Tag, notes: &mut Notes<'a>) -> Result<usize,
             TagEnd::Closes(end) => {
                 let tag = Tag {
                     start,
+                    name: start + 1,
                     name_end,
                     end,
                     nests: false,
@@ -106,6 +111,7 @@ pub fn walk<'a>(text: &'a [u8], start: usize, notes: &mut Notes<'a>) -> Result<u
         Ok(TagEnd::Opens(end)) => {
             let root = Tag {
                 start,
+                name: start + 1,
                 name_end,
                 end,
                 nests: true,
@@ -115,6 +121,7 @@ pub fn walk<'a>(text: &'a [u8], start: usize, notes: &mut Notes<'a>) -> Result<u
         Ok(TagEnd::Closes(end)) => {
             let root = Tag {
                 start,
+                name: start + 1,
                 name_end,
                 end,
                 nests: false,

@@ -44,16 +44,16 @@ impl Tree {
     }
 
     // The tree gets one name more, that of attribute i. Where the same name was in it, its leaf is now the later one's.
-    fn add(&mut self, text: &[u8], places: &[usize; 13104], i: usize)
+    fn add(&mut self, text: &[u8], places: &[u32; 13104], i: usize)
         requires { i < 13104 }
     {
-        let name = name_in(from_place(text, places[i]));
+        let name = name_in(from_place(text, places[i] as usize));
         let end = self.last(name, i);
         let turn = self.nodes[end].turn(name);
         let Some(met) = name_of(self.nodes[end].links[turn] as usize) else {
             return;
         };
-        let other = name_in(from_place(text, places[met]));
+        let other = name_in(from_place(text, places[met] as usize));
         let k = alike(name, other);
         let differing = scan::byte(name, k) ^ scan::byte(other, k);
         match (u16::try_from(k), differing.checked_ilog2()) {
@@ -63,15 +63,19 @@ impl Tree {
         }
     }
 
-    // The tree of all names. At its first node every name takes the first link.
+    // The tree of all names, but for those from 2 ^ 32 bytes on: a place has 32 bits, so that the places take half as much of the stack. At its
+    // first node every name takes the first link.
     pub fn grow(&mut self, text: &[u8], count: usize)
         requires { count ≤ 13104 }
     {
-        let mut places = [0; 13104];
+        let mut places = [0u32; 13104];
         self.nodes[0].links[0] = 13104;
         let mut rest = text;
         for i in 0..count {
-            places[i] = text.len() - rest.len();
+            let Ok(place) = u32::try_from(text.len() - rest.len()) else {
+                return;
+            };
+            places[i] = place;
             self.add(text, &places, i);
             rest = behind(rest);
         }

@@ -18,7 +18,7 @@ use tree::Tree;
 
 // Many names, told apart by a tree: where each leads to its own leaf, no two are the same. Where one doesn't, it stands again behind
 // itself, or the tree is of no use and the names are compared pairwise; as the tree is grown that never happens. It stays a function of its
-// own for the compiler: put into `repeated`, its 200 KB of arrays would be made ready at each call, 150 nanoseconds for a tag of two
+// own for the compiler: put into `repeated`, its 160 KB of arrays would be made ready at each call, 150 nanoseconds for a tag of two
 // attributes.
 #[inline(never)]
 fn many(s: &[u8], count: usize) -> bool

@@ -6,7 +6,7 @@ use Rattle.xml.specs.Bytes.{is_name, run}
 use Rattle.xml.specs.Scanning.{attributes_of, TagRead, tag_behind}
 use Rattle.pacs.specs.declared.refusals.Refused.{Refused}
 use Rattle.pacs.specs.Wrongs.{wrong_refusal}
-use Rattle.pacs.proofs.Going.{root-no-name, root-not-tag, closes-of}
+use Rattle.pacs.proofs.Going.{none-placed, root-no-name, root-not-tag, closes-of}
 use Rattle.reader.proofs.Turns.{first, no-first, closed-root}
 use Rattle.reader.proofs.TagsRead.{opened, closed, no-tag-there}
 use Rattle.reader.proofs.walking.walk.Goals as goal
@@ -45,6 +45,7 @@ within-requires c =
         opens = read.read;
       },
       refl,
+      refl,
       c.requires,
     )
 
@@ -77,6 +78,7 @@ returns-in-Ok-Closes c =
     read.within
     c.meet.ensures.is
     (c.meet.ensures.keeps [] read.tag of.space of.rest of.attributes c.requires)
+    (c.meet.ensures.placed (none-placed t _ c.requires))
 
 pub returns-in-Err : goal.returns-in-Err
 returns-in-Err c =

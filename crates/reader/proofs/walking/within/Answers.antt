@@ -8,8 +8,10 @@ use Rattle.xml.specs.Bytes.{is_name, run}
 use Rattle.xml.specs.Scanning.{attributes_of, TagRead, tag_behind}
 use Rattle.xml.proofs.Places.{byte-within}
 use Rattle.pacs.specs.declared.refusals.Refused.{Refused}
+use Rattle.pacs.specs.Named.{row_of, outside}
+use Rattle.pacs.specs.Kept.{placed_text}
 use Rattle.pacs.specs.Wrongs.{wrong_refusal}
-use Rattle.pacs.proofs.Going.{no-tag, no_end, going-ends, no_name, too-deep, not-tag, going-opens, going-closes, root-opens, opens_of, closes-of}
+use Rattle.pacs.proofs.Going.{none-placed, no-tag, no_end, going-ends, no_name, too-deep, not-tag, going-opens, going-closes, root-opens, opens_of, closes-of}
 use Rattle.reader.proofs.Turns.{other-end, behind-end, first, no-first, no_slash}
 use Rattle.reader.proofs.TagsRead.{opened, closed, no-tag-there}
 use Rattle.reader.proofs.walking.within.Goals as goal
@@ -29,6 +31,7 @@ meet-role-requires c =
     let r = c.requires.0 in
     let later = r.later in
     let name = r.name in
+    let from = c.requires.2 in
     let within = r.within in
     (omega arith, omega arith, omega arith)
 
@@ -40,10 +43,14 @@ loop-depth-init c =
     let met = c.meet-role.ensures in
     let later = r.later in
     let name = r.name in
+    let from = ap (λ (n : ℕ). placed_text t n c.args.root.name_end) c.requires.2 in
     record {
       going =
-          root-opens t c.args.root.start r.less r.first r.name c.args.root.end r.tag _ _ _ met.is refl refl r.opens (omega arith)
-          (rw c.requires.1 at (met.keeps [] r.tag of.space of.rest of.attributes c.requires.2));
+          root-opens t c.args.root.start r.less r.first r.name c.args.root.end r.tag _ _ _ (met.is ∙ ap (row_of outside) from) refl (sym from)
+          r.opens
+          (omega arith)
+          (rw c.requires.1 at (met.keeps [] r.tag of.space of.rest of.attributes c.requires.3))
+          (met.placed (none-placed t _ c.requires.3));
       within = r.within;
       rows = omega arith;
     }
@@ -201,7 +208,8 @@ loop-depth-preserved-in-Opens c =
           few
           (omega arith)
           (omega (arith, c.loop-depth.invariant.rows))
-          (λ seen k. met.keeps seen read.tag of.space of.rest of.attributes k);
+          (λ seen k. met.keeps seen read.tag of.space of.rest of.attributes k)
+          met.placed;
       within = within;
       rows = rw length-set c.loop-depth.invariant.rows;
     }
@@ -265,7 +273,8 @@ loop-depth-preserved c =
           read.read
           few
           (omega arith)
-          (λ seen k. met.keeps seen read.tag of.space of.rest of.attributes k);
+          (λ seen k. met.keeps seen read.tag of.space of.rest of.attributes k)
+          met.placed;
       within = within;
       rows = c.loop-depth.invariant.rows;
     }
