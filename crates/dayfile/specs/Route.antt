@@ -1,5 +1,5 @@
 -- Following a payee BIC: 01 'Participants, routes, codes'. `followed` goes by where each row leads, a function from numbers to targets,
--- so that one definition serves the routes and the numbers that the code follows.
+-- so that its laws say nothing of lists; of a roster's routes that is `target_in`.
 --     target_in      where a row leads
 --     way_to         a participant, reached by a number of rows
 --     followed      from a row on, by where each leads: the participant reached and the number of rows followed, or None

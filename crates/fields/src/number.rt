@@ -1,6 +1,7 @@
 // Big-endian numbers of two, three, four and eight bytes, read from and written to a place in a slice, and whether the bytes at a place
-// are zero. A caller sees to it that the field lies within the slice. Each is one load or one store of the machine. There is a function
-// for each width and no trait: std's `from_be_bytes` is a method of each type by itself, so that each impl would have these bodies again.
+// are zero. A caller sees to it that the field lies within the slice. Two, four and eight bytes are each one load or one store of the
+// machine, and three are loaded in parts. There is a function for each width and no trait: std's `from_be_bytes` is a method of each type
+// by itself, so that each impl would have these bodies again.
 ghost use Rattle.std.specs.Prelude.{◌≡◌, ◌+◌, ◌≤◌, length};
 ghost use Rattle.std.proofs.lemmas.List.Edits.{sets};
 ghost use Rattle.fields.specs.Number.{part, number_at, bytes_of};

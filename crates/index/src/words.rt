@@ -1,5 +1,5 @@
 // Little-endian words of eight and of three bytes at a place in a slice, which a caller sees to it that the slice has, and the words of a
-// BIC and of a key. Read as here, four and eight bytes are each one load of the machine.
+// BIC and of a key. Read as here, eight bytes are one load of the machine.
 ghost use Rattle.std.specs.Prelude.{◌≡◌, ◌+◌, ◌≤◌, length};
 ghost use Rattle.fields.specs.Number.{part};
 ghost use Rattle.index.specs.Words.{word, bic_words, key_words};

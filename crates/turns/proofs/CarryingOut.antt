@@ -3,7 +3,7 @@
 --     first_movable, second_movable    each move fits
 --     verdict-few                  a verdict tells at most two
 --     covers-same, cut-silent      of a cut, the covers before it, and that nothing else is told
---     cut-size, cut-few, cut-whole   what a cut asks for
+--     cut-size, cut-whole          what a cut asks for
 use mathlib.Core.Path.{◌≡◌, refl, sym, ◌∙◌, ap, subst}
 use mathlib.Core.List.{List, []}
 use Prim.Native.Nat.{ℕ, ◌+◌, ◌≤◌, ◌<◌}
