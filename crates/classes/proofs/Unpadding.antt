@@ -1,13 +1,16 @@
 -- What is known of the bytes before the padding, by each byte and the one behind it. Assumes nothing.
 use mathlib.Core.Path.{◌≡◌, refl, sym, ◌∙◌, ap}
-use mathlib.Core.Bool.{Bool, true, false, ◌&&◌, cond, and-false, or-true, or-false}
+use mathlib.Core.Bool.{Bool, true, false, ◌&&◌, cond, and-true, and-false, or-true, or-false}
 use mathlib.Core.List.{List, [], ◌∷◌}
-use Prim.Native.Nat.{ℕ, zero, suc, ◌≤◌}
+use Prim.Native.Nat.{ℕ, zero, suc, ◌+◌, ◌≤◌, ◌<◌}
+use native.Mathlib.Nat.{add-zero}
 use native.Mathlib.Omega.{arith}
 use borrow.Author.Tests.{eqb-true}
 use lib.Dec.{leb, eqb}
-use lib.ListN.{length, get_or, take, drop, length-take}
+use lib.ListN.{length, get_or, take, drop, length-take, drop_of_length-le}
+use lib.Seq.{get_or-drop}
 use Rattle.fields.specs.Text.{blank, value_length, unpadded}
+use Rattle.fields.proofs.FromFront.{left-from}
 use Rattle.fields.proofs.Tests.{and_left}
 use Rattle.classes.specs.Class.{is_in, all_in}
 use Rattle.classes.specs.declared.Class.{Class}
@@ -59,6 +62,19 @@ all-stand class (c ∷ s) = go (all-stand class s) (eqb c 0) (blank s) refl refl
     go rest false b z e = simp (z, or-false, rest)
     go rest true true z e = simp (z, e, blank-first s e, or-true, rest ∙ ap (all_in class) (unpadded-blank s e))
     go rest true false z e = simp (z, e, zero-not-in class c z, rest) (inside e (eqb (get_or s 0 0) 0) refl)
+
+-- what is left from i on, and what the last byte leaves
+pub stand-from : (class : Class) (s : List ℕ) (i : ℕ) → i < length s
+    → all_stand class (drop i s) ≡ (stands class (get_or s i 0) (get_or s (i + 1) 0) && all_stand class (drop (i + 1) s))
+stand-from class s i h =
+    ap (all_stand class) (left-from s i h)
+    ∙ ap (λ (n : ℕ). stands class (get_or s i 0) n && all_stand class (drop (i + 1) s))
+    (get_or-drop (i + 1) s 0 0 ∙ ap (λ (k : ℕ). get_or s k 0) (add-zero (i + 1)))
+
+pub stand-last : (class : Class) (s : List ℕ) (i : ℕ) → i + 1 ≡ length s → all_stand class (drop i s) ≡ stands class (get_or s i 0) 0
+stand-last class s i e =
+    ap (all_stand class) (left-from s i (omega arith) ∙ ap (λ (t : List ℕ). get_or s i 0 ∷ t) (drop_of_length-le s {i = i + 1} (omega arith)))
+    ∙ and-true (stands class (get_or s i 0) 0)
 
 -- the value of a field is no longer than the field
 pub value-within : (s : List ℕ) → length (unpadded s) ≤ length s

@@ -5,7 +5,7 @@
 // IBAN's shape don't end in a zero, so that is all of them (`shape-whole`).
 #![tactic(auto)]
 
-ghost use Rattle.std.specs.Prelude.{◌≡◌, cond, length};
+ghost use Rattle.std.specs.Prelude.{◌≡◌, ◌≤◌, cond, length};
 ghost use Rattle.fields.specs.Text.{unpadded};
 ghost use Rattle.classes.specs.CheckAnswer.{answer};
 ghost use Rattle.classes.specs.Class.{all_in};
@@ -33,16 +33,22 @@ pub extern "C" fn zolfigar_bic_ok(s: &[u8]) -> u8
     u8::from(letters & area & place & branch)
 }
 
-// Whether all are capitals and digits. Most IBANs have 16 to 32 characters: their first sixteen and their last sixteen are all of them,
-// and the machine looks at sixteen at once.
+// Whether all are capitals and digits, where the first sixteen and the last sixteen are all: the machine looks at sixteen at once.
+fn sixteens_spelt(s: &[u8]) -> bool
+    requires { (16 ≤ length s.now) × (length s.now ≤ 32) }
+    ensures { result ≡ all_in CapitalOrDigit s.now }
+{
+    let n = s.len();
+    classes::all_in(Class::CapitalOrDigit, &s[..16])
+        & classes::all_in(Class::CapitalOrDigit, &s[n - 16..])
+}
+
+// The same of any bytes. Most IBANs have 16 to 32 characters.
 fn spelt(s: &[u8]) -> bool
     ensures { result ≡ all_in CapitalOrDigit s.now }
 {
     match s.len() {
-        n @ 16..=32 => {
-            classes::all_in(Class::CapitalOrDigit, &s[..16])
-                & classes::all_in(Class::CapitalOrDigit, &s[n - 16..])
-        }
+        16..=32 => sixteens_spelt(s),
         _ => classes::all_in(Class::CapitalOrDigit, s),
     }
 }

@@ -115,7 +115,7 @@ module _ (f : List ℕ) (h : Header) (head : headed f ≡ Some h) where
   pub file-ranged : ranged h ≡ Within → day_file f ≡ file_placed h f (placed h (length f))
   file-ranged range = file-headed ∙ ap (file_ranged h f) range
 
-  file-placed : ranged h ≡ Within → placed h (length f) ≡ Right
+  pub file-placed : ranged h ≡ Within → placed h (length f) ≡ Right
       → day_file f ≡ file_enrolled h f (enrolled h.offsets.participants h.counts.participants f)
   file-placed range place = file-ranged range ∙ ap (file_placed h f) place
 

@@ -44,7 +44,7 @@ opening-back : (o : Option ℕ) → opening_of (wish_number o) (opening_number o
 opening-back None = refl
 opening-back (Some n) = refl
 
-target-back : (t : Target) → target_of (target_kind t) (target_number t) ≡ t
+pub target-back : (t : Target) → target_of (target_kind t) (target_number t) ≡ t
 target-back (To p) = refl
 target-back (Row k) = refl
 

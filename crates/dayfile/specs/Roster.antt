@@ -79,10 +79,10 @@ no_participant = record { bic = replicate 11 0; kind = Bank; opening = None }
 abbrev pub no_route : Route
 no_route = record { bic = replicate 11 0; target = To 0 }
 
-abbrev participants_to : ℕ → ℕ → List ℕ → List Participant
+abbrev pub participants_to : ℕ → ℕ → List ℕ → List Participant
 participants_to start n f = rows_to most_participants no_participant (λ i. participant_at (start + participant_length * i) f) n
 
-abbrev routes_to : ℕ → ℕ → List ℕ → List Route
+abbrev pub routes_to : ℕ → ℕ → List ℕ → List Route
 routes_to start n f = rows_to most_routes no_route (λ i. route_at (start + route_length * i) f) n
 
 pub record RowsWithin (h : Header) (bytes : ℕ) : Type 0 where

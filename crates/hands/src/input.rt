@@ -1,5 +1,6 @@
 // One input: a ticket and a report buffer, handed in, and its lines.
 ghost use Rattle.std.specs.Prelude.{◌*◌, ◌≤◌, ◌≡◌, ◌==◌, not, length, position, unwrap_or};
+ghost use Rattle.rules.specs.Step.{outcome};
 ghost use Rattle.rules.specs.Sound.{Sound};
 
 use book::handing;
@@ -44,6 +45,17 @@ fn print_handed(rt: &impl Print, number: u64, h: &Handed, buffer: &[u8], fill: u
     )
 }
 
+// Hands a ticket in, and prints what came of it. The buffer has the fill alone.
+fn hand(rt: &impl Print, b: &mut Book, number: u64, ticket: &[u8], buffer: &mut [u8], fill: u8)
+    requires { Sound b.old }
+    ensures { (b.new ≡ (outcome b.old ticket.now buffer.old).book) × Sound b.new }
+{
+    let handed = handing::hand_in(*b, ticket, buffer);
+    *b = handed.book;
+    // what can't be written is left out, and nothing tells
+    let _ = print_handed(rt, number, &handed, buffer, fill);
+}
+
 // What stands before a ticket: the lengths of the ticket and the buffer, and the fill.
 #[derive(Clone, Copy)]
 struct Head {
@@ -84,9 +96,6 @@ pub fn hand_next(
         .get_mut(..head.buffer)
         .ok_or(io::ErrorKind::InvalidData)?;
     input.read_exact(ticket)?;
-    let handed = handing::hand_in(*b, ticket, buffer);
-    *b = handed.book;
-    // what can't be written is left out, and nothing tells
-    let _ = print_handed(rt, number, &handed, buffer, head.fill);
+    hand(rt, b, number, ticket, buffer, head.fill);
     Ok(())
 }

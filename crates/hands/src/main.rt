@@ -46,6 +46,13 @@ fn hand_all(rt: &impl Print, input: &mut impl Read, b: &mut Book, inputs: u32) -
     Ok(())
 }
 
+// The line with a case's name. Each part is tried; the error is that of the last, whatever became of those before it.
+fn print_name(rt: &impl Print, name: &[u8]) -> io::Result<()> {
+    let _ = rt.write_all(b"# ");
+    let _ = rt.write_all(name);
+    rt.write_all(b"\n")
+}
+
 // The lines of a case. What can't be written is left out. The error is that its name is, or that not all its inputs are there.
 fn print_case(
     rt: &impl Print,
@@ -54,7 +61,7 @@ fn print_case(
     file: &[u8],
     inputs: u32,
 ) -> io::Result<()> {
-    let named = streams::write_name(&mut io::writer(rt), name);
+    let named = print_name(rt, name);
     let opened = opening::open(file);
     let _ = println!(rt; "F {}", opened.refusal);
     let mut b = opened.book;

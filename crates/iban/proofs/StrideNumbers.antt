@@ -41,7 +41,7 @@ digits-read (c ∷ s) e =
     in
     omega arith
 
-digits-write : (r : Stride) (s : List ℕ) → all_in Digit s ≡ true → r.length ≡ length s → r.digits ≡ length s
+pub digits-write : (r : Stride) (s : List ℕ) → all_in Digit s ≡ true → r.length ≡ length s → r.digits ≡ length s
     → r.number ≡ read_decimal s - read_decimal (replicate (length s) 48) → Writes r s
 digits-write r s e l d n =
     record {
@@ -63,6 +63,9 @@ module _ (s : List ℕ) (i : ℕ) (h : i + 7 ≤ length s) (e : all_in Digit (pa
 
   less : read_decimal (replicate (length (part 7 i s)) 48) ≡ 53333328
   less = ap (λ (n : ℕ). read_decimal (replicate n 48)) (length_part 7 i s h)
+
+  pub seven-least : 53333328 ≤ seven_bytes s i
+  seven-least = omega (arith, digits-read (part 7 i s) e, seven-bytes, less)
 
   pub seven-write : (r : Stride) → r.length ≡ 7 → r.digits ≡ 7 → r.number ≡ seven_bytes s i - 53333328 → Writes r (part 7 i s)
   seven-write r l d n =

@@ -1,2 +1,3 @@
 pub mod DigitBounds
 pub mod Joining
+pub mod Quotient

@@ -40,8 +40,8 @@ fn behind(n: u32, power: u32, number: u32) -> u32
     n * power + number
 }
 
-// The remainder of n by 97. A product and a division by 2^37, which is a shift, give the quotient of numbers as small as these.
-// The compiler has to be right for all of 32 bits, and takes four instructions more, which the next group waits for.
+// The remainder of n by 97. A product and a division by 2^37, which is a shift, give the quotient of numbers as small as these
+// (`quotient`). The compiler has to be right for all of 32 bits, and takes four instructions more, which the next group waits for.
 fn by_97(n: u32) -> u32
     requires { n < 97 * 10 ^ 7 }
     ensures { result ≡ n % 97 }

@@ -22,7 +22,7 @@ pub fn read_full<R: Read>(input: &mut R, buffer: &mut [u8]) -> usize
     n
 }
 
-// The line that names a day or a case.
+// The line that names a day.
 pub fn write_name<W: Write>(to: &mut W, name: &[u8]) -> io::Result<()>
     ensures { OnOk result (Appends (W.contents to.old) (W.contents to.new)
         (codes "# " ++ (name.now ++ codes "\n"))) }

@@ -1,8 +1,9 @@
 -- `remainder::Held::put` meets its contract. Assumes nothing.
-use Prim.Native.Nat.{◌+◌, ◌*◌, ◌/◌, ◌^◌, ◌<◌}
+use mathlib.Core.Path.{refl, ◌∙◌, ap}
+use Prim.Native.Nat.{ℕ, ◌+◌, ◌*◌, ◌/◌, ◌^◌, ◌<◌}
 use native.Mathlib.Omega.{arith}
 use borrow.Author.Rules.{rules}
-use Rattle.remainder.proofs.Joining.{behind-fits, group-fits}
+use Rattle.remainder.proofs.Joining.{behind-fits, group-fits, held-taken}
 use Rattle.remainder.proofs.Held.put.Goals.{After-power_of-2}
 use Rattle.remainder.proofs.Held.put.Goals as goal
 
@@ -28,3 +29,11 @@ behind-group-requires c =
 pub carry-requires : goal.carry-requires
 carry-requires c =
     (c.requires.0.carried, search rules, rw c.behind-group.ensures (group-small (goal.at.carry-requires c).After-power_of-2))
+
+pub returns : goal.returns
+returns c =
+    let a = c.args in
+    held-taken a.self a.number a.digits c.requires.0 (omega arith) c.power_of-power.ensures.0 refl
+    (c.behind-group.ensures
+    ∙ ap (λ (p : ℕ). a.self.number * p + a.number / c.power_of-power.result) c.power_of-2.ensures.0)
+    c.carry.ensures.0
