@@ -29,7 +29,13 @@ fn seen(t: &[u8]) -> Result<Seen, u8> {
     if t.len() != layout::LENGTH {
         return Err(7);
     }
-    sight::see(0, t, &Index::<2, 32>::new(), &Index::<7, 256>::new(), &Index::<2, 64>::new())
+    sight::see(
+        0,
+        t,
+        &Index::<2, 32>::new(),
+        &Index::<7, 256>::new(),
+        &Index::<2, 64>::new(),
+    )
 }
 
 pub fn run_read(rt: &impl Print, line: &[u8]) -> io::Result<()> {
