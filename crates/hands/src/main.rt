@@ -23,6 +23,7 @@
 #![tactic(auto)]
 
 mod input;
+mod print;
 mod state;
 
 ghost use Rattle.rules.specs.Sound.{Sound};
@@ -54,12 +55,12 @@ fn print_case(
     file: &[u8],
     inputs: u32,
 ) -> io::Result<()> {
-    let named = streams::write_name(&mut io::writer(rt), name);
     let opened = opening::open(file);
-    let _ = println!(rt; "F {}", opened.refusal);
+    let named = print::print_name(rt, name);
+    print::print_line(rt, b"F", &[u64::from(opened.refusal)]);
     let mut b = opened.book;
     let handed = hand_all(rt, input, &mut b, inputs);
-    let _ = state::print_book(rt, &b);
+    state::print_book(rt, &b);
     handed.and(named)
 }
 

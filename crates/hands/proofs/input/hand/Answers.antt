@@ -1,6 +1,6 @@
--- `hands::input::hand_next` meets its contract. Assumes nothing.
+-- `hands::input::hand` meets its contract. Assumes nothing.
 use Rattle.hands.proofs.Within.{reports-within}
-use Rattle.hands.proofs.input.hand_next.Goals as goal
+use Rattle.hands.proofs.input.hand.Goals as goal
 
 pub print_handed-requires : goal.print_handed-requires
 print_handed-requires g c = reports-within c.requires c.hand_in-handed.ensures c.hand_in-handed.auto.buffer
