@@ -1,4 +1,5 @@
-// Cases of day files. `way_of` looks at each row, and at no more than 64, for which a roster has room, so it needs no `requires`.
+// Cases of day files. `way_of` looks at each row, and at no more than 64, for which a roster has room, so it needs no `requires`. What has room for
+// a file stays a function of its own for the compiler: put into its caller, it would have other cases clear that room.
 ghost use Rattle.std.specs.Prelude.{◌≡◌, position};
 ghost use Rattle.fields.specs.Text.{same};
 ghost use Rattle.dayfile.specs.DayFile.{day_file};
@@ -8,29 +9,36 @@ use super::{bytes, print, words};
 use dayfile::limits;
 use dayfile::roster::Route;
 use dayfile::route::Way;
-use std::io;
 
-fn print_way(rt: &impl Print, way: Option<Way>) -> io::Result<()> {
+fn print_way(rt: &impl Print, way: Option<Way>) {
     match way {
-        Some(way) => print!(rt; " {}/{}", way.participant, way.rows),
-        None => print!(rt; " -"),
+        Some(way) => {
+            let _ = print!(rt; " {}/{}", way.participant, way.rows);
+        }
+        None => print::put(rt, b" -"),
     }
 }
 
-pub fn run_file(rt: &impl Print, line: &[u8]) -> io::Result<()> {
-    let (name, groups) = words::split_first(line);
-    print::print_case(rt, b"file", name)?;
+#[inline(never)]
+fn print_file(rt: &impl Print, groups: &[u8]) {
     let mut room = [0u8; 65536];
     let d = dayread::read_day_file(bytes::put_bytes(groups, &mut room));
     let r = d.roster;
-    print!(rt;
-        " {} {} {} {} {}",
-        d.refusal, r.size, r.rows, d.tickets, d.first
-    )?;
+    print::print_number(rt, u64::from(d.refusal));
+    print::print_number(rt, r.size as u64);
+    print::print_number(rt, r.rows as u64);
+    print::print_number(rt, d.tickets as u64);
+    print::print_number(rt, d.first as u64);
     for row in 0..r.rows {
-        print_way(rt, routes::follow(&r.routes, row))?;
+        print_way(rt, routes::follow(&r.routes, row))
     }
-    println!(rt;)
+    print::print_end(rt)
+}
+
+pub fn run_file(rt: &impl Print, line: &[u8]) {
+    let (name, groups) = words::split_first(line);
+    print::print_case(rt, b"file ", name);
+    print_file(rt, groups)
 }
 
 // The first row with a BIC.
@@ -49,16 +57,15 @@ fn way_of(f: &[u8], bic: &[u8]) -> Option<Way>
     routes::end_of(&r, row_with(&r.routes[..rows], bic))
 }
 
-pub fn run_way(rt: &impl Print, line: &[u8]) -> io::Result<()> {
+#[inline(never)]
+pub fn run_way(rt: &impl Print, line: &[u8]) {
+    print::put(rt, b"way  ");
     let Some((name, rest)) = words::split_once(line) else {
-        rt.write_all(b"way  ")?;
         return print::print_unknown(rt, line);
     };
     let (bic, groups) = words::split_first(rest);
-    print::print_case(rt, b"way ", name)?;
-    rt.write_all(b" ")?;
-    rt.write_all(bic)?;
+    print::put(rt, &line[..name.len() + 1 + bic.len()]);
     let mut room = [0u8; 65536];
-    print_way(rt, way_of(bytes::put_bytes(groups, &mut room), bic))?;
-    println!(rt;)
+    print_way(rt, way_of(bytes::put_bytes(groups, &mut room), bic));
+    print::print_end(rt)
 }

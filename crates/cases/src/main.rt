@@ -22,9 +22,7 @@ mod print;
 mod tickets;
 mod words;
 
-use std::io;
-
-fn run_line(rt: &impl Print, line: &[u8]) -> io::Result<()> {
+fn run_line(rt: &impl Print, line: &[u8]) {
     let Some((first, rest)) = line.split_first_chunk::<5>() else {
         return print::print_unknown(rt, line);
     };
@@ -42,11 +40,10 @@ fn run_line(rt: &impl Print, line: &[u8]) -> io::Result<()> {
     }
 }
 
-// What can't be written of a line is left out, and nothing tells.
 fn main(rt: HostRuntime) {
     let mut buffer = [0u8; 65536];
     let n = streams::read_full(&mut rt.stdin(), &mut buffer);
     for line in buffer[..n].split_inclusive(|c| *c == b'\n') {
-        let _ = run_line(&rt, line.strip_suffix(b"\n").unwrap_or(line));
+        run_line(&rt, line.strip_suffix(b"\n").unwrap_or(line))
     }
 }

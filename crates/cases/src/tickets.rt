@@ -1,8 +1,8 @@
-// Cases of tickets.
+// Cases of tickets. What has room for indexes stays a function of its own for the compiler: put into its caller, it would have other cases
+// clear that room.
 use super::{bytes, print, words};
 use index::Index;
 use sight::Seen;
-use std::io;
 use ticket::kinds::Kind;
 use ticket::layout;
 
@@ -38,22 +38,32 @@ fn seen(t: &[u8]) -> Result<Seen, u8> {
     )
 }
 
-pub fn run_read(rt: &impl Print, line: &[u8]) -> io::Result<()> {
-    let (name, groups) = words::split_first(line);
-    print::print_case(rt, b"read", name)?;
-    let mut room = [0u8; 4096];
-    match seen(bytes::put_bytes(groups, &mut room)) {
-        Ok(s) => println!(rt; " 0 {} {} {}", kind_number(s.kind), s.time, s.amount),
-        Err(r) => println!(rt; " {r}"),
-    }
+fn print_fields(rt: &impl Print, s: Seen) {
+    print::print_number(rt, 0);
+    print::print_number(rt, u64::from(kind_number(s.kind)));
+    print::print_number(rt, u64::from(s.time));
+    print::print_number(rt, s.amount)
 }
 
-pub fn run_part(rt: &impl Print, line: &[u8]) -> io::Result<()> {
+#[inline(never)]
+pub fn run_read(rt: &impl Print, line: &[u8]) {
     let (name, groups) = words::split_first(line);
-    print::print_case(rt, b"part", name)?;
+    print::print_case(rt, b"read ", name);
+    let mut room = [0u8; 4096];
+    match seen(bytes::put_bytes(groups, &mut room)) {
+        Ok(s) => print_fields(rt, s),
+        Err(r) => print::print_number(rt, u64::from(r)),
+    }
+    print::print_end(rt)
+}
+
+pub fn run_part(rt: &impl Print, line: &[u8]) {
+    let (name, groups) = words::split_first(line);
+    print::print_case(rt, b"part ", name);
     let mut room = [0u8; 4096];
     let part = ticket::txid(bytes::put_bytes(groups, &mut room));
-    print!(rt; " {} ", part.len())?;
-    rt.write_all(part)?;
-    rt.write_all(b"\n")
+    print::print_number(rt, part.len() as u64);
+    print::put(rt, b" ");
+    print::put(rt, part);
+    print::print_end(rt)
 }

@@ -1,1 +1,2 @@
+mod Kept
 mod Within

@@ -23,6 +23,7 @@
 #![tactic(auto)]
 
 mod input;
+mod print;
 mod state;
 
 ghost use Rattle.rules.specs.Sound.{Sound};
@@ -46,13 +47,6 @@ fn hand_all(rt: &impl Print, input: &mut impl Read, b: &mut Book, inputs: u32) -
     Ok(())
 }
 
-// The line with a case's name. Each part is tried; the error is that of the last, whatever became of those before it.
-fn print_name(rt: &impl Print, name: &[u8]) -> io::Result<()> {
-    let _ = rt.write_all(b"# ");
-    let _ = rt.write_all(name);
-    rt.write_all(b"\n")
-}
-
 // The lines of a case. What can't be written is left out. The error is that its name is, or that not all its inputs are there.
 fn print_case(
     rt: &impl Print,
@@ -61,12 +55,12 @@ fn print_case(
     file: &[u8],
     inputs: u32,
 ) -> io::Result<()> {
-    let named = print_name(rt, name);
     let opened = opening::open(file);
-    let _ = println!(rt; "F {}", opened.refusal);
+    let named = print::print_name(rt, name);
+    print::print_line(rt, b"F", &[u64::from(opened.refusal)]);
     let mut b = opened.book;
     let handed = hand_all(rt, input, &mut b, inputs);
-    let _ = state::print_book(rt, &b);
+    state::print_book(rt, &b);
     handed.and(named)
 }
 
