@@ -1,5 +1,5 @@
-// Cases of day files. `way_of` looks at each row, and at no more than 64, for which a roster has room, so it needs no `requires`. What has room for
-// a file stays a function of its own for the compiler: put into its caller, it would have other cases clear that room.
+// Cases of day files. `way_of` looks at each row, and at no more than 64, for which a roster has room, so it needs no `requires`. What
+// has room for a file stays a function of its own for the compiler: put into its caller, it would have other cases clear that room.
 ghost use Rattle.std.specs.Prelude.{◌≡◌, position};
 ghost use Rattle.fields.specs.Text.{same};
 ghost use Rattle.dayfile.specs.DayFile.{day_file};

@@ -2,8 +2,8 @@
 use super::{bytes, print, words};
 use book::{handing, opening};
 
-// The book is that of an empty file, without participants. The report buffer has at most 8,192 bytes. It stays a function of its own for the
-// compiler: put into its caller, it would have other cases clear the place of the book, and its own room cleared twice.
+// The book is that of an empty file, without participants. The report buffer has at most 8,192 bytes. It stays a function of its own for
+// the compiler: put into its caller, it would have other cases clear the place of the book, and its own room cleared twice.
 #[inline(never)]
 fn print_handed(rt: &impl Print, length: u64, groups: &[u8]) {
     let mut room = [0u8; 4096];
