@@ -72,7 +72,7 @@ uint8_t zolfigar_pacs008(const uint8_t *text, size_t text_length, uint32_t time,
  * 512 tickets has some 15,000.
  *
  * The file and the text may not overlap, and nobody else reads or writes the text before the call returns; either pointer may be
- * null where its length is 0. Nothing is kept or allocated; some 220,000 bytes of stack are used. Calls from several threads
+ * null where its length is 0. Nothing is kept or allocated; some 250,000 bytes of stack are used. Calls from several threads
  * don't disturb each other. */
 size_t zolfigar_day(const uint8_t *file, size_t file_length, uint8_t *text, size_t text_length);
 
@@ -98,7 +98,7 @@ size_t zolfigar_day(const uint8_t *file, size_t file_length, uint8_t *text, size
  *     else ..                                          told tickets were taken
  *
  * Bytes behind the last answer and the last report stay as they are. For a day's 512 tickets 2,048 bytes of answers are enough.
- * The rest is as for a whole day. */
+ * Some 70,000 bytes of stack are used; the rest is as for a whole day. */
 size_t zolfigar_steps(const uint8_t *file, size_t file_length, uint8_t *answers, size_t answers_length, uint8_t *reports,
                       size_t reports_length);
 

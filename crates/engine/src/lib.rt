@@ -28,20 +28,31 @@ pub fn run(b: Book, tickets: &[u8], answers: &mut [u8], reports: &mut [u8]) -> B
     ensures { Ran b tickets.now answers.old reports.old result.book result.taken answers.new
         reports.new }
 {
+    // What is lent has a place of its own, cleared first: so parts of b are lent, not all of it, and keys get their rows where they stay,
+    // in the book kept without orders so far.
+    let roster = b.roster;
     let mut directory = Directory {
         bics: Index::new(),
         routes: Index::new(),
     };
-    directory::put_directory(&b.roster, &mut directory);
-    let mut keys = Index::new();
-    index::put_keys(&b.roster.participants, &b.orders, b.count, &mut keys);
-    let total = sums::total_of(&b.covers[..b.roster.size]);
+    directory::put_directory(&roster, &mut directory);
+    let covers = b.covers;
+    let total = sums::total_of(&covers[..roster.size]);
+    let count = b.count;
     let mut kept = KeptBook {
-        book: b,
-        keys,
+        book: Book { count: 0, ..b },
+        keys: Index::new(),
         total,
         next: 0,
     };
+    let opened = &mut kept;
+    index::put_keys(
+        &roster.participants,
+        &opened.book.orders,
+        count,
+        &mut opened.keys,
+    );
+    opened.book.count = count;
     let taken = kept.take(&directory, tickets, answers, reports);
     Batch {
         book: kept.book,

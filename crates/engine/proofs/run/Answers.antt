@@ -29,7 +29,7 @@ pub invariant_of-kept : goal.invariant_of-kept
 invariant_of-kept c =
     record {
       kept = record {
-        index = record { keys = c.put_keys.ensures };
+        index = record { keys = c.new-3.ensures };
         sum =
             c.total_of-total.ensures
             ∙ total-front c.args.b.covers c.args.b.roster.size
