@@ -245,7 +245,7 @@ impl KeptBook {
         let new = cover::gained(second.how, v.amount, self.book.covers[second.who]);
         self.put_cover(second, v.amount, new);
         let n = told::put_notices(reports, n, v.told, v.also, v.number, v.amount);
-        // a copy, so that it is read as it was written; out of the verdict it is read in other parts, which wait for the writes
+        // a copy: out of the verdict it would be read in other parts than it was written, and wait for these writes
         let does = v.does;
         match does {
             Does::Nothing => Carried {

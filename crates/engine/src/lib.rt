@@ -28,8 +28,8 @@ pub fn run(b: Book, tickets: &[u8], answers: &mut [u8], reports: &mut [u8]) -> B
     ensures { Ran b tickets.now answers.old reports.old result.book result.taken answers.new
         reports.new }
 {
-    // What is lent has a place of its own, cleared first: so parts of b are lent, not all of it, and keys get their rows where they stay,
-    // in the book kept without orders so far.
+    // A local that is lent is cleared first: so of b only parts are lent, and the keys are filled inside `kept`, whose book has no orders
+    // in use till then.
     let roster = b.roster;
     let mut directory = Directory {
         bics: Index::new(),

@@ -16,7 +16,8 @@ pub struct Amounts {
     pub most: u64,
 }
 
-// A call of its own becomes two words that are looked up; put into its callers, it becomes a jump for each class of kinds.
+// It stays a function of its own for the compiler: so its two words are looked up, where in its callers it would be a jump for each class
+// of kinds.
 #[inline(never)]
 #[tactic(auto, unfolding(crate::specs::Amounts::amounts_of))]
 pub fn amounts_of(kind: Kind) -> Amounts

@@ -1,5 +1,5 @@
 // Codes of a ticket that a search may have found. One that was found is well formed: only what was not found is tested. Sender and payee
-// each have a function: the compiler puts payee's into its one caller, and leaves sender's, grown by the test, a call.
+// each have a function: so payee's, called at one place, is put there; sender's, called at three, stays a call.
 ghost use Rattle.std.specs.Prelude.{◌≡◌, ◌&&◌, length};
 ghost use Rattle.codes.specs.Bic.{is_bic};
 ghost use Rattle.codes.specs.Txid.{is_txid};
