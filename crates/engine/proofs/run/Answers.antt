@@ -1,4 +1,4 @@
--- A book is kept from its index, all cover and no order looked at on. Assumes nothing.
+-- What is kept to begin with: a book without orders in use, no keys, all cover, and no order passed over. Assumes nothing.
 use mathlib.Core.Path.{sym, ◌∙◌}
 use native.Mathlib.Nat.{not-suc-le-zero}
 use native.Mathlib.Omega.{arith}
