@@ -1,5 +1,5 @@
 -- One turn of the reader: from where it stands, by the bytes that stand there.
---     none-placed                            where nothing is met, no text is kept
+--     none-placed, going-placed              the places of the texts that are kept: where nothing is met none is kept; and after a turn
 --     turned                                 the innermost open element, and the others
 --     TagOf, opens_of, closes-of             a tag that was read has the name and the attributes that were read
 --     no-tag, no_end, no_name                the walk goes astray
@@ -8,7 +8,7 @@
 --     root-no-tag, root-no-name              no root
 --     root-not-tag                           nor here
 --     root-closes, root-opens                a root without content, and one with it
---     going-arrives                          the root's end
+--     going-arrives, placed-arrives          the root's end
 -- Assumes nothing.
 use Prim.Native.Nat.{ℕ, zero, suc, ◌+◌, ◌-◌, ◌≤◌, ◌<◌}
 use mathlib.Core.Path.{◌≡◌, refl, ap, ap₂, sym, subst, ◌∙◌}
@@ -62,13 +62,20 @@ use Rattle.pacs.specs.Walk.{
   walk,
   root_walked,
 }
-use Rattle.pacs.specs.Going.{StackedAt, Stacked, Walking, Going}
+use Rattle.pacs.specs.Going.{StackedAt, Stacked, Walking, Going, GoingPlaced}
 
 pub none-placed : (t : List ℕ) (kept : Notes) → Kept [] kept → KeptPlaced t kept
 none-placed t kept (inl right) e =
     record { rows = right.rows; stand = λ r h x blank. let d = right.due in absurd (omega arith) }
 none-placed t kept (inr wrong) e =
     let z : ◌≡◌ {A = Option Refused} None (Some wrong.refused) = sym e ∙ wrong.fault in cc
+
+pub going-placed : {t : List ℕ} {start at depth at' depth' : ℕ} {stack stack' : List Open} {kept kept' : Notes}
+    → GoingPlaced t start at depth stack kept
+    → Going t start at' depth' stack' kept'
+    → (KeptPlaced t kept → KeptPlaced t kept')
+    → GoingPlaced t start at' depth' stack' kept'
+going-placed before going stays = record { going = going; placed = stays before.placed }
 
 -- a name between its places
 name-placed : (t : List ℕ) (q : ℕ) {behind : ℕ} → behind ≡ q + run_length is_name (drop q t)
@@ -276,7 +283,6 @@ module _
             walking = after-walking t start n fs f.before element g.seen q here;
             stacked = after-stacked fs f.before element stack rest;
             keeps = g.keeps;
-            placed = g.placed;
           }
 
     module _ (no_slash : get_or t (p + 1) 0 ≡ 0x2f → ⊥) where
@@ -333,9 +339,8 @@ module _
         pub going-closes : (r : ℕ) (u : Tag) (kept' : Notes) (none : Open) {row : ℕ} → row ≡ row_in none → read ≡ closes u (drop r t)
             → depth < deepest → p < r
             → ((seen : List Named) → Kept seen kept → Kept (seen ++ named row u [] true) kept')
-            → (KeptPlaced t kept → KeptPlaced t kept')
             → Going t start r depth stack kept'
-        going-closes r u kept' none {row} is_row h few later keeps placed =
+        going-closes r u kept' none {row} is_row h few later keeps =
             turned g pos λ f fs n d e w s rest.
             let of = closes-of (run is_name (drop q t)) (attributes_of (drop behind t)) u (drop r t) h in
             let its-row : row_of f.row u.name ≡ row = row_at none f fs u d s of.named ∙ sym is_row in
@@ -362,16 +367,14 @@ module _
               walking = here;
               stacked = after-stacked (f ∷ fs) before (self_closing u) stack (record { top = s; rest = rest });
               keeps = keeps g.seen g.keeps;
-              placed = placed g.placed;
             }
 
         pub going-opens : (r : ℕ) (u : Tag) (kept' : Notes) (none o : Open) {row : ℕ} → row ≡ row_in none → row ≡ role_number o.role
             → placed_text t q behind ≡ o.name.now → read ≡ opens u (drop r t) → depth < deepest → p < r → depth < length stack
             → ((seen : List Named) → Kept seen kept
             → Kept (seen ++ named row u (run is_text (drop r t)) (end_follows (drop r t))) kept')
-            → (KeptPlaced t kept → KeptPlaced t kept')
             → Going t start r (depth + 1) (set stack depth o) kept'
-        going-opens r u kept' none o {row} is_row its-role its_name h few later room keeps placed =
+        going-opens r u kept' none o {row} is_row its-role its_name h few later room keeps =
             turned g pos λ f fs n d e w s rest.
             let of = opens_of (run is_name (drop q t)) (attributes_of (drop behind t)) u (drop r t) h in
             let its-row : row_of f.row u.name ≡ row = row_at none f fs u d s of.named ∙ sym is_row in
@@ -410,7 +413,6 @@ module _
                     rest = set-stacked (f ∷ fs) stack depth o (omega arith) (record { top = s; rest = rest });
                   };
               keeps = keeps g.seen g.keeps;
-              placed = placed g.placed;
             }
 
 -- the root's tag
@@ -458,9 +460,8 @@ module _ (t : List ℕ) (start : ℕ) where
       pub root-opens : (r : ℕ) (u : Tag) (kept : Notes) (o : Open) (os : List Open) {row : ℕ} → row ≡ root_row → row ≡ role_number o.role
           → placed_text t root_name root_behind ≡ o.name.now → root_read ≡ opens u (drop r t) → start < r
           → Kept ([] ++ named row u (run is_text (drop r t)) (end_follows (drop r t))) kept
-          → KeptPlaced t kept
           → Going t start r 1 (o ∷ os) kept
-      root-opens r u kept o os {row} is_row its-role its_name h later keeps placed =
+      root-opens r u kept o os {row} is_row its-role its_name h later keeps =
           let of = opens_of (run is_name (drop root_name t)) (attributes_of (drop root_behind t)) u (drop r t) h in
           let within = byte-within t start 0x3c less (omega arith) in
           let frame : Frame = record { before = []; tag = u; row = row; pieces = [] } in
@@ -489,7 +490,6 @@ module _ (t : List ℕ) (start : ℕ) where
                   rest = tt;
                 };
             keeps = keeps;
-            placed = placed;
           }
 
 -- the root's end
@@ -498,12 +498,19 @@ pub record Arriving (t : List ℕ) (start at : ℕ) (kept : Notes) : Type 0 wher
   pub seen : List Named
   pub arrives : root_walked (drop start t) ≡ arrived root seen (drop at t)
   pub keeps : Kept seen kept
-  pub placed : KeptPlaced t kept
 
 pub going-arrives : {t : List ℕ} {start at depth : ℕ} {stack : List Open} {kept : Notes} → Going t start at depth stack kept
     → depth ≡ 0 → Arriving t start at kept
 going-arrives {t} {start} {at} {depth} {kept = kept} g h = go g.frames g.deep g.walking
   where
     go : (fs : List Frame) → depth ≡ length fs → Walking t start g.fuel fs g.seen at → Arriving t start at kept
-    go [] d w = record { root = w.0; seen = g.seen; arrives = w.1; keeps = g.keeps; placed = g.placed }
+    go [] d w = record { root = w.0; seen = g.seen; arrives = w.1; keeps = g.keeps }
     go (f ∷ fs) d w = absurd (omega arith)
+
+pub record ArrivingPlaced (t : List ℕ) (start at : ℕ) (kept : Notes) : Type 0 where
+  pub arriving : Arriving t start at kept
+  pub placed : KeptPlaced t kept
+
+pub placed-arrives : {t : List ℕ} {start at depth : ℕ} {stack : List Open} {kept : Notes} → GoingPlaced t start at depth stack kept
+    → depth ≡ 0 → ArrivingPlaced t start at kept
+placed-arrives g h = record { arriving = going-arrives g.going h; placed = g.placed }

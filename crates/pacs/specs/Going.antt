@@ -1,7 +1,7 @@
 -- Where the reader stands in a text: the elements that are open, as it keeps them, and the walk from there.
 --     Stacked    names and rows of the open elements are those in an array, the outermost first; StackedAt, of one
 --     Walking    the walk through the text goes on from here, or has come to the root's end
---     Going      all of it, with what is kept of the named elements
+--     Going      all of it, with what is kept of the named elements; GoingPlaced, and the texts that are kept stand at their places
 -- Assumes nothing.
 use Rattle.std.specs.Prelude.{ℕ, ◌≤◌, ◌<◌, ◌≡◌, List, [], ◌∷◌, length, get_or, drop}
 use Rattle.xml.specs.Tree.{Element}
@@ -36,4 +36,7 @@ pub record Going (t : List ℕ) (start at depth : ℕ) (stack : List Open) (kept
   pub walking : Walking t start fuel frames seen at
   pub stacked : Stacked frames stack
   pub keeps : Kept seen kept
+
+pub record GoingPlaced (t : List ℕ) (start at depth : ℕ) (stack : List Open) (kept : Notes) : Type 0 where
+  pub going : Going t start at depth stack kept
   pub placed : KeptPlaced t kept

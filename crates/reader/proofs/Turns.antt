@@ -17,7 +17,7 @@ use Rattle.xml.specs.Tree.{Tag, self_closing}
 use Rattle.xml.specs.Scanning.{attributes_of, tag_behind, closes}
 use Rattle.pacs.specs.declared.notes.Notes.{Notes}
 use Rattle.pacs.specs.Named.{named, row_of, outside}
-use Rattle.pacs.specs.Kept.{placed_text, Kept, KeptPlaced}
+use Rattle.pacs.specs.Kept.{placed_text, Kept}
 use Rattle.pacs.specs.Walk.{is_end, from_space, arrived}
 use Rattle.pacs.proofs.Going.{root-closes}
 use Rattle.reader.specs.Walks.{EndRead, WalkedOn}
@@ -43,8 +43,8 @@ pub closed-root : (t : List ℕ) (start : ℕ) → get_or t start 0 ≡ 0x3c →
     → behind ≡ start + 1 + run_length is_name (drop (start + 1) t) → (u : Tag) {p row : ℕ}
     → tag_behind (run is_name (drop (start + 1) t)) (attributes_of (drop behind t)) ≡ closes u (drop p t) → p ≤ length t
     → row ≡ row_of outside (placed_text t (start + 1) behind) → {kept : Notes} → Kept ([] ++ named row u [] true) kept
-    → KeptPlaced t kept → WalkedOn t start p kept
-closed-root t start less head {behind} name u {p} {row} read within is {kept} keeps placed =
+    → WalkedOn t start p kept
+closed-root t start less head {behind} name u {p} {row} read within is {kept} keeps =
     record {
       root = self_closing u;
       seen = [] ++ named row u [] true;
@@ -53,5 +53,4 @@ closed-root t start less head {behind} name u {p} {row} read within is {kept} ke
           ∙ ap (λ (k : ℕ). arrived (self_closing u) ([] ++ named k u [] true) (drop p t)) (sym is);
       within = within;
       keeps = keeps;
-      placed = placed;
     }

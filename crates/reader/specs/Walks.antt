@@ -1,8 +1,9 @@
 -- What the functions of the reader promise of a text.
 --     EndRead      where an end tag of a name that stands at a place ends
---     Met          the row of an element, and what is kept once it is met
+--     Met          the row of an element, and what is kept once it is met; MetPlaced, and the texts that are kept stay at their places
 --     RootOpened   the root's start tag stands at a place, and ends before another
---     WalkedTo     where the walk through the root ends, or that the text isn't read
+--     WalkedOn     the walk through the root ends at a place; WalkedPlaced, and the texts that are kept stand at theirs
+--     WalkedTo     so, or the text isn't read
 -- Assumes nothing.
 use Rattle.std.specs.Prelude.{ℕ, ◌+◌, ◌≤◌, ◌<◌, ◌≡◌, Bool, true, false, cond, List, [], ◌++◌, length, get_or, drop, Option, Some, None, Result, Ok, Err}
 use Rattle.xml.specs.Bytes.{is_space, is_first, is_name, is_text, run, past, run_length}
@@ -26,6 +27,9 @@ pub record Met (t : List ℕ) (parent from to at : ℕ) (nests : Bool) (before a
   pub keeps : (seen : List Named) (u : Tag) (space z : List ℕ) → attributes_of (drop to t) ≡ attributed u.attributes space z
       → Kept seen before
       → Kept (seen ++ named row u (cond nests (run is_text (drop at t)) []) (cond nests (end_follows (drop at t)) true)) after
+
+pub record MetPlaced (t : List ℕ) (parent from to at : ℕ) (nests : Bool) (before after : Notes) (row : ℕ) : Type 0 where
+  pub met : Met t parent from to at nests before after row
   pub placed : KeptPlaced t before → KeptPlaced t after
 
 pub record RootOpened (t : List ℕ) (start behind next : ℕ) : Type 0 where
@@ -43,8 +47,11 @@ pub record WalkedOn (t : List ℕ) (start at : ℕ) (kept : Notes) : Type 0 wher
   pub arrives : root_walked (drop start t) ≡ arrived root seen (drop at t)
   pub within : at ≤ length t
   pub keeps : Kept seen kept
+
+pub record WalkedPlaced (t : List ℕ) (start at : ℕ) (kept : Notes) : Type 0 where
+  pub walked : WalkedOn t start at kept
   pub placed : KeptPlaced t kept
 
 abbrev pub WalkedTo : List ℕ → ℕ → Notes → Result ℕ Refused → Type 0
-WalkedTo t start kept (Ok p) = WalkedOn t start p kept
+WalkedTo t start kept (Ok p) = WalkedPlaced t start p kept
 WalkedTo t start kept (Err why) = (root_walked (drop start t) ≡ astray) × (wrong_refusal why.wrong ≡ form_refusal)

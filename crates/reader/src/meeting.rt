@@ -1,7 +1,7 @@
 // An element that is met: its role, and what is kept of it where it is one of the named.
 ghost use Rattle.std.specs.Prelude.{◌≤◌, length};
 ghost use Rattle.pacs.specs.Wrongs.{role_number};
-ghost use Rattle.reader.specs.Walks.{Met};
+ghost use Rattle.reader.specs.Walks.{MetPlaced};
 
 use elements::Tag;
 use pacs::notes::Notes;
@@ -11,7 +11,8 @@ use pacs::rows::Role;
 #[inline]
 pub fn meet<'a>(text: &'a [u8], parent: Role, tag: Tag, notes: &mut Notes<'a>) -> Role
     requires { (tag.name ≤ tag.name_end) × (tag.name_end ≤ length text.now) × (tag.end ≤ length text.now) }
-    ensures { Met text.now (role_number parent) tag.name tag.name_end tag.end tag.nests notes.old notes.new (role_number result) }
+    ensures { MetPlaced text.now (role_number parent) tag.name tag.name_end tag.end tag.nests notes.old notes.new
+        (role_number result) }
 {
     let role = elements::row_of(parent, &text[tag.name..tag.name_end]);
     if let Role::Named(row) = role {

@@ -44,7 +44,7 @@ returns-then-behind-text c =
     let prolog = prolog-at t c.in-Ok.is c.prolog_end.ensures in
     let place = c.in-Ok.end in
     let spaced = c.run_end-start.ensures in
-    let w = c.in_ok-end.ensures in
+    let w = c.in_ok-end.ensures.walked in
     refused-so
     t
     _
@@ -72,7 +72,7 @@ returns c =
     let prolog = prolog-at t c.in-Ok.is c.prolog_end.ensures in
     let place = c.in-Ok.end in
     let spaced = c.run_end-start.ensures in
-    let w = c.in_ok-end.ensures in
+    let w = c.in_ok-end.ensures.walked in
     judged-so
     t
     _

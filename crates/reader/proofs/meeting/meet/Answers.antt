@@ -17,8 +17,15 @@ skipped-else (Other n) h l o = absurd (omega arith)
 pub returns-in-Named : goal.returns-in-Named
 returns-in-Named c =
     let is = sym (ap role_number c.in-Named.is) ∙ c.row_of-role.ensures.0 in
-    met-named _ _ _ _ _ _ _ _ is _ (let low = c.in-Named.row.in_range in λ e. omega arith) c.note.ensures
+    record {
+      met = met-named _ _ _ _ _ _ _ _ is _ (let low = c.in-Named.row.in_range in λ e. omega arith) c.note.ensures.0;
+      placed = c.note.ensures.1;
+    }
 
 pub returns-in_default : goal.returns-in_default
 returns-in_default c =
-    met-skipped _ _ _ _ _ _ _ _ c.row_of-role.ensures.0 (skipped-else _ c.in_default.not-Named c.row_of-role.ensures.1 c.row_of-role.ensures.2)
+    let role = c.row_of-role.ensures in
+    record {
+      met = met-skipped _ _ _ _ _ _ _ _ role.0 (skipped-else _ c.in_default.not-Named role.1 role.2);
+      placed = λ before. before;
+    }

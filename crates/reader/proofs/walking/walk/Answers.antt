@@ -67,18 +67,22 @@ returns-in-Ok-Closes c =
     let ended : c.long_tag_end.result ≡ Ok (Closes c.in-Ok-Closes.end) = search rules in
     let read = closed t behind (read_at t c.args.start behind) ended (c.long_tag_end.ensures (word_at t c.args.start)) in
     let of = closes-of (word_at t c.args.start) (attributes_of (drop behind t)) read.tag _ read.read in
-    closed-root
-    t
-    c.args.start
-    (sym c.byte.ensures ∙ c.if-byte-ne60.false)
-    (first t _ c.is_first.ensures c.byte-2.ensures (ap not c.if-not-is_first.false))
-    c.run_end-name_end.ensures
-    read.tag
-    read.read
-    read.within
-    c.meet.ensures.is
-    (c.meet.ensures.keeps [] read.tag of.space of.rest of.attributes c.requires)
-    (c.meet.ensures.placed (none-placed t _ c.requires))
+    let met = c.meet.ensures.met in
+    record {
+      walked =
+          closed-root
+          t
+          c.args.start
+          (sym c.byte.ensures ∙ c.if-byte-ne60.false)
+          (first t _ c.is_first.ensures c.byte-2.ensures (ap not c.if-not-is_first.false))
+          c.run_end-name_end.ensures
+          read.tag
+          read.read
+          read.within
+          met.is
+          (met.keeps [] read.tag of.space of.rest of.attributes c.requires);
+      placed = c.meet.ensures.placed (none-placed t _ c.requires);
+    }
 
 pub returns-in-Err : goal.returns-in-Err
 returns-in-Err c =

@@ -11,7 +11,7 @@ use Rattle.pacs.specs.declared.refusals.Refused.{Refused}
 use Rattle.pacs.specs.Named.{row_of, outside}
 use Rattle.pacs.specs.Kept.{placed_text}
 use Rattle.pacs.specs.Wrongs.{wrong_refusal}
-use Rattle.pacs.proofs.Going.{none-placed, no-tag, no_end, going-ends, no_name, too-deep, not-tag, going-opens, going-closes, root-opens, opens_of, closes-of}
+use Rattle.pacs.proofs.Going.{none-placed, going-placed, no-tag, no_end, going-ends, no_name, too-deep, not-tag, going-opens, going-closes, root-opens, opens_of, closes-of}
 use Rattle.reader.proofs.Turns.{other-end, behind-end, first, no-first, no_slash}
 use Rattle.reader.proofs.TagsRead.{opened, closed, no-tag-there}
 use Rattle.reader.proofs.walking.within.Goals as goal
@@ -40,17 +40,19 @@ loop-depth-init c =
     let t = c.args.text.now in
     let r = c.requires.0 in
     let of = opens_of _ _ r.tag _ r.opens in
-    let met = c.meet-role.ensures in
+    let met = c.meet-role.ensures.met in
     let later = r.later in
     let name = r.name in
     let from = ap (λ (n : ℕ). placed_text t n c.args.root.name_end) c.requires.2 in
     record {
-      going =
-          root-opens t c.args.root.start r.less r.first r.name c.args.root.end r.tag _ _ _ (met.is ∙ ap (row_of outside) from) refl (sym from)
-          r.opens
-          (omega arith)
-          (rw c.requires.1 at (met.keeps [] r.tag of.space of.rest of.attributes c.requires.3))
-          (met.placed (none-placed t _ c.requires.3));
+      going = record {
+        going =
+            root-opens t c.args.root.start r.less r.first r.name c.args.root.end r.tag _ _ _ (met.is ∙ ap (row_of outside) from) refl (sym from)
+            r.opens
+            (omega arith)
+            (rw c.requires.1 at (met.keeps [] r.tag of.space of.rest of.attributes c.requires.3));
+        placed = c.meet-role.ensures.placed (none-placed t _ c.requires.3);
+      };
       within = r.within;
       rows = omega arith;
     }
@@ -58,7 +60,7 @@ loop-depth-init c =
 pub returns-then-byte-ne60 : goal.returns-then-byte-ne60
 returns-then-byte-ne60 c = (
   no-tag
-      c.loop-depth.invariant.going
+      c.loop-depth.invariant.going.going
       c.loop-depth-test.true
       c.run_end-start.ensures
       (λ e. c.if-byte-ne60.true (c.byte.ensures ∙ e)),
@@ -73,7 +75,7 @@ end_tag-requires c =
 pub returns-in_default : goal.returns-in_default
 returns-in_default c = (
   no_end
-      c.loop-depth.invariant.going
+      c.loop-depth.invariant.going.going
       c.loop-depth-test.true
       c.run_end-start.ensures
       (sym c.byte.ensures ∙ c.if-byte-ne60.false)
@@ -98,8 +100,12 @@ loop-depth-preserved-then-first-eq47 c =
     let later = read.2 in
     record {
       going =
-          going-ends c.loop-depth.invariant.going c.loop-depth-test.true c.run_end-start.ensures less slash _ refl none _ read.0 read.1
-          (omega arith);
+          going-placed c.loop-depth.invariant.going
+          (going-ends c.loop-depth.invariant.going.going c.loop-depth-test.true c.run_end-start.ensures less slash _ refl none _
+          read.0
+          read.1
+          (omega arith))
+          (λ placed. placed);
       within = read.3;
       rows = c.loop-depth.invariant.rows;
     }
@@ -108,7 +114,7 @@ pub returns-then-not-is_first : goal.returns-then-not-is_first
 returns-then-not-is_first c =
     let t = c.args.text.now in (
       no_name
-          c.loop-depth.invariant.going
+          c.loop-depth.invariant.going.going
           c.loop-depth-test.true
           c.run_end-start.ensures
           (sym c.byte.ensures ∙ c.if-byte-ne60.false)
@@ -121,7 +127,7 @@ pub returns-then-depth-eq-DEEPEST : goal.returns-then-depth-eq-DEEPEST
 returns-then-depth-eq-DEEPEST c =
     let t = c.args.text.now in (
       too-deep
-          c.loop-depth.invariant.going
+          c.loop-depth.invariant.going.going
           c.loop-depth-test.true
           c.run_end-start.ensures
           (sym c.byte.ensures ∙ c.if-byte-ne60.false)
@@ -182,13 +188,15 @@ loop-depth-preserved-in-Opens c =
     let read = opened t behind (read_at t place behind) ended (c.tag_end.ensures (word_at t place)) in
     let later = read.later in
     let within = read.within in
-    let g = c.loop-depth.invariant.going in
+    let g = c.loop-depth.invariant.going.going in
     let few : c.loop-depth.depth < 16 = let most = g.few in let other = c.if-depth-eq-DEEPEST.false in omega arith in
     let of = opens_of (word_at t place) (attributes_of (drop behind t)) read.tag _ read.read in
-    let met = c.meet-role-in-Opens.ensures in
+    let met = c.meet-role-in-Opens.ensures.met in
     record {
       going =
-          going-opens
+          going-placed
+          c.loop-depth.invariant.going
+          (going-opens
           g
           c.loop-depth-test.true
           tag
@@ -208,8 +216,8 @@ loop-depth-preserved-in-Opens c =
           few
           (omega arith)
           (omega (arith, c.loop-depth.invariant.rows))
-          (λ seen k. met.keeps seen read.tag of.space of.rest of.attributes k)
-          met.placed;
+          (λ seen k. met.keeps seen read.tag of.space of.rest of.attributes k))
+          c.meet-role-in-Opens.ensures.placed;
       within = within;
       rows = rw length-set c.loop-depth.invariant.rows;
     }
@@ -251,13 +259,15 @@ loop-depth-preserved c =
     let read = closed t behind (read_at t place behind) ended (c.tag_end.ensures (word_at t place)) in
     let later = read.later in
     let within = read.within in
-    let g = c.loop-depth.invariant.going in
+    let g = c.loop-depth.invariant.going.going in
     let few : c.loop-depth.depth < 16 = let most = g.few in let other = c.if-depth-eq-DEEPEST.false in omega arith in
     let of = closes-of (word_at t place) (attributes_of (drop behind t)) read.tag _ read.read in
-    let met = c.meet.ensures in
+    let met = c.meet.ensures.met in
     record {
       going =
-          going-closes
+          going-placed
+          c.loop-depth.invariant.going
+          (going-closes
           g
           c.loop-depth-test.true
           tag
@@ -273,8 +283,8 @@ loop-depth-preserved c =
           read.read
           few
           (omega arith)
-          (λ seen k. met.keeps seen read.tag of.space of.rest of.attributes k)
-          met.placed;
+          (λ seen k. met.keeps seen read.tag of.space of.rest of.attributes k))
+          c.meet.ensures.placed;
       within = within;
       rows = c.loop-depth.invariant.rows;
     }
@@ -285,7 +295,7 @@ returns-in-Err c =
     let place = c.run_end-start.result in
     let behind = c.run_end-name_end.result in (
       not-tag
-          c.loop-depth.invariant.going
+          c.loop-depth.invariant.going.going
           c.loop-depth-test.true
           c.run_end-start.ensures
           (sym c.byte.ensures ∙ c.if-byte-ne60.false)

@@ -2,12 +2,12 @@
 use Prim.Native.Nat.{◌≤◌, ◌-◌}
 use lib.ListN.{length}
 use Rattle.xml.specs.WellFormed.{deepest}
-use Rattle.pacs.specs.Going.{Going}
+use Rattle.pacs.specs.Going.{GoingPlaced}
 use Rattle.reader.proofs.walking.within.Given as goal
 
 abbrev pub invariant-loop-depth : goal.invariant-loop-depth
 invariant-loop-depth l = record {
-  going : Going l.text l.fn.root.start l.at l.depth l.open l.notes;
+  going : GoingPlaced l.text l.fn.root.start l.at l.depth l.open l.notes;
   within : l.at ≤ length l.text;
   rows : deepest ≤ length l.open;
 }
