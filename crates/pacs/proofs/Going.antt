@@ -1,5 +1,5 @@
 -- One turn of the reader: from where it stands, by the bytes that stand there.
---     none-placed, going-placed              the places of the texts that are kept: where nothing is met none is kept; and after a turn
+--     none-placed, going-placed              the texts that are kept stand at their places: before any is met, and after a turn
 --     turned                                 the innermost open element, and the others
 --     TagOf, opens_of, closes-of             a tag that was read has the name and the attributes that were read
 --     no-tag, no_end, no_name                the walk goes astray
@@ -8,7 +8,7 @@
 --     root-no-tag, root-no-name              no root
 --     root-not-tag                           nor here
 --     root-closes, root-opens                a root without content, and one with it
---     going-arrives, placed-arrives          the root's end
+--     going-arrives, placed-arrives          the root's end, and the texts that are kept stand at their places there
 -- Assumes nothing.
 use Prim.Native.Nat.{ℕ, zero, suc, ◌+◌, ◌-◌, ◌≤◌, ◌<◌}
 use mathlib.Core.Path.{◌≡◌, refl, ap, ap₂, sym, subst, ◌∙◌}
